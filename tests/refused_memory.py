@@ -1,16 +1,15 @@
 #!/usr/bin/env python3
 """Refuses the built program each piece of memory in turn, and looks at what it does:
 
-    tests/refused_memory.py PROGRAM [CUTS]
+    tests/refused_memory.py PROGRAM
 
-PROGRAM is what `tools/program` prints, and CUTS what `tools/program benchmarks` prints. Each of its words is run over and
-over: the first request for memory is refused, then the second, and so on, until a run has none left to refuse. Each time
+PROGRAM is what `tools/program` prints. Each of its words is run over and over: the first request for memory is refused, then the
+second, and so on, until a run has none left to refuse. Each time
 - it ends with status 3 and `NO MEMORY`, with nothing printed and no image changed; `serve` and `play --sync` may have printed all
   replies, if they were refused the memory to land the log, which stays;
 - or, where it can do without, it does and prints what it does with all its memory.
-`CUTS cuts` plays a short day: it says so where memory is wanted, with status 1, and never that something differs. A small library
-that is loaded before the program refuses the memory; it is made with `cc`. It prints how much was tried. The status is 1 at
-the first difference."""
+A small library that is loaded before the program refuses the memory; it is made with `cc`. It prints how much was tried. The
+status is 1 at the first difference."""
 
 import os
 import shutil
@@ -123,10 +122,6 @@ def no_memory_or_unlanded(replies):
     return lambda said, same: no_memory((said[0], b"" if said[1] == replies else said[1], said[2]), same)
 
 
-def no_memory_for_a_day(said, same):
-    return said[0] == 1 and b"memory" in said[1].splitlines()[-1] and same
-
-
 class Disks:
     """The files on which the commands are run; each image is made once."""
 
@@ -205,9 +200,6 @@ def main():
                 wanted = no_memory_or_unlanded(trial.run(words, given=given)[0][1])
             count = trial.each(words, anew, wanted, status, given)
             print(f"{command.name}: {count} requests for memory refused in turn", flush=True)
-        if len(sys.argv) > 2:
-            count = trial.each([Path(sys.argv[2]).resolve(), "cuts", "6", "1", "20"], lambda: None, no_memory_for_a_day)
-            print(f"cuts: {count} requests for memory refused in turn")
         print(f"{trial.tried} refusals, no difference")
 
 

@@ -14,6 +14,7 @@ import shutil
 import subprocess
 import sys
 import tempfile
+import zlib
 from concurrent.futures import ThreadPoolExecutor
 from pathlib import Path
 
@@ -24,13 +25,14 @@ TABLES = Path(__file__).resolve().parent / "rows"
 # Whether the output and standard error are terminals.
 RUNS = {b"$": (False, False), b"full": (False, False), b"person": (True, True), b"waiting": (False, True)}
 NOTHING = {b"prints": b"", b"tells": b"", b"ends": b"0", b"makes": b"0", b"logged": b"no log", b"written": b"as it was", b"others": b""}
-LEFT = {*NOTHING, b"size", b"leaves"} - {b"others"}
+LEFT = {*NOTHING, b"size", b"leaves", b"has", b"sums"} - {b"others"}
 PATHS = {b"image": "a.d64", b"script": "s.txt", b"log": "a.d64-log", b"input": "../input"}
 SHOWN = 300  # bytes of an output that differs
 DROP_OF_BOUNDS, RIGHT_TO_ANY_FILE = 24, 1  # prctl(2), capabilities(7)
 
 
 def text_of(line):
+    line = re.sub(rb"\((\d+)\*([^()]*)\)", lambda it: int(it[1]) * it[2], line)
     times, part = re.fullmatch(rb"(?:(\d+)\*)?(.*)", line, re.DOTALL).groups()
     part = re.sub(rb"\\x([0-9a-f]{2})", lambda it: bytes([int(it[1], 16)]), part.replace(b"|", b"\n"))
     return int(times or 1) * part
@@ -44,6 +46,14 @@ def fits(came, wanted):
     if not wanted.endswith(b".."):
         return came == wanted
     return wanted[2:-2] in came if wanted.startswith(b"..") else came.startswith(wanted[:-2])
+
+
+def place_of(word):
+    """Where a byte stands in an image: a number, or TRACK/SECTOR+BYTE."""
+    if word.isdigit():
+        return int(word)
+    track, sector, at = map(int, re.fullmatch(rb"(\d+)/(\d+)\+(\d+)", word).groups())
+    return 256 * (sum(21 if it <= 17 else 19 if it <= 24 else 18 if it <= 30 else 17 for it in range(1, track)) + sector) + at
 
 
 class Part:
@@ -85,6 +95,8 @@ class Part:
             self.put(b"", word, text_of(rest))
         elif word in (b"no", b"folder", b"read-only", b"pipe") and rest in (b"image", b"script"):
             self.put(word, rest, held)
+        elif word == b"beside":
+            (self.folder / "b.d64").write_bytes(held)
         elif word == b"feed":
             self.put(b"", b"input", held)
         elif word == b"shop":
@@ -93,8 +105,9 @@ class Part:
             self.shop = held
         elif word == b"aside":
             self.aside = held
-        elif word == b"hurt":
-            at, text = self.hurts[rest]
+        elif word in (b"hurt", b"put"):
+            place, _, text = rest.partition(b" ")
+            at, text = self.hurts[rest] if word == b"hurt" else (place_of(place), text_of(text))
             self.put(b"", b"image", held[:at] + text + held[at + len(text):])
         elif word == b"resize":
             os.truncate(path, int(rest))
@@ -106,7 +119,14 @@ class Part:
 
     def hears(self, word, rest):
         """Takes what a line says of the last run."""
+        if word == b"has":
+            place, _, rest = rest.partition(b" ")
+            word = b"has " + place
+            self.came[word] = (self.folder / PATHS[b"image"]).read_bytes()[place_of(place):][: len(text_of(rest))]
         self.wanted[word] = text_of(rest)
+        if word == b"sums":
+            self.came[word] = b"%d %d" % (len(self.came[b"prints"]), zlib.adler32(self.came[b"prints"]))
+            self.wanted[b"prints"] = self.came[b"prints"]
         if word in (b"size", b"leaves"):
             image = (self.folder / PATHS[b"image"]).read_bytes()
             is_so = (image == (self.aside if rest == b"the one aside" else self.shop)) == (rest != b"another")

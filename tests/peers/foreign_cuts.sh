@@ -1,10 +1,10 @@
 #!/bin/sh
 # Plays a day on disks that other programs made (Debian's packages cc1541 and cbmconvert), opens each image that they held
-# on the way, and each image of those openings, two deep: nothing but `benchmarks cuts` over an image of someone else's. The
-# shop's files stand behind and between others there, in other sectors, in the other order in the directory, with a last
+# on the way, and each image of those openings, two deep: `tests/every_cut.py` over an image of someone else's. The shop's
+# files stand behind and between others there, in other sectors, in the other order in the directory, with a last
 # block that isn't full, and on a disk with little room. Not part of the gate. Run it from anywhere.
 . "$(dirname "$0")/common.sh"
-program="$("$top/tools/program" benchmarks)"
+program="$("$top/tools/program")"
 
 # an empty record of this length, so many times
 empty_records() {
@@ -18,9 +18,9 @@ played() {
     shift
     cp "$image" before.d64
     for seed in 1 2 3; do
-        "$program" cuts 200 "$seed" "$1" "$image" >said || { echo "$image, seed $seed:"; cat said; exit 1; }
+        "$top/tests/every_cut.py" "$program" 200 "$seed" "$1" "$image" >said || { echo "$image, seed $seed:"; cat said; exit 1; }
         cmp "$image" before.d64
-        echo "$image, seed $seed: $(grep -v -e turned -e 'them opened' said | tr '\n' ',' | sed -e 's/,$//' -e 's/,/, /g')"
+        echo "$image, seed $seed: $(tr '\n' ',' <said | sed -e 's/,$//' -e 's/,/, /g')"
     done
 }
 

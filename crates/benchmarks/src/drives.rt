@@ -6,7 +6,7 @@ use d64_image::Sectors;
 use drive_channels::{Dead, Drive};
 
 /// Opens a file, goes to a record of it, writes the record and closes the file.
-pub(crate) fn put_record<D: Sectors>(
+fn put_record<D: Sectors>(
     drive: &mut Drive<D>,
     name: &[u8],
     number: u16,

@@ -1,11 +1,9 @@
 //! Does one work so many times over, so that it can be timed: `benchmarks WORD ROUNDS IMAGE`. Each word prints one
-//! number, from which no round can be left out. Two words time nothing. `benchmarks records IMAGE NAME` prints the
-//! records of a relative file. `benchmarks cuts MESSAGES SEED ITEMS IMAGE` plays a day, and tries each moment of it. If
-//! there is no word, each benchmark is run for a few rounds, and a day is tried.
+//! number, from which no round can be left out. `benchmarks records IMAGE NAME` times nothing: it prints the records of a
+//! relative file. If there is no word, each benchmark is run for a few rounds.
 #![tactic(auto)]
 
 mod checks;
-mod cuts;
 mod disks;
 mod drives;
 mod found;
@@ -15,7 +13,6 @@ mod requests;
 mod sectors;
 
 use checks::count_clean;
-use cuts::try_day;
 use d64_image::MemDisk;
 use disks::{blank, zeroed};
 use drive_channels::Drive;
@@ -266,10 +263,7 @@ fn main(rt: HostRuntime) -> io::Result<ExitCode> {
     words.next();
     let Some(word) = words.next() else {
         run_all(&rt, &WORDS)?;
-        return try_day(&rt, &mut words);
+        return Ok(ExitCode::SUCCESS);
     };
-    if word.as_str() == "cuts" {
-        return try_day(&rt, &mut words);
-    }
     run_word(&rt, word.as_str(), words.next(), words.next())
 }

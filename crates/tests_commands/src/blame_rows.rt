@@ -106,27 +106,3 @@ fn the_shop_of_each_number_of_tills_is_shown(rt: HostRuntime) {
         is_shown(&rt, formatted(&rt, tills).as_slice(), shown.as_slice());
     }
 }
-
-/// A request of each of 64 tills, which sets the item of its number to that many; and what is shown of the shop then.
-fn day_of_64(rt: &impl AllocGlobal) -> (Vec<u8>, Vec<u8>) {
-    let (mut script, mut shown) = (Vec::new(rt.alloc()), Vec::new(rt.alloc()));
-    add(&mut shown, b"TOP 8819\n");
-    for till in 1..65u32 {
-        add_numbered(&mut script, b"#,1,S,#,#\n", till);
-        add_numbered(&mut shown, b"CARD #,#\n", till);
-    }
-    for till in 1..65u32 {
-        add_numbered(&mut shown, b"TILL #,1,S,#,#,DONE,#\n", till);
-    }
-    (script, shown)
-}
-
-#[test]
-fn the_requests_of_64_tills_are_shown(rt: HostRuntime) {
-    let (script, shown) = day_of_64(&rt);
-    let mut out = blank_paper(&rt);
-    let image = formatted(&rt, 64);
-    let (ended, file) = played(&rt, image.as_slice(), script.as_slice(), &mut out);
-    same(&rt, ended, Ok(()));
-    is_shown(&rt, file.bytes(), shown.as_slice());
-}

@@ -46,15 +46,10 @@ fn record(text: &[u8]) -> [u8; 127] {
     bytes
 }
 
-/// Checks that each record is a card or none.
-fn are_told(rt: &impl Abort, records: &[(&[u8], bool)]) {
-    for (text, is_card) in records {
-        let card = RequestCard::parse(&record(text));
-        same_at(rt, card.is_some(), *is_card, *text);
-    }
-}
-
 #[test]
 fn records_are_one_card_or_none(rt: HostRuntime) {
-    are_told(&rt, &RECORDS);
+    for (text, is_card) in &RECORDS {
+        let card = RequestCard::parse(&record(text));
+        same_at(&rt, card.is_some(), *is_card, *text);
+    }
 }

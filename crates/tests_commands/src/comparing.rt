@@ -21,19 +21,3 @@ pub(crate) fn same<T: PartialEq + Debug + Drop>(rt: &impl Abort, got: T, want: T
 pub(crate) fn holds<L: Debug + Drop>(rt: &impl Abort, it: bool, row: L) {
     same_at(rt, it, true, row);
 }
-
-/// Checks that an image has the bytes of another one, except these from this one on.
-pub(crate) fn differs_in(
-    rt: &impl Abort,
-    got: &[u8],
-    before: &[u8],
-    changes: &[(usize, &'static [u8])],
-) {
-    for (number, (byte, was)) in got.iter().zip(before).enumerate() {
-        let mut want = was;
-        for (from, bytes) in changes {
-            want = bytes.get(number.wrapping_sub(*from)).unwrap_or(want);
-        }
-        same_at(rt, byte, want, number);
-    }
-}

@@ -31,16 +31,6 @@ pub(crate) struct Full {
     pub(crate) flushes: bool,
 }
 
-impl Full {
-    /// One that takes so many bytes, and hands them on.
-    pub(crate) fn taking(room: usize) -> Full {
-        Full {
-            room,
-            flushes: true,
-        }
-    }
-}
-
 impl Write for Full {
     fn write(&mut self, buf: &[u8]) -> io::Result<usize> {
         let taken = buf.len().min(self.room);
@@ -145,20 +135,6 @@ impl EndedFile for Tape {
 
     fn sync_whole(&mut self) -> io::Result<()> {
         self.sync()
-    }
-}
-
-impl EndedFile for &mut Tape {
-    fn put_over(&mut self, bytes: &[u8], at: u64) -> io::Result<()> {
-        (**self).put_over(bytes, at)
-    }
-
-    fn end_at(&mut self, bytes: u64) -> io::Result<()> {
-        (**self).end_at(bytes)
-    }
-
-    fn sync_whole(&mut self) -> io::Result<()> {
-        (**self).sync_whole()
     }
 }
 

@@ -1,4 +1,4 @@
-//! The images of the rows: those that `format` makes, with bytes changed.
+//! The images of the rows: those that `format` makes.
 use crate::comparing::same;
 use crate::files::new_tape;
 use shop_commands::format_image;
@@ -7,22 +7,7 @@ use std::process::Abort;
 /// Where some sectors begin in an image.
 pub(crate) const S17_0: usize = 86016;
 
-pub(crate) const S17_1: usize = S17_0 + 256;
-
-pub(crate) const S17_2: usize = S17_0 + 2 * 256;
-
-pub(crate) const S17_3: usize = S17_0 + 3 * 256;
-
-pub(crate) const S17_4: usize = S17_0 + 4 * 256;
-
-pub(crate) const S18_0: usize = 91392;
-
-pub(crate) const S18_1: usize = S18_0 + 256;
-
-pub(crate) const S19_13: usize = 96256 + 13 * 256;
-
-/// Bytes, and where in an image they stand.
-pub(crate) type Bytes = (usize, &'static [u8]);
+pub(crate) const S18_1: usize = 91648;
 
 /// The image that `format` makes for so many tills; for two if the number isn't one of 1 to 64.
 pub(crate) fn formatted(rt: &(impl AllocGlobal + Abort), tills: u8) -> Vec<u8> {
@@ -39,18 +24,4 @@ pub(crate) fn put(image: &mut Vec<u8>, at: usize, bytes: &[u8]) {
     for (place, byte) in image.as_mut_slice().iter_mut().skip(at).zip(bytes) {
         *place = *byte;
     }
-}
-
-/// Writes each of these bytes over the image.
-pub(crate) fn patch(image: &mut Vec<u8>, bytes: &[Bytes]) {
-    for (at, bytes) in bytes {
-        put(image, *at, bytes);
-    }
-}
-
-/// The same image with these bytes.
-pub(crate) fn changed(rt: &(impl AllocGlobal + Abort), tills: u8, bytes: &[Bytes]) -> Vec<u8> {
-    let mut image = formatted(rt, tills);
-    patch(&mut image, bytes);
-    image
 }

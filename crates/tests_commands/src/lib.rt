@@ -1,6 +1,6 @@
-//! Worked rows of the commands: scripts played, also without a disk; images made, listed, checked and shown; files and
-//! outputs that fail; and what keepers do with an image. Tests only: no program stands on this crate. They stand here and
-//! not in the crates that they test so that the gate proves those once.
+//! Rows of the commands that the built program can't show: files and outputs that fail, and what they hold on the way;
+//! texts; and what can be rescued. What the program prints is in the tables of `tests/rows`. Tests only: no program stands
+//! on this crate.
 #![tactic(auto)]
 
 #[cfg(test)]
@@ -11,8 +11,6 @@ mod card_rows;
 mod check_rows;
 #[cfg(test)]
 mod comparing;
-#[cfg(test)]
-mod file_rows;
 #[cfg(test)]
 mod files;
 #[cfg(test)]
@@ -34,18 +32,10 @@ mod pieces;
 #[cfg(test)]
 mod placed_rows;
 #[cfg(test)]
-mod play_rows;
-#[cfg(test)]
-mod refusal_rows;
-#[cfg(test)]
 mod runs;
-#[cfg(test)]
-mod script_rows;
 #[cfg(test)]
 mod serve_rows;
 #[cfg(test)]
 mod stopped_rows;
-#[cfg(test)]
-mod till_rows;
 #[cfg(test)]
 mod write_rows;

@@ -15,28 +15,23 @@ static ROWS: [(u8, u8, usize); 6] = [
     (1, 1, 256),
 ];
 
-/// Checks that a file of zeros that keeps these sectors, each filled with its track, has them there and nothing more.
-fn are_placed(rt: &(impl AllocGlobal + Abort), rows: &[(u8, u8, usize)]) {
-    let zeros = filled(rt, 0, 174_848);
-    let mut file = ImageFile::new(new_tape(rt, zeros.as_slice(), usize::MAX));
-    for (track, sector, _) in rows {
+#[test]
+fn sectors_go_to_their_places(rt: HostRuntime) {
+    let zeros = filled(&rt, 0, 174_848);
+    let mut file = ImageFile::new(new_tape(&rt, zeros.as_slice(), usize::MAX));
+    for (track, sector, _) in &ROWS {
         let place = Place::new(*track, *sector).unwrap_or_default();
-        same(rt, file.keep(place, &[*track; 256]).is_ok(), true);
+        same(&rt, file.keep(place, &[*track; 256]).is_ok(), true);
     }
     let tape = file.into_inner();
-    same(rt, tape.bytes().len(), 174_848);
+    same(&rt, tape.bytes().len(), 174_848);
     let mut wanted = zeros;
-    for (track, _, at) in rows {
+    for (track, _, at) in &ROWS {
         for byte in wanted.as_mut_slice().iter_mut().skip(*at).take(256) {
             *byte = *track;
         }
     }
-    holds(rt, tape.bytes() == wanted.as_slice(), "the file");
-}
-
-#[test]
-fn sectors_go_to_their_places(rt: HostRuntime) {
-    are_placed(&rt, &ROWS);
+    holds(&rt, tape.bytes() == wanted.as_slice(), "the file");
 }
 
 /// Checks that a file that takes so many bytes keeps a sector, or doesn't.

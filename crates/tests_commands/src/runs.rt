@@ -1,12 +1,11 @@
 //! Runs of the commands: what they print, show and report.
-use crate::comparing::{same, same_at};
+use crate::comparing::same;
 use crate::files::{Paper, Tape, new_tape};
 use command_faults::CommandFault;
 use disk_reports::{NameForm, check_image, list_image};
 use host_session::Printer;
 use image_file::ImageFile;
 use shop_commands::{DryFault, dry, play_file, show_image};
-use std::fmt::Display;
 use std::io::Write;
 use std::process::Abort;
 
@@ -58,23 +57,13 @@ pub(crate) fn judged<W: Write>(
     }
 }
 
-/// Lists an image with its names in a form: how that ends.
-pub(crate) fn listed_as<W: Write>(
-    rt: &impl AllocGlobal,
-    image: &[u8],
-    form: NameForm,
-    out: &mut W,
-) -> Result<(), CommandFault> {
-    list_image(rt.alloc(), image, form, out)
-}
-
 /// Lists an image: how that ends.
 pub(crate) fn listed<W: Write>(
     rt: &impl AllocGlobal,
     image: &[u8],
     out: &mut W,
 ) -> Result<(), CommandFault> {
-    listed_as(rt, image, NameForm::Ascii, out)
+    list_image(rt.alloc(), image, NameForm::Ascii, out)
 }
 
 /// Shows the shop of an image: how that ends.
@@ -105,36 +94,4 @@ pub(crate) fn shows(rt: &(impl AllocGlobal + Abort), image: &[u8], text: &[u8]) 
     let mut out = Vec::new(rt.alloc());
     let ended = shown(rt, image, &mut out);
     same(rt, (ended, out.as_slice()), (Ok(()), text));
-}
-
-/// The exit status that goes with this report: 0 if there is none.
-fn status_of(told: &str) -> u8 {
-    match told {
-        "" => 0,
-        "FILE" => 3,
-        _ => 1,
-    }
-}
-
-/// Checks that a command ended so: with this report, and its status; or done, if there is no report.
-pub(crate) fn is_told(
-    rt: &(impl AllocGlobal + Abort),
-    ended: Result<(), CommandFault>,
-    told: &str,
-) {
-    let mut text = Vec::new(rt.alloc());
-    let mut status = 0;
-    if let Err(fault) = ended {
-        let _ = write!(text, "{fault}");
-        status = fault.status();
-    }
-    same_at(rt, text.as_slice(), told.as_bytes(), "told");
-    same_at(rt, status, status_of(told), told);
-}
-
-/// Checks that a fault is reported by this text.
-pub(crate) fn has_text<F: Display + Drop>(rt: &(impl AllocGlobal + Abort), fault: F, text: &str) {
-    let mut told = Vec::new(rt.alloc());
-    let _ = write!(told, "{fault}");
-    same(rt, told.as_slice(), text.as_bytes());
 }

@@ -21,11 +21,3 @@ pub(crate) fn same<T: PartialEq + Debug + Drop>(rt: &impl Abort, got: T, want: T
 pub(crate) fn holds<L: Debug + Drop>(rt: &impl Abort, it: bool, row: L) {
     same_at(rt, it, true, row);
 }
-
-/// The byte at this place; 0 if there is none.
-pub(crate) fn byte_at(bytes: &[u8], at: usize) -> u8 {
-    match bytes.get(at) {
-        Some(&byte) => byte,
-        None => 0,
-    }
-}

@@ -12,7 +12,7 @@ use rel_records::RelFault;
 use std::process::Abort;
 
 /// Files whose entries fill 18/1.
-const FILLING: [&[u8; 2]; 6] = [b"F3", b"F4", b"F5", b"F6", b"F7", b"F8"];
+static FILLING: [&[u8; 2]; 6] = [b"F3", b"F4", b"F5", b"F6", b"F7", b"F8"];
 
 /// The disk with a file more of each of these names, whose entries 18/1 takes: four writes each.
 fn with_files(rt: &(impl Abort + AllocGlobal), disk: MemDisk, names: &[&[u8; 2]]) -> MemDisk {
@@ -104,10 +104,10 @@ fn a_name_is_taken(rt: HostRuntime) {
 }
 
 /// After how many writes a creation is cut, and the writes of the repair then.
-const CUTS: [(u32, u64); 5] = [(0, 0), (1, 1), (2, 1), (3, 1), (4, 0)];
+static CUTS: [(u32, u64); 5] = [(0, 0), (1, 1), (2, 1), (3, 1), (4, 0)];
 
 /// The cuts of a creation that takes a directory sector.
-const CUTS_WITH_SECTOR: [(u32, u64); 6] = [(0, 0), (1, 1), (2, 1), (3, 1), (4, 1), (5, 0)];
+static CUTS_WITH_SECTOR: [(u32, u64); 6] = [(0, 0), (1, 1), (2, 1), (3, 1), (4, 1), (5, 0)];
 
 /// Cuts the creation of a file on a disk by each row; it makes so many writes if it isn't cut.
 fn are_mended(

@@ -34,7 +34,7 @@ type Changed = ((u8, u8, u8), u8, u32, (u32, u64, u32, u8));
 
 /// Below 2 the last index says that its block has no used byte. If it says more than whole records have, the rest counts
 /// for nothing; the block is filled only if a whole record more fits into it. A locked file is written as any other.
-const CHANGED: [Changed; 6] = [
+static CHANGED: [Changed; 6] = [
     ((17, 0, 1), 0, 1, (0, 2, 14, 0xFD)),
     ((17, 0, 1), 1, 1, (0, 2, 14, 0xFD)),
     ((17, 0, 1), 30, 1, (1, 1, 1, 30)),
@@ -43,18 +43,13 @@ const CHANGED: [Changed; 6] = [
     ((18, 1, 2), 0xC4, 14, (14, 1, 14, 0xFD)),
 ];
 
-/// Writes a record on each of the changed disks.
-fn are_written(rt: &(impl Abort + AllocGlobal), rows: &[Changed]) {
-    for &(place, byte, record, wanted) in rows {
-        let mut disk = fresh(rt);
-        put(&mut disk, place, &[byte]);
-        same_at(rt, written(rt, disk, record), wanted, (byte, record));
-    }
-}
-
 #[test]
 fn last_indices_and_a_locked_file(rt: HostRuntime) {
-    are_written(&rt, &CHANGED);
+    for &(place, byte, record, wanted) in &CHANGED {
+        let mut disk = fresh(&rt);
+        put(&mut disk, place, &[byte]);
+        same_at(&rt, written(&rt, disk, record), wanted, (byte, record));
+    }
 }
 
 /// The blank disk with the block of STOCK in 18/5.
@@ -138,20 +133,15 @@ fn found_of_two(rt: &(impl Abort + AllocGlobal), kind: u8) -> RelFile {
 
 /// The type of the first entry, the entry that is found, and its record length. A program is passed
 /// over, and a free slot is no entry.
-const TWICE: [(u8, usize, u8); 4] = [(0x84, 0, 18), (0xC4, 0, 18), (0x82, 1, 127), (0, 0, 127)];
-
-/// Checks which entry is found in each row.
-fn are_found(rt: &(impl Abort + AllocGlobal), rows: &[(u8, usize, u8)]) {
-    for &(kind, entry, length) in rows {
-        let file = found_of_two(rt, kind);
-        same_at(rt, (file.entry(), file.length()), (entry, length), kind);
-    }
-}
+static TWICE: [(u8, usize, u8); 4] = [(0x84, 0, 18), (0xC4, 0, 18), (0x82, 1, 127), (0, 0, 127)];
 
 // The first closed relative entry is found.
 #[test]
 fn names_that_stand_twice(rt: HostRuntime) {
-    are_found(&rt, &TWICE);
+    for &(kind, entry, length) in &TWICE {
+        let file = found_of_two(&rt, kind);
+        same_at(&rt, (file.entry(), file.length()), (entry, length), kind);
+    }
 }
 
 /// How many records STOCK of a sound disk has, and what reading one of them returns.

@@ -48,7 +48,7 @@ fn cut(
 type Cut = (u32, u32, u32);
 
 /// STOCK with 120 blocks gets a block, 14/3, and a side sector, 14/4. After the fifth write the file is longer.
-const CUTS: [Cut; 7] = [
+static CUTS: [Cut; 7] = [
     (0, 1693, 0),
     (1, 1693, 1),
     (2, 1693, 1),
@@ -60,7 +60,7 @@ const CUTS: [Cut; 7] = [
 
 /// STOCK with 240 blocks gets 11/4 and 11/5. After these the older side sectors are written, 17/1 and then 14/4, which a
 /// repair writes again. After the sixth write the file is longer.
-const CUTS_OF_TWO: [Cut; 8] = [
+static CUTS_OF_TWO: [Cut; 8] = [
     (0, 3386, 0),
     (1, 3386, 1),
     (2, 3386, 1),
@@ -102,7 +102,7 @@ fn growth_with_two_older_side_sectors_is_cut_and_mended(rt: HostRuntime) {
 /// How the older side sectors begin if that growth was cut after so many writes: the lower one, then the other.
 type Older = (u32, &'static [u8], &'static [u8]);
 
-const OLDER: [Older; 3] = [
+static OLDER: [Older; 3] = [
     (
         3,
         b"\x0E\x04\0\x12\x11\x01\x0E\x04\0\0",
@@ -120,23 +120,18 @@ const OLDER: [Older; 3] = [
     ),
 ];
 
-/// Checks that they begin so.
-fn each_begins(rt: &(impl Abort + AllocGlobal), rows: &[Older]) {
-    let disk = grown(rt, 3386);
-    for (writes, lower, other) in rows {
-        let left = cut(rt, &disk, 3387, *writes, 7);
-        stands(rt, &left, (17, 1, 0), lower);
-        stands(rt, &left, (14, 4, 0), other);
+#[test]
+fn older_side_sectors_are_written_in_turn(rt: HostRuntime) {
+    let disk = grown(&rt, 3386);
+    for (writes, lower, other) in &OLDER {
+        let left = cut(&rt, &disk, 3387, *writes, 7);
+        stands(&rt, &left, (17, 1, 0), lower);
+        stands(&rt, &left, (14, 4, 0), other);
     }
 }
 
-#[test]
-fn older_side_sectors_are_written_in_turn(rt: HostRuntime) {
-    each_begins(&rt, &OLDER);
-}
-
 /// A deleted entry after those of STOCK and REQUESTS, and the bits of track 1 in the map after its last sector.
-const UNJUDGED: [Change; 2] = [
+static UNJUDGED: [Change; 2] = [
     (18, 1, 66, 30, b"\0\x13\x05OLD\xA0"),
     (18, 0, 7, 1, b"\xFF"),
 ];
@@ -162,7 +157,7 @@ fn what_no_growth_judges_stays(rt: HostRuntime) {
 type Side = (u32, (u8, u8), &'static [u8], (u8, u8), (u8, u8));
 
 /// Side sectors of STOCK with 121 and with 241 blocks.
-const SIDES: [Side; 5] = [
+static SIDES: [Side; 5] = [
     (
         1694,
         (17, 1),
@@ -200,42 +195,32 @@ const SIDES: [Side; 5] = [
     ),
 ];
 
-/// Checks that the side sectors are as the rows have them. A clean disk has exact ones, pointer by pointer of the chain.
-fn are_exact(rt: &(impl Abort + AllocGlobal), rows: &[Side]) {
-    for &(number, (track, side), head, first, last) in rows {
-        let mut disk = grown(rt, number);
+#[test]
+fn side_sectors_are_exact(rt: HostRuntime) {
+    for &(number, (track, side), head, first, last) in &SIDES {
+        let mut disk = grown(&rt, number);
         let bytes = sector(&mut disk, track, side);
-        same_at(rt, &bytes[..16], head, (track, side, number));
+        same_at(&rt, &bytes[..16], head, (track, side, number));
         let view = SideView::new(&bytes);
         let ends = (view.block(0), view.block(119));
         let want = (Place::new(first.0, first.1), Place::new(last.0, last.1));
-        same_at(rt, ends, want, (track, side, number));
-        clean(rt, &mut disk);
+        same_at(&rt, ends, want, (track, side, number));
+        clean(&rt, &mut disk);
     }
 }
 
-#[test]
-fn side_sectors_are_exact(rt: HostRuntime) {
-    are_exact(&rt, &SIDES);
-}
-
 /// Records that don't fit, and the fault: 9,256 records fill the disk, and 720 blocks hold 10,160.
-const TOO_MUCH: [(u32, RelFault); 4] = [
+static TOO_MUCH: [(u32, RelFault); 4] = [
     (9257, RelFault::Full),
     (10160, RelFault::Full),
     (10161, RelFault::TooLarge),
     (65536, RelFault::TooLarge),
 ];
 
-/// Checks that growth to each record is refused, with nothing written.
-fn are_refused(rt: &(impl Abort + AllocGlobal), rows: &[(u32, RelFault)]) {
-    for &(number, fault) in rows {
-        let (_, told) = grow(rt, &fresh(rt), b"STOCK", number, WHOLE);
-        same_at(rt, told, (Err(fault), 0, 14), ("record", number));
-    }
-}
-
 #[test]
 fn too_much_is_refused(rt: HostRuntime) {
-    are_refused(&rt, &TOO_MUCH);
+    for &(number, fault) in &TOO_MUCH {
+        let (_, told) = grow(&rt, &fresh(&rt), b"STOCK", number, WHOLE);
+        same_at(&rt, told, (Err(fault), 0, 14), ("record", number));
+    }
 }

@@ -2,9 +2,9 @@
 use crate::comparing::same_at;
 use crate::disks::{fresh, loaded};
 use crate::sessions::{asked, says};
-use host_session::{ScriptEvents, ScriptFault, play_script, run};
+use host_session::play_script;
 use std::process::Abort;
-use test_devices::{RecordedEvents, RecordedReplies, RecordedReply};
+use test_devices::{RecordedReplies, RecordedReply};
 
 /// A day on which power goes once: line 2 is cut after its first write, and asked again.
 const DAY: &[u8] = b"1,1,S,42,120\n@1 2,1,R,42,5\n2,1,R,42,5\n1,2,I,42,200\n";
@@ -37,58 +37,4 @@ fn each_reply_is_told_over_its_own_disk(rt: HostRuntime) {
     holds(&rt, short, b"1,2,I,42,200", b"1,2,SHORT,125", 4);
     same_at(&rt, says(cut.reply, b"CUT"), true, "cut");
     same_at(&rt, says(short.reply, b"1,2,SHORT,125"), true, "short");
-}
-
-// The first line is asked for over the disk as it was opened, every other one over the disk that the line before it left.
-#[test]
-fn each_line_is_asked_for_over_what_the_last_one_left(rt: HostRuntime) {
-    let mut asks = RecordedEvents::new(rt.alloc(), ScriptEvents::new(DAY));
-    let mut out = RecordedReplies::new(rt.alloc(), 9);
-    let ran = run(fresh(&rt), &mut asks, &mut out).is_ok();
-    let counts = (ran, asks.disks().len(), out.turns().len());
-    same_at(&rt, counts, (true, 4, 4), "told");
-    let [opened, second, third, last] = asks.disks() else {
-        return;
-    };
-    let [first, cut, again, _] = out.turns() else {
-        return;
-    };
-    same_at(&rt, opened.as_slice() == fresh(&rt).bytes(), true, "opened");
-    same_at(
-        &rt,
-        second.as_slice() == first.bytes.as_slice(),
-        true,
-        "second",
-    );
-    same_at(&rt, third.as_slice() == cut.bytes.as_slice(), true, "third");
-    same_at(&rt, last.as_slice() == again.bytes.as_slice(), true, "last");
-}
-
-// It takes one reply; the second line is handled, and nothing is handled after it.
-#[test]
-fn an_output_takes_one_reply(rt: HostRuntime) {
-    let mut out = RecordedReplies::new(rt.alloc(), 1);
-    let Err((fault, left)) = play_script(fresh(&rt), DAY, &mut out) else {
-        return;
-    };
-    same_at(
-        &rt,
-        (fault, out.turns().len()),
-        (ScriptFault::Output, 1),
-        "told",
-    );
-    let (reply, _, recovery, writes) = asked(&rt, &left, b"2,1,R,42,5");
-    same_at(
-        &rt,
-        (says(reply, b"2,1,DONE,125"), recovery, writes),
-        (true, 0, 0),
-        "sent again",
-    );
-    let (reply, _, _, writes) = asked(&rt, &left, b"1,2,I,42,200");
-    same_at(
-        &rt,
-        (says(reply, b"1,2,SHORT,125"), writes),
-        (true, 1),
-        "not yet",
-    );
 }

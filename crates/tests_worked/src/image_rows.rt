@@ -1,7 +1,7 @@
 //! Images that no shop left: those that an opening refuses, and those that it takes all the same.
 use crate::comparing::{holds, same_at};
 use crate::disks::{Change, INTENT, changed, fresh, loaded};
-use crate::sessions::{after, asked, mirrored, opening, says, unmirrored};
+use crate::sessions::{after, asked, opening, says};
 use d64_image::MemDisk;
 use host_session::OpenFault;
 use std::process::Abort;
@@ -89,13 +89,6 @@ fn refused_image(rt: &(impl Abort + AllocGlobal), disk: &MemDisk, row: &[u8]) ->
     fault.expect(rt, "it is opened")
 }
 
-/// Checks that this is reported of it through a mirror too, whose file stays as well.
-fn is_refused_mirror(rt: &(impl Abort + AllocGlobal), disk: &MemDisk, fault: OpenFault) {
-    let (told, mirror) = opening(mirrored(rt, disk));
-    same_at(rt, told, Some(fault), fault);
-    holds(rt, unmirrored(rt, mirror).bytes() == disk.bytes(), fault);
-}
-
 /// Checks that a fault has this text.
 fn is_told(rt: &(impl Abort + AllocGlobal), fault: OpenFault, text: &[u8]) {
     let told = fault.to_string(rt.alloc()).expect(rt, "a text");
@@ -108,7 +101,6 @@ fn malicious_images_are_refused(rt: HostRuntime) {
         let disk = changed(after(&rt, script), changes);
         let fault = refused_image(&rt, &disk, told);
         is_told(&rt, fault, told);
-        is_refused_mirror(&rt, &disk, fault);
     }
 }
 

@@ -1,19 +1,15 @@
 //! Rows of the disk's layers: devices, what lies on a disk and where, checks and repairs; and of the drive.
 
-mod access_rows;
 mod blank_rows;
 mod chain_rows;
 mod check_rows;
 mod device_rows;
-mod directory_rows;
 pub(crate) mod disks;
 mod drive_rows;
 mod drives;
 mod far_rows;
-mod fault_rows;
 mod long_rows;
 mod map_rows;
 mod mirror_rows;
-mod recorder_rows;
 mod repair_rows;
 mod table_rows;

@@ -16,8 +16,6 @@ mod days;
 #[cfg(test)]
 mod disks;
 #[cfg(test)]
-mod fault_rows;
-#[cfg(test)]
 mod foreign_rows;
 #[cfg(test)]
 mod growth_rows;
@@ -34,9 +32,9 @@ mod logged;
 #[cfg(test)]
 mod mirror_rows;
 #[cfg(test)]
-mod opening_rows;
+mod number_rows;
 #[cfg(test)]
-mod output_rows;
+mod opening_rows;
 #[cfg(test)]
 mod promise_rows;
 #[cfg(test)]
@@ -48,10 +46,6 @@ mod session_rows;
 #[cfg(test)]
 mod sessions;
 #[cfg(test)]
-mod side_rows;
-#[cfg(test)]
 mod stopped_rows;
-#[cfg(test)]
-mod surface;
 #[cfg(test)]
 mod till_rows;

@@ -7,4 +7,3 @@ mod logs;
 mod promise_rows;
 mod served_rows;
 mod talks;
-mod touched_rows;

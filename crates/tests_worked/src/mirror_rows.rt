@@ -6,7 +6,7 @@ use d64_image::{DeviceAsFile, KeptMirror, MemDisk, OneFault};
 use std::process::Abort;
 
 /// Lines of days, and their replies.
-const LINES: [(&[u8], &[u8]); 4] = [
+static LINES: [(&[u8], &[u8]); 4] = [
     (b"1,1,S,42,120\n", b"1,1,DONE,120\n"),
     (b"1,1,S,42,120\n", b"1,1,DONE,120\n"),
     (b"@7/0/1 1,2,S,15,7\n", b"CUT\n"),

@@ -134,13 +134,6 @@ pub(crate) fn asked(
     (reply, top, recovery, writes)
 }
 
-/// Opens the disk and hands it the message: the reply. The disk is clean then.
-pub(crate) fn sent_to(rt: &impl Abort, disk: MemDisk, message: &[u8]) -> Reply {
-    let (reply, mut disk) = handed(rt, disk, message);
-    clean(rt, &mut disk);
-    reply
-}
-
 /// Whether a reply has this text.
 pub(crate) fn says(reply: Reply, text: &[u8]) -> bool {
     reply.print().as_slice() == text

@@ -1,11 +1,10 @@
-//! Runs that are stopped: by a device that fails, and by a bad line.
+//! Runs that a failing device stops.
 use crate::comparing::{holds, same, same_at};
 use crate::days::{Line, events_of, is_played, replies_of, script_of, text_of};
-use crate::disks::{WHOLE, at, changed, fresh, loaded};
+use crate::disks::{WHOLE, fresh};
 use crate::sessions::{one_reply, open, opened, ran, ran_of_events};
 use d64_image::{Fuse, MemDisk, Meter, Sectors};
-use disk_layout::Fault;
-use host_session::{OpenFault, PlayFault, ScriptFault, Session};
+use host_session::{PlayFault, ScriptFault, Session};
 use request_cards::{Reply, Word};
 use std::process::Abort;
 
@@ -111,46 +110,4 @@ fn a_device_that_fails_stops_a_run(rt: HostRuntime) {
         let again = events_stop(&rt, power, lines, wanted.as_slice());
         holds(&rt, again.bytes() == left.bytes(), power);
     }
-}
-
-/// Scripts with a bad line, and the first one's number.
-static BAD: [(&[u8], usize); 7] = [
-    (b"1,1,S,1,0\n@x 1,1,S,1,0\n", 2),
-    (b"@01 x\n", 1),
-    (b"@100000 x\n", 1),
-    (b"\n\n@1\n@2\n", 3),
-    (b"@1//2 x\n", 1),
-    (b"@1/0/0/0/0/0/0/0/0/0 x\n", 1),
-    (b"@0 x\n@99999/99999 x\n@1/100000 x", 3),
-];
-
-/// Checks that the first bad line of each script is reported, and that nothing is written.
-fn are_bad(rt: &(impl Abort + AllocGlobal), disk: &MemDisk, rows: &[(&[u8], usize)]) {
-    for &(script, line) in rows {
-        let (ended, told, left) = ran(rt, loaded(rt, disk.bytes()), script);
-        let wanted = (Err(ScriptFault::BadLine(line)), 0);
-        same_at(rt, (ended, told.len()), wanted, script);
-        holds(rt, left.bytes() == disk.bytes(), script);
-    }
-}
-
-/// Checks that the disk is checked if there is no line at all, and what is reported of it.
-fn is_judged(rt: &(impl Abort + AllocGlobal), disk: &MemDisk, refused: OpenFault) {
-    let (ended, told, _) = ran(rt, loaded(rt, disk.bytes()), b"");
-    same(
-        rt,
-        (ended, told.len()),
-        (Err(ScriptFault::Open(refused)), 0),
-    );
-    let (ended, _, _) = ran_of_events(loaded(rt, disk.bytes()), &[], one_reply(rt));
-    same(rt, ended, Err(PlayFault::Open(refused)));
-}
-
-// A bad line is reported before the disk is checked, and nothing is written. Without one the disk is checked, even if
-// there is no line at all.
-#[test]
-fn bad_lines_come_first(rt: HostRuntime) {
-    let disk = changed(fresh(&rt), &[(17, 0, 0, 2, b"\x11\0")]);
-    are_bad(&rt, &disk, &BAD);
-    is_judged(&rt, &disk, OpenFault::Layout(Fault::Loop(at(17, 0))));
 }

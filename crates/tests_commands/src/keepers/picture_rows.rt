@@ -1,12 +1,10 @@
-//! Maps, pages, posters and tiles of the blank disk for two tills with bytes changed, and what is refused. A plain
-//! program (tests/pages.py) printed those of these disks; length and Adler-32 are compared with those.
+//! Maps and tiles of the blank disk for two tills with bytes changed. A plain program (tests/pages.py) printed those of
+//! these disks; length and Adler-32 are compared with those.
 use crate::comparing::same_at;
 use crate::keepers::disks::{Change, changed};
 use command_faults::CommandFault;
 use disk_layout::Fault;
-use disk_pictures::{
-    map_image, picture_image, poster_image, sheet_begin, sheet_finish, sheet_refusal, sheet_tile,
-};
+use disk_pictures::{map_image, sheet_begin, sheet_finish, sheet_refusal, sheet_tile};
 use std::io::Write;
 use std::process::Abort;
 
@@ -18,10 +16,6 @@ struct Row {
     told: &'static str,
     /// The length of the map, and its Adler-32.
     map: (usize, u32),
-    /// The length of the page, and its Adler-32.
-    picture: (usize, u32),
-    /// The length of the poster, and its Adler-32.
-    poster: (usize, u32),
     /// The length of the tile of `a.d64`, and its Adler-32.
     tile: (usize, u32),
 }
@@ -34,40 +28,30 @@ static DRAWN: [Row; 6] = [
         changes: &[],
         told: "",
         map: (953, 1142270344),
-        picture: (72876, 1008363360),
-        poster: (70154, 1835816870),
         tile: (6495, 3143173840),
     },
     Row {
         changes: &[(18, 1, 34, &[0x82]), (17, 2, 0, &[17, 2])],
         told: "LOOP 17/2",
         map: (939, 2397676979),
-        picture: (73208, 2173685322),
-        poster: (70484, 2027273813),
         tile: (6501, 654837719),
     },
     Row {
         changes: &[(18, 1, 5, b"<B>&\"\xC1"), (18, 0, 69, &[0xF1])],
         told: "MAPWRONG 17/0",
         map: (969, 1940827406),
-        picture: (73478, 4218032070),
-        poster: (70746, 1837825479),
         tile: (6505, 3225356550),
     },
     Row {
         changes: &[(18, 1, 34, &[0x44])],
         told: "UNCLOSED 18/1",
         map: (945, 2130552632),
-        picture: (73240, 1622202930),
-        poster: (70512, 4128098586),
         tile: (6505, 769853690),
     },
     Row {
         changes: &[(18, 0, 0x90, b"&<SCRIPT>"), (18, 0, 4, &[20, 0xFE])],
         told: "MAPWRONG 1/0",
         map: (963, 3336612860),
-        picture: (73257, 686481305),
-        poster: (70526, 3930967520),
         tile: (6514, 1739459663),
     },
     Row {
@@ -112,14 +96,12 @@ static DRAWN: [Row; 6] = [
         ],
         told: "",
         map: (4102, 4053475222),
-        picture: (78896, 1838676902),
-        poster: (80382, 2307687704),
         tile: (6495, 2124023512),
     },
 ];
 
 /// The Adler-32 of these bytes (RFC 1950).
-pub(crate) fn adler(bytes: &[u8]) -> u32 {
+fn adler(bytes: &[u8]) -> u32 {
     let (mut low, mut high) = (1_u32, 0_u32);
     for &byte in bytes {
         low = low.wrapping_add(byte as u32) % 65_521;
@@ -129,7 +111,7 @@ pub(crate) fn adler(bytes: &[u8]) -> u32 {
 }
 
 /// Checks that a job ended so: with this fault of the disk reported, or with none.
-pub(crate) fn is_found(
+fn is_found(
     rt: &(impl AllocGlobal + Abort),
     ended: Result<Option<Fault>, CommandFault>,
     told: &str,
@@ -149,7 +131,7 @@ pub(crate) fn is_found(
 }
 
 /// Checks that a text has this length and this Adler-32.
-pub(crate) fn is_text(rt: &impl Abort, text: &[u8], wanted: (usize, u32)) {
+fn is_text(rt: &impl Abort, text: &[u8], wanted: (usize, u32)) {
     same_at(rt, (text.len(), adler(text)), wanted, wanted);
 }
 
@@ -158,20 +140,6 @@ fn is_mapped(rt: &(impl Abort + AllocGlobal), image: &[u8], row: &Row) {
     let mut out = Vec::new(rt.alloc());
     is_found(rt, map_image(rt.alloc(), image, &mut out), row.told);
     is_text(rt, out.as_slice(), row.map);
-}
-
-/// Checks the page of a disk.
-fn is_pictured(rt: &(impl Abort + AllocGlobal), image: &[u8], row: &Row) {
-    let mut out = Vec::new(rt.alloc());
-    is_found(rt, picture_image(rt.alloc(), image, &mut out), row.told);
-    is_text(rt, out.as_slice(), row.picture);
-}
-
-/// Checks the poster of a disk.
-fn is_on_a_poster(rt: &(impl Abort + AllocGlobal), image: &[u8], row: &Row) {
-    let mut out = Vec::new(rt.alloc());
-    is_found(rt, poster_image(rt.alloc(), image, &mut out), row.told);
-    is_text(rt, out.as_slice(), row.poster);
 }
 
 /// Checks the tile of a disk, and the status that goes with it.
@@ -183,31 +151,13 @@ fn is_tiled(rt: &(impl Abort + AllocGlobal), image: &[u8], row: &Row) {
     is_text(rt, out.as_slice(), row.tile);
 }
 
-/// Checks that nothing is drawn of this image, and why.
-fn isnt_drawn(rt: &(impl Abort + AllocGlobal), image: &[u8], told: &str) {
-    let mut out = Vec::new(rt.alloc());
-    is_found(rt, map_image(rt.alloc(), image, &mut out), told);
-    is_found(rt, picture_image(rt.alloc(), image, &mut out), told);
-    is_found(rt, poster_image(rt.alloc(), image, &mut out), told);
-    same_at(rt, out.len(), 0, told);
-}
-
 #[test]
 fn disks_are_drawn(rt: HostRuntime) {
     for row in &DRAWN {
         let disk = changed(&rt, row.changes);
         is_mapped(&rt, disk.bytes(), row);
-        is_pictured(&rt, disk.bytes(), row);
-        is_on_a_poster(&rt, disk.bytes(), row);
         is_tiled(&rt, disk.bytes(), row);
     }
-}
-
-#[test]
-fn what_isnt_drawn_is_told(rt: HostRuntime) {
-    isnt_drawn(&rt, b"", "IMAGE SIZE");
-    let disk = changed(&rt, &[(18, 1, 0, &[19, 0])]);
-    isnt_drawn(&rt, disk.bytes(), "LAYOUT BADLINK 18/1");
 }
 
 #[test]

@@ -23,31 +23,21 @@ static NO_TEXTS: [&[u8]; 11] = [
     b"\\41", b"\\20", b"\\FF", b"\\f", b"\\", b"A\\g0", b"\"", b"A\n", b"\x7F", b"\xA0", b"\0",
 ];
 
-/// Checks that each row is printed and read back.
-fn are_texts(rt: &(impl Abort + AllocGlobal), rows: &[(&[u8], &[u8])]) {
-    for &(bytes, text) in rows {
-        let mut out = Vec::new(rt.alloc());
-        let _ = write_text(&mut out, bytes);
-        same_at(rt, out.as_slice(), text, bytes);
-        match read_text(text) {
-            Some(found) => same_at(rt, found.as_slice(), bytes, text),
-            None => same_at(rt, None, Some(bytes), text),
-        }
-    }
-}
-
-/// Checks that none of them is read.
-fn are_no_texts(rt: &impl Abort, rows: &[&[u8]]) {
-    for &text in rows {
-        same_at(rt, read_text(text).is_none(), true, text);
-    }
-}
-
 // As many bytes are read as a record has at most.
 #[test]
 fn texts(rt: HostRuntime) {
-    are_texts(&rt, &TEXTS);
-    are_no_texts(&rt, &NO_TEXTS);
+    for &(bytes, text) in &TEXTS {
+        let mut out = Vec::new(rt.alloc());
+        let _ = write_text(&mut out, bytes);
+        same_at(&rt, out.as_slice(), text, bytes);
+        match read_text(text) {
+            Some(found) => same_at(&rt, found.as_slice(), bytes, text),
+            None => same_at(&rt, None, Some(bytes), text),
+        }
+    }
+    for &text in &NO_TEXTS {
+        same_at(&rt, read_text(text).is_none(), true, text);
+    }
     same_at(&rt, read_text(&[b'A'; 254]).is_some(), true, 254);
     same_at(&rt, read_text(&[b'A'; 255]).is_none(), true, 255);
 }

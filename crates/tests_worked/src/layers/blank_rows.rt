@@ -5,9 +5,7 @@ use crate::comparing::{same, same_at};
 use crate::layers::disks::{at, empty_map, fresh, put_four, sector, zeroed};
 use arrayvec::ArrayVec;
 use d64_image::{MemDisk, Meter, Place};
-use disk_layout::{
-    Bam, BamView, DirView, EntryView, Slot, blank_image, read_directory, walk_chain,
-};
+use disk_layout::{BamView, DirView, blank_image, walk_chain};
 use std::process::Abort;
 
 /// What 18/0 holds for one block of requests.
@@ -85,7 +83,7 @@ fn the_image_for_two_tills(rt: HostRuntime) {
 /// and 19 in the map, the link of 17/2, and byte 1 of 17/3.
 type Tills = (u8, (u64, u16, u16), [u8; 4], [u8; 4], [u8; 3]);
 
-const TILLS: [Tills; 4] = [
+static TILLS: [Tills; 4] = [
     (
         1,
         (6, 660, 2),
@@ -150,19 +148,14 @@ fn is_blank(
     same_at(rt, [first[0], first[1], side[1]], block, tills);
 }
 
-/// Checks each blank disk.
-fn are_blank(rt: &(impl Abort + AllocGlobal), rows: &[Tills]) {
-    for row in rows {
-        let tills = row.0;
-        assert!(rt; tills >= 1 && tills <= 64, "a number of tills");
-        is_blank(rt, blank(rt, tills), *row);
-    }
-}
-
 // An odd number of tills gives one till more; 64 fill track 17 and fourteen sectors of track 19.
 #[test]
 fn other_numbers_of_tills(rt: HostRuntime) {
-    are_blank(&rt, &TILLS);
+    for row in &TILLS {
+        let tills = row.0;
+        assert!(&rt; tills >= 1 && tills <= 64, "a number of tills");
+        is_blank(&rt, blank(&rt, tills), *row);
+    }
 }
 
 /// Where a block of the requests of 64 tills is.
@@ -192,52 +185,4 @@ fn the_requests_of_64_tills(rt: HostRuntime) {
     same(&rt, walk_chain(&mut disk, at(17, 2), &mut places), Ok(255));
     are_blocks(&rt, places.as_slice());
     same(&rt, places.len(), 32);
-}
-
-#[test]
-fn a_name_and_free_sectors(rt: HostRuntime) {
-    let map = Bam::read(&mut fresh(&rt)).expect(&rt, "a map");
-    let view = map.view();
-    same(&rt, view.name(), b"STOCK LEDGER".as_slice());
-    same(&rt, view.id(), b"01".as_slice());
-    same(&rt, view.version(), b"2A".as_slice());
-    let free = (view.free_on(17), view.free_on(18), view.free_on(35));
-    same(&rt, free, (17, 17, 17));
-}
-
-/// A slot of 18/1, and its entry: its name, its first block, its first side sector, and its record length.
-type Entry = (u8, &'static [u8], (u8, u8), (u8, u8), u8);
-
-const ENTRIES: [Entry; 2] = [
-    (0, b"STOCK", (17, 0), (17, 1), 18),
-    (1, b"REQUESTS", (17, 2), (17, 3), 127),
-];
-
-/// Checks that a slot of 18/1 is this entry, of two blocks.
-fn is_entry(rt: &impl Abort, slot: &Slot, (number, name, first, side, length): Entry) {
-    same(rt, (slot.sector, slot.number), (at(18, 1), number));
-    let entry = EntryView::new(&slot.bytes);
-    same(rt, (entry.type_byte(), entry.block_count()), (0x84, 2));
-    same(rt, entry.is_relative() && entry.has_first_block(), true);
-    same(rt, (entry.name(), entry.record_length()), (name, length));
-    same(rt, entry.first_block(), Place::new(first.0, first.1));
-    same(rt, entry.first_side(), Place::new(side.0, side.1));
-}
-
-/// Checks that the slots are these entries, in turn.
-fn are_entries(rt: &impl Abort, slots: &[Slot], rows: &[Entry]) {
-    for (slot, row) in slots.iter().zip(rows) {
-        is_entry(rt, slot, *row);
-    }
-}
-
-#[test]
-fn names_and_entries(rt: HostRuntime) {
-    let mut disk = fresh(&rt);
-    let directory = sector(&mut disk, at(18, 1));
-    same(&rt, DirView::new(&directory).link(), (0, 255));
-    let mut slots = ArrayVec::new();
-    same(&rt, read_directory(&mut disk, &mut slots), Ok(()));
-    same(&rt, slots.len(), 2);
-    are_entries(&rt, slots.as_slice(), &ENTRIES);
 }

@@ -1,7 +1,7 @@
-//! Each public call once, with values of the D64 layout.
+//! Places of the D64 layout, and images that are taken.
 use crate::comparing::{same, same_at};
-use crate::layers::disks::{at, sector, zeroed};
-use d64_image::{DeviceFault, Fuse, ImageFault, MemDisk, Meter, Place, Sectors};
+use crate::layers::disks::zeroed;
+use d64_image::{ImageFault, MemDisk, Place};
 use std::process::Abort;
 
 /// So many zeros.
@@ -22,25 +22,11 @@ fn numbered(rt: &(impl Abort + AllocGlobal)) -> Vec<u8> {
     bytes
 }
 
-/// Its disk.
-fn numbered_disk(rt: &(impl Abort + AllocGlobal)) -> MemDisk {
-    MemDisk::load(rt.alloc(), numbered(rt).as_slice()).expect(rt, "a disk")
-}
-
-/// Copies a sector over another, and reads it back: two reads and a write, as any layer above makes them.
-fn copy_sector<D: Sectors>(disk: &mut D, from: Place, to: Place) -> Result<u8, DeviceFault> {
-    let mut bytes = [0; 256];
-    disk.read(from, &mut bytes)?;
-    disk.write(to, &bytes)?;
-    disk.read(to, &mut bytes)?;
-    Ok(bytes[0])
-}
-
 /// A track, a sector, and where it stands in an image, counted in sectors, if there is such a one.
 type Placed = (u8, u8, Option<usize>);
 
 /// The published table gives byte offsets: track 18 begins at $16500, track 25 at $1EA00, track 31 at $25600.
-const PLACES: [Placed; 17] = [
+static PLACES: [Placed; 17] = [
     (1, 0, Some(0)),
     (1, 20, Some(20)),
     (2, 0, Some(21)),
@@ -71,16 +57,11 @@ fn is_placed(rt: &impl Abort, found: Option<Place>, (track, number, index): Plac
     }
 }
 
-/// Checks that each stands there.
-fn are_placed(rt: &impl Abort, rows: &[Placed]) {
-    for &(track, number, index) in rows {
-        is_placed(rt, Place::new(track, number), (track, number, index));
-    }
-}
-
 #[test]
 fn places_of_the_layout(rt: HostRuntime) {
-    are_placed(&rt, &PLACES);
+    for &(track, number, index) in &PLACES {
+        is_placed(&rt, Place::new(track, number), (track, number, index));
+    }
     same(&rt, Place::new(1, 0), Some(Place::default()));
 }
 
@@ -89,15 +70,6 @@ fn an_image_is_loaded(rt: HostRuntime) {
     let bytes = numbered(&rt);
     let disk = MemDisk::load(rt.alloc(), bytes.as_slice()).expect(&rt, "a disk");
     same(&rt, disk.bytes(), bytes.as_slice());
-}
-
-#[test]
-fn a_sector_is_read(rt: HostRuntime) {
-    let mut bytes = [7; 256];
-    let answer = numbered_disk(&rt).read(at(18, 0), &mut bytes);
-    same(&rt, answer, Ok(()));
-    // sector 357 of the image
-    same(&rt, (bytes[0], bytes[1]), (102, 0));
 }
 
 /// Checks that so many bytes are no image.
@@ -112,60 +84,15 @@ fn an_image_of_another_size_is_refused(rt: HostRuntime) {
     is_no_image(&rt, 0);
     is_no_image(&rt, 174_847);
     is_no_image(&rt, 175_531);
-    same(&rt, ImageFault::Size.number(), 1);
-    same(&rt, ImageFault::NoMemory.number(), 2);
+    same(
+        &rt,
+        [ImageFault::Size.number(), ImageFault::NoMemory.number()],
+        [1, 2],
+    );
 }
 
 // A body that always refuses is proved: no clause can say that memory is there.
 #[test]
 fn a_disk_of_zeros(rt: HostRuntime) {
     same(&rt, zeroed(&rt).bytes(), zeros(&rt, 174_848).as_slice());
-}
-
-/// Checks that of these bytes the ones of 18/1, and no others, are 255.
-fn are_written(rt: &impl Abort, bytes: &[u8]) {
-    for (i, byte) in bytes.iter().enumerate() {
-        let written = 0x16600 <= i && i < 0x16700;
-        same_at(rt, *byte, if written { 255 } else { 0 }, ("byte", i));
-    }
-}
-
-#[test]
-fn a_write_changes_its_sector_alone(rt: HostRuntime) {
-    let mut disk = zeroed(&rt);
-    same(&rt, disk.write(at(18, 1), &[255; 256]), Ok(()));
-    are_written(&rt, disk.bytes());
-}
-
-#[test]
-fn generic_code_in_memory(rt: HostRuntime) {
-    let mut disk = numbered_disk(&rt);
-    same(&rt, copy_sector(&mut disk, at(1, 1), at(35, 16)), Ok(2));
-}
-
-/// Copies sector 0, and so on to 3, of track 1 over that of track 35: what each comes to.
-fn four_copies<D: Sectors>(disk: &mut D) -> [Result<u8, DeviceFault>; 4] {
-    [
-        copy_sector(disk, at(1, 0), at(35, 0)),
-        copy_sector(disk, at(1, 1), at(35, 1)),
-        copy_sector(disk, at(1, 2), at(35, 2)),
-        copy_sector(disk, at(1, 3), at(35, 3)),
-    ]
-}
-
-// The second write blows the fuse, and what follows isn't counted; the third sector is as it was.
-#[test]
-fn a_fuse_of_two_writes(rt: HostRuntime) {
-    let mut meter = Meter::new(Fuse::new(numbered_disk(&rt), 2));
-    let failed = Err(DeviceFault);
-    same(
-        &rt,
-        four_copies(&mut meter),
-        [Ok(1), failed, failed, failed],
-    );
-    same(&rt, (meter.reads(), meter.writes()), (3, 2));
-    let mut disk = meter.into_inner().into_inner();
-    same(&rt, sector(&mut disk, at(35, 0))[0], 1);
-    same(&rt, sector(&mut disk, at(35, 1))[0], 2);
-    same(&rt, sector(&mut disk, at(35, 2))[0], 157);
 }

@@ -1,9 +1,7 @@
 //! Worked sessions at the drive, over a fresh disk for two tills, and over such a disk with something wrong.
 use crate::comparing::same;
 use crate::layers::disks::fresh;
-use crate::layers::drives::{
-    Call, broken_chain, counted, number, program, rows, session, wrong_count,
-};
+use crate::layers::drives::{Call, broken_chain, counted, number, program, session, wrong_count};
 use arrayvec::ArrayVec;
 use d64_image::{Fuse, MemDisk, Sectors};
 use drive_channels::{Dead, Drive};
@@ -143,38 +141,4 @@ fn a_dead_drive(rt: HostRuntime) {
     same(&rt, four_calls(&mut drive), [Err(Dead); 4]);
     let disk = drive.into_disk().into_inner();
     same(&rt, disk.bytes() == fresh(&rt).bytes(), true);
-}
-
-/// Both files are opened, the first made long.
-static OPENED: [Row; 6] = [
-    (Call::Open(2, b"STOCK"), 0),
-    (Call::Command(b"P\x62\x28\x24"), 50),
-    (Call::Write(2, b"K"), 0),
-    (Call::Close(2), 0),
-    (Call::Open(2, b"REQUESTS"), 0),
-    (Call::Close(2), 0),
-];
-
-/// Each is opened once more.
-static OPENED_AGAIN: [Row; 4] = [
-    (Call::Open(2, b"STOCK"), 0),
-    (Call::Close(2), 0),
-    (Call::Open(2, b"REQUESTS"), 0),
-    (Call::Close(2), 0),
-];
-
-/// How many sectors are read if both files are opened, and then each so many times more.
-fn reads(rt: &(impl Abort + AllocGlobal), rounds: usize) -> u64 {
-    let mut drive = counted(fresh(rt));
-    rows(rt, &mut drive, &OPENED);
-    for _ in 0..rounds {
-        rows(rt, &mut drive, &OPENED_AGAIN);
-    }
-    drive.into_disk().reads()
-}
-
-// Opening either of the two files that were opened last reads nothing, however long they are.
-#[test]
-fn files_that_are_remembered(rt: HostRuntime) {
-    same(&rt, reads(&rt, 3), reads(&rt, 0));
 }

@@ -7,7 +7,7 @@ use std::process::Abort;
 /// A call, and its status.
 type Row = (Call<'static>, u8);
 
-const OF_ONE_BYTE: [Row; 10] = [
+static OF_ONE_BYTE: [Row; 10] = [
     (Call::Open(2, b"ONE,L,\x01"), 0),
     (Call::Command(b"P\x62\xFF\xFF\x01"), 50),
     (Call::Write(2, b"Z"), 0),
@@ -27,31 +27,26 @@ fn records_of_one_byte(rt: HostRuntime) {
     rows(&rt, &mut counted(fresh(&rt)), &OF_ONE_BYTE);
 }
 
-const MADE: [Row; 3] = [
+static MADE: [Row; 3] = [
     (Call::Open(2, b"ONE,L,\x01"), 0),
     (Call::Command(b"P\x62\xFF\xFF\x01"), 50),
     (Call::Write(2, b""), 0),
 ];
 
-const BEHIND: [Row; 4] = [
+static BEHIND: [Row; 4] = [
     (Call::Read(2, b""), 50),
     (Call::Write(2, b"Z"), 52),
     (Call::Write(2, b""), 52),
     (Call::Read(2, b""), 50),
 ];
 
-/// Makes the file, reads on from record 65535 to its last one, and then does the calls after it.
-fn read_on(rt: &(impl Abort + AllocGlobal), behind: &[Row]) {
-    let mut drive = counted(fresh(rt));
-    rows(rt, &mut drive, &MADE);
-    for _ in 65535..65787usize {
-        rows(rt, &mut drive, &[(Call::Read(2, b"\xFF"), 0)]);
-    }
-    rows(rt, &mut drive, behind);
-}
-
 // After the last one a read finds none, and a write has no place.
 #[test]
 fn places_past_record_65535(rt: HostRuntime) {
-    read_on(&rt, &BEHIND);
+    let mut drive = counted(fresh(&rt));
+    rows(&rt, &mut drive, &MADE);
+    for _ in 65535..65787usize {
+        rows(&rt, &mut drive, &[(Call::Read(2, b"\xFF"), 0)]);
+    }
+    rows(&rt, &mut drive, &BEHIND);
 }

@@ -20,7 +20,7 @@ fn with_four(track: u8, four: [u8; 4]) -> Bam {
 }
 
 /// The tracks in the order of picking.
-const TRACKS: [u8; 34] = [
+static TRACKS: [u8; 34] = [
     17, 19, 16, 20, 15, 21, 14, 22, 13, 23, 12, 24, 11, 25, 10, 26, 9, 27, 8, 28, 7, 29, 6, 30, 5,
     31, 4, 32, 3, 33, 2, 34, 1, 35,
 ];
@@ -66,7 +66,7 @@ fn picks_for_the_directory(rt: HostRuntime) {
 /// A track, its four bytes, a sector, and the four bytes when it is taken, and then when it is given back.
 type Four = (&'static str, (u8, u8), [u8; 4], [u8; 4], [u8; 4]);
 
-const FOURS: [Four; 5] = [
+static FOURS: [Four; 5] = [
     (
         "free",
         (17, 4),
@@ -104,19 +104,14 @@ const FOURS: [Four; 5] = [
     ),
 ];
 
-/// Checks that each sector is taken and given back so.
-fn are_taken(rt: &impl Abort, rows: &[Four]) {
-    for &(name, (track, sector), before, taken, given) in rows {
+#[test]
+fn takes_and_gives(rt: HostRuntime) {
+    for &(name, (track, sector), before, taken, given) in &FOURS {
         let place = at(track, sector);
         let mut map = with_four(track, before);
         map.take(place);
-        same_at(rt, map, with_four(track, taken), name);
+        same_at(&rt, map, with_four(track, taken), name);
         map.give(place);
-        same_at(rt, map, with_four(track, given), name);
+        same_at(&rt, map, with_four(track, given), name);
     }
-}
-
-#[test]
-fn takes_and_gives(rt: HostRuntime) {
-    are_taken(&rt, &FOURS);
 }

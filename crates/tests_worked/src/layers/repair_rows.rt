@@ -3,7 +3,7 @@ use crate::comparing::{same, same_at};
 use crate::layers::disks::{at, change, fresh};
 use d64_image::{Fuse, MemDisk, Meter, Sectors};
 use disk_layout::Fault;
-use layout_check::{check, repair, repair_keeping, survey};
+use layout_check::{check, repair, survey};
 use std::process::Abort;
 
 /// A fresh disk with a bit and a count of the map, a block count and the end of a side sector wrong.
@@ -40,20 +40,6 @@ fn wrong_sectors_are_written_once(rt: HostRuntime) {
     is_fresh(&rt, &disk.into_inner());
 }
 
-// Bits past a track's last sector aren't checked: in a map that is right they stay, in one that is written they become 0.
-#[test]
-fn bits_past_the_last_sector(rt: HostRuntime) {
-    let mut spare = fresh(&rt);
-    change(&mut spare, at(18, 0), (7, 0xFF), (7, 0xFF));
-    let mut disk = Meter::new(spare);
-    same(&rt, repaired(&mut disk), Some(2));
-    same(&rt, disk.writes(), 0);
-    let mut wrong = disk.into_inner();
-    change(&mut wrong, at(18, 0), (0x44, 0x12), (0x45, 0xF8));
-    same(&rt, repaired(&mut wrong), Some(2));
-    is_fresh(&rt, &wrong);
-}
-
 /// Cuts a repair after so many writes, and checks that the next one makes the rest of three.
 fn is_taken_up(rt: &(impl Abort + AllocGlobal), passed: u8) {
     let mut cut = Fuse::new(worn(rt), u32::from(passed));
@@ -73,44 +59,4 @@ fn a_cut_repair_is_taken_up_again(rt: HostRuntime) {
     for passed in 0..3u8 {
         is_taken_up(&rt, passed);
     }
-}
-
-/// Checks that a worn disk with these bytes changed too is reported so, and that nothing is written.
-fn stays(
-    rt: &(impl Abort + AllocGlobal),
-    (track, number): (u8, u8),
-    (first, second): ((u8, u8), (u8, u8)),
-    fault: Fault,
-) {
-    let mut disk = worn(rt);
-    change(&mut disk, at(track, number), first, second);
-    let mut disk = Meter::new(disk);
-    same(rt, repair(&mut disk).err(), Some(fault));
-    same(rt, disk.writes(), 0);
-}
-
-// A disk that isn't sound is reported and left as it is: a link that goes back, and an entry that isn't closed.
-#[test]
-fn a_disk_that_is_not_sound_stays(rt: HostRuntime) {
-    let back = Fault::Loop(at(17, 0));
-    stays(&rt, (17, 0), ((0, 17), (1, 0)), back);
-    let open = Fault::Unclosed(at(18, 1));
-    stays(&rt, (18, 1), ((2, 4), (2, 4)), open);
-}
-
-// Nobody owns 2/5, which the map calls taken. It stays so, and what else is wrong is written, three sectors. Then nothing
-// is written, and the disk is clean except for it.
-#[test]
-fn a_repair_that_frees_nothing(rt: HostRuntime) {
-    let mut disk = worn(&rt);
-    change(&mut disk, at(18, 0), (8, 20), (9, 0xDF));
-    let mut disk = Meter::new(disk);
-    for round in 0..2u8 {
-        let left = repair_keeping(&mut disk);
-        same_at(&rt, (disk.writes(), left), (3, Ok(1)), round);
-        same(&rt, check(&mut disk).err(), Some(Fault::MapWrong(at(2, 5))));
-    }
-    let mut left = disk.into_inner();
-    change(&mut left, at(18, 0), (8, 21), (9, 0xFF));
-    is_fresh(&rt, &left);
 }

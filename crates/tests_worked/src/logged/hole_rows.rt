@@ -1,7 +1,6 @@
 //! An input that fails once: the run ends, and it isn't asked again.
 use crate::comparing::same_at;
-use d64_image::MemDisk;
-use disk_layout::blank_image;
+use crate::disks::fresh;
 use host_session::{LoopFault, Printer};
 use line_server::serve;
 use std::io::{self, BufRead, ErrorKind, Read};
@@ -38,14 +37,12 @@ fn served(
     rt: &(impl Abort + AllocGlobal),
     fails: Option<ErrorKind>,
 ) -> (Option<LoopFault>, Vec<u8>) {
-    let mut disk = MemDisk::zeroed(rt.alloc()).expect(rt, "a disk");
-    blank_image(&mut disk, b"STOCK LEDGER", *b"01", 2).expect(rt, "a blank disk");
     let mut input = Faltering {
         fails,
         left: b"1,1,S,1,5\n",
     };
     let mut out = Printer::new(Vec::new(rt.alloc()));
-    let ended = serve(disk, &mut input, &mut out);
+    let ended = serve(fresh(rt), &mut input, &mut out);
     let fault = match ended {
         Ok(_) => None,
         Err((fault, _)) => Some(fault),

@@ -1,11 +1,8 @@
 //! The life of a log beside its image, in memory; the power may have failed at any point of it. docs/LOG.md says which
 //! image a folder gives.
-use crate::comparing::{same, same_at};
+use crate::comparing::same;
 use crate::logged::logs::{begun, change, commit, numbered, two_touched, without};
-use shop_log::{
-    ImageLog, LiveLog, LogFault, LogFolder, LogRoom, MemFolder, MemLog, Misfit, land, land_in,
-    replace,
-};
+use shop_log::{LogFault, LogFolder, MemFolder, Misfit, land};
 use std::process::Abort;
 
 /// What is found in a folder.
@@ -183,74 +180,4 @@ fn logs_that_give_no_image(rt: HostRuntime) {
         landed(&rt, old.as_slice(), short.as_slice()),
         Found::NoBase,
     );
-}
-
-/// A service over this image, which was landed.
-fn service(
-    rt: &(impl Abort + AllocGlobal),
-    image: &[[u8; 256]],
-) -> Option<LiveLog<MemLog, MemFolder>> {
-    if image.len() != 683 {
-        return None;
-    }
-    let mut folder = MemFolder::new(rt.alloc(), image).ok()?;
-    let shop = land_in(rt.alloc(), &mut folder).ok()?;
-    let room = LogRoom::new(rt.alloc()).ok()?;
-    LiveLog::begin(rt.alloc(), folder, room, shop).ok()
-}
-
-/// An image takes the place of another.
-#[test]
-fn an_image_is_replaced(rt: HostRuntime) {
-    let (old, new) = (numbered(&rt), changed(&rt));
-    let room = LogRoom::new(rt.alloc()).expect(&rt, "there is memory");
-    if old.len() == 683 && new.len() == 683 {
-        let mut folder = MemFolder::new(rt.alloc(), old.as_slice()).expect(&rt, "there is memory");
-        let done = replace(&mut folder, room, old.as_slice(), new.as_slice()).is_ok();
-        same(&rt, done, true);
-        same(&rt, held(&rt, &mut folder), Found::After);
-    }
-}
-
-/// A service of one commit.
-#[test]
-fn a_service_begins_and_ends(rt: HostRuntime) {
-    let new = changed(&rt);
-    let mut log = service(&rt, numbered(&rt).as_slice()).expect(&rt, "a log");
-    if new.len() == 683 {
-        same(
-            &rt,
-            log.commit(new.as_slice(), &two_touched()).is_ok(),
-            true,
-        );
-    }
-    let (mut folder, end) = log.end();
-    same(&rt, end.is_ok(), true);
-    same(&rt, held(&rt, &mut folder), Found::After);
-}
-
-/// After the base of 46 blocks and 933 commits of one block, fewer than 46 of the 1,024 are free: 1,000 commits need a
-/// second log.
-#[test]
-fn a_full_log_is_renewed(rt: HostRuntime) {
-    let mut image = numbered(&rt);
-    let mut log = service(&rt, image.as_slice()).expect(&rt, "a log");
-    for k in 0..1000u32 {
-        if image.len() == 683 {
-            image[357] = [(k % 256) as u8; 256];
-            let done = log.commit(image.as_slice(), &two_touched()).is_ok();
-            same_at(&rt, done, true, k);
-        }
-    }
-    change(image.as_mut_slice());
-    if image.len() == 683 {
-        same(
-            &rt,
-            log.commit(image.as_slice(), &two_touched()).is_ok(),
-            true,
-        );
-    }
-    let (mut folder, end) = log.end();
-    same(&rt, end.is_ok(), true);
-    same(&rt, held(&rt, &mut folder), Found::After);
 }

@@ -1,10 +1,10 @@
 //! A shop served over a log in memory. The replies follow docs/MESSAGES.md by hand.
 use crate::comparing::{same, same_at};
+use crate::disks::blank;
 use crate::logged::logs::begun;
 use crate::logged::talks::{Heard, Talk};
 use d64_image::MemDisk;
-use disk_layout::blank_image;
-use host_session::{LoopFault, Printer, Session};
+use host_session::{Printer, Session};
 use line_server::{Room, serve_batches};
 use shop_log::{Log, MemLog, recover};
 use std::cell::Cell;
@@ -19,13 +19,6 @@ static DAY: &[(&[u8], usize)] = &[
 
 const TOLD: &[u8] =
     b"1,1,DONE,40\n1,2,DONE,35\n2,1,SHORT,35\n1,2,DONE,35\n30,SYNTAX ERROR,00,00\n9,1,NO TILL\n";
-
-/// A shop for four tills, without a card.
-fn shop(rt: &(impl Abort + AllocGlobal)) -> MemDisk {
-    let mut disk = MemDisk::zeroed(rt.alloc()).expect(rt, "a disk");
-    blank_image(&mut disk, b"STOCK LEDGER", *b"01", 4).expect(rt, "a blank disk");
-    disk
-}
 
 /// A log that begins with the disk.
 fn log_of(rt: &(impl Abort + AllocGlobal), disk: &MemDisk) -> Log<MemLog> {
@@ -56,7 +49,7 @@ fn on_hand(disk: MemDisk) -> Option<u32> {
 /// batch needs neither.
 #[test]
 fn a_day_is_three_batches(rt: HostRuntime) {
-    let disk = shop(&rt);
+    let disk = blank(&rt, 4);
     let mut log = log_of(&rt, &disk);
     let before = log.file().calls();
     let handed = Cell::new(0);
@@ -78,7 +71,7 @@ fn a_day_is_three_batches(rt: HostRuntime) {
 #[test]
 fn lines_at_hand_are_one_batch(rt: HostRuntime) {
     for (count, times) in [(1usize, 1usize), (64, 1), (512, 1), (513, 2), (1100, 3)] {
-        let disk = shop(&rt);
+        let disk = blank(&rt, 4);
         let mut log = log_of(&rt, &disk);
         let before = log.file().calls();
         let handed = Cell::new(0);
@@ -98,27 +91,4 @@ fn lines_at_hand_are_one_batch(rt: HostRuntime) {
         same_at(&rt, out.bytes.len(), count.wrapping_mul(22), count);
         same_at(&rt, log.file().calls(), before, count);
     }
-}
-
-/// The output fails in the second reply of a batch: all of the batch counts.
-#[test]
-fn an_output_that_fails_leaves_the_batch(rt: HostRuntime) {
-    let disk = shop(&rt);
-    let mut log = log_of(&rt, &disk);
-    let handed = Cell::new(0);
-    let mut input = b"1,1,S,101,40\n1,2,I,101,5\n2,1,I,101,4\n".as_slice();
-    let mut out = Printer::new(Heard::new(Vec::new(rt.alloc()), 20, &handed));
-    let mut room = Room::new(rt.alloc()).expect(&rt, "there is memory");
-    let end = serve_batches(disk, &mut log, &mut input, &mut out, &mut room);
-    let fault = match end {
-        Ok(_) => None,
-        Err((fault, _)) => Some(fault),
-    };
-    same(&rt, fault, Some(LoopFault::Output));
-    same(
-        &rt,
-        out.into_inner().bytes.as_slice(),
-        b"1,1,DONE,40\n".as_slice(),
-    );
-    same(&rt, on_hand(disk_in(&rt, log.file().bytes())), Some(31));
 }

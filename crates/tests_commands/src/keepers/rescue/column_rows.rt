@@ -22,19 +22,6 @@ static RECORDS: [(&[u8], &[u8], &[u8]); 6] = [
     (b"MILK\r 12 \r", b"\"MILK\",\" 12 \"", b"MILK, 12 "),
 ];
 
-/// Checks that each record is written so, and read from both.
-fn are_columns(rt: &(impl Abort + AllocGlobal), rows: &[(&[u8], &[u8], &[u8])]) {
-    for &(bytes, marked, plain) in rows {
-        let mut out = Vec::new(rt.alloc());
-        if ends_with_return(bytes) {
-            let _ = write_columns(&mut out, bytes);
-        }
-        same_at(rt, out.as_slice(), marked, bytes);
-        are_read(rt, marked, bytes);
-        are_read(rt, plain, bytes);
-    }
-}
-
 /// Checks that the line is read as this record.
 fn are_read(rt: &impl Abort, line: &[u8], bytes: &[u8]) {
     match read_columns(line) {
@@ -55,18 +42,21 @@ static REFUSED: [&[u8]; 7] = [
     b"A,\\41",
 ];
 
-/// Checks that none of them is read.
-fn are_refused(rt: &impl Abort, lines: &[&[u8]]) {
-    for &line in lines {
-        same_at(rt, read_columns(line).is_none(), true, line);
-    }
-}
-
 // A record has 254 bytes at most, the last carriage return among them.
 #[test]
 fn columns(rt: HostRuntime) {
-    are_columns(&rt, &RECORDS);
-    are_refused(&rt, &REFUSED);
+    for &(bytes, marked, plain) in &RECORDS {
+        let mut out = Vec::new(rt.alloc());
+        if ends_with_return(bytes) {
+            let _ = write_columns(&mut out, bytes);
+        }
+        same_at(&rt, out.as_slice(), marked, bytes);
+        are_read(&rt, marked, bytes);
+        are_read(&rt, plain, bytes);
+    }
+    for &line in &REFUSED {
+        same_at(&rt, read_columns(line).is_none(), true, line);
+    }
     same_at(&rt, ends_with_return(b"\xFF"), false, 255);
     same_at(&rt, ends_with_return(b""), false, 0);
     same_at(&rt, read_columns(&[b'A'; 253]).is_some(), true, 253);
@@ -111,25 +101,15 @@ fn has_text(rt: &(impl Abort + AllocGlobal), line: &[u8], text: &[u8]) {
     same_at(rt, joined.as_slice(), text, line);
 }
 
-/// Checks that each record is written so, and that its columns have its text.
-fn are_all_columns(rt: &(impl Abort + AllocGlobal), rows: &[(&[u8], &[u8], &[u8])]) {
-    for &(bytes, columns, text) in rows {
-        let mut out = Vec::new(rt.alloc());
-        let _ = write_all_columns(&mut out, bytes);
-        same_at(rt, out.as_slice(), columns, bytes);
-        has_text(rt, columns, text);
-    }
-}
-
-/// Checks that each line has this text.
-fn are_joined(rt: &(impl Abort + AllocGlobal), rows: &[(&[u8], &[u8])]) {
-    for &(line, text) in rows {
-        has_text(rt, line, text);
-    }
-}
-
 #[test]
 fn records_of_any_end(rt: HostRuntime) {
-    are_all_columns(&rt, &ALL);
-    are_joined(&rt, &JOINED);
+    for &(bytes, columns, text) in &ALL {
+        let mut out = Vec::new(rt.alloc());
+        let _ = write_all_columns(&mut out, bytes);
+        same_at(&rt, out.as_slice(), columns, bytes);
+        has_text(&rt, columns, text);
+    }
+    for &(line, text) in &JOINED {
+        has_text(&rt, line, text);
+    }
 }

@@ -14,17 +14,6 @@ static LISTS: [(&[u8], bool); 7] = [
     (&[1, 9, 5], false),
 ];
 
-/// Checks that each list is read so.
-fn are_positions(rt: &impl Abort, rows: &[(&[u8], bool)]) {
-    for &(list, good) in rows {
-        let found = Positions::new(list);
-        same_at(rt, found.is_some(), good, list);
-        if let Some(found) = found {
-            same_at(rt, found.as_slice(), list, list);
-        }
-    }
-}
-
 /// Positions, a record, its columns, and its text: whole, shorter than a position, of nothing but zeros, with zeros and a
 /// carriage return within, with a comma and a quotation mark, with blanks.
 static RECORDS: [(&[u8], &[u8], &[u8], &[u8]); 7] = [
@@ -68,27 +57,23 @@ fn has_text(rt: &(impl Abort + AllocGlobal), starts: &[u8], line: &[u8], text: &
     same_at(rt, joined.as_slice(), text, line);
 }
 
-/// Checks that each record is written so, and that its columns have its text.
-fn are_pieces(rt: &(impl Abort + AllocGlobal), rows: &[(&[u8], &[u8], &[u8], &[u8])]) {
-    for &(starts, bytes, columns, text) in rows {
-        let mut out = Vec::new(rt.alloc());
-        let _ = write_pieces(&mut out, starts, bytes);
-        same_at(rt, out.as_slice(), columns, bytes);
-        has_text(rt, starts, columns, text);
-    }
-}
-
-/// Checks that each line has this text.
-fn are_joined(rt: &(impl Abort + AllocGlobal), rows: &[(&[u8], &[u8], &[u8])]) {
-    for &(starts, line, text) in rows {
-        has_text(rt, starts, line, text);
-    }
-}
-
 #[test]
 fn pieces(rt: HostRuntime) {
-    are_positions(&rt, &LISTS);
+    for &(list, good) in &LISTS {
+        let found = Positions::new(list);
+        same_at(&rt, found.is_some(), good, list);
+        if let Some(found) = found {
+            same_at(&rt, found.as_slice(), list, list);
+        }
+    }
     same_at(&rt, Positions::new(&[1; 33]).is_none(), true, 33);
-    are_pieces(&rt, &RECORDS);
-    are_joined(&rt, &JOINED);
+    for &(starts, bytes, columns, text) in &RECORDS {
+        let mut out = Vec::new(rt.alloc());
+        let _ = write_pieces(&mut out, starts, bytes);
+        same_at(&rt, out.as_slice(), columns, bytes);
+        has_text(&rt, starts, columns, text);
+    }
+    for &(starts, line, text) in &JOINED {
+        has_text(&rt, starts, line, text);
+    }
 }

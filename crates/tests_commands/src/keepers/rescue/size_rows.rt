@@ -57,19 +57,14 @@ static ERRORS: [(usize, (u8, u8), usize, Option<u8>); 7] = [
     (196_608, (17, 4), 196_000, None),
 ];
 
-/// Checks that this error is reported of the sector, and none if the byte is 1.
-fn are_told(rt: &(impl Abort + AllocGlobal), rows: &[(usize, (u8, u8), usize, Option<u8>)]) {
-    for &(size, (track, sector), at, wanted) in rows {
-        let place = Place::new(track, sector).unwrap_or_default();
-        let mut image = filled(rt, 1, size);
-        same_at(rt, error_at(image.as_slice(), place), None, size);
-        put(&mut image, at, &[5]);
-        same_at(rt, error_at(image.as_slice(), place), wanted, size);
-    }
-}
-
 #[test]
 fn sizes(rt: HostRuntime) {
     are_taken(&rt, &SIZES);
-    are_told(&rt, &ERRORS);
+    for &(size, (track, sector), at, wanted) in &ERRORS {
+        let place = Place::new(track, sector).unwrap_or_default();
+        let mut image = filled(&rt, 1, size);
+        same_at(&rt, error_at(image.as_slice(), place), None, size);
+        put(&mut image, at, &[5]);
+        same_at(&rt, error_at(image.as_slice(), place), wanted, size);
+    }
 }

@@ -58,15 +58,6 @@ static ROWS: [(CharacterSet, u8, &str); 10] = [
     ),
 ];
 
-/// Checks that the bytes from these on have these characters.
-fn are_shown(rt: &impl Abort, rows: &[(CharacterSet, u8, &str)]) {
-    for &(set, first, text) in rows {
-        for (byte, wanted) in (first..=255).zip(text.chars()) {
-            same_at(rt, character(set, byte), Some(wanted), byte);
-        }
-    }
-}
-
 /// Checks that none of these bytes has a character.
 fn are_not_shown(rt: &impl Abort, bytes: &[u8]) {
     for &byte in bytes {
@@ -77,7 +68,11 @@ fn are_not_shown(rt: &impl Abort, bytes: &[u8]) {
 
 #[test]
 fn characters(rt: HostRuntime) {
-    are_shown(&rt, &ROWS);
+    for &(set, first, text) in &ROWS {
+        for (byte, wanted) in (first..=255).zip(text.chars()) {
+            same_at(&rt, character(set, byte), Some(wanted), byte);
+        }
+    }
     are_not_shown(&rt, b"\0\x0D\x1D\x1F\x80\x8D\x93\x9F");
 }
 
@@ -126,16 +121,6 @@ static NAMES: [(u8, &[u8], Ending, &[u8]); 9] = [
     (10, b"--HELP", Ending::Prg, b"10---HELP.prg"),
 ];
 
-/// Checks that the files have these names.
-fn are_named(rt: &impl Abort, rows: &[(u8, &[u8], Ending, &[u8])]) {
-    for &(number, name, ending, wanted) in rows {
-        if name.len() <= 16 {
-            let found = file_name(number, name, ending);
-            same_at(rt, found.as_slice(), wanted, name);
-        }
-    }
-}
-
 /// Type bytes and their endings: closed, open, locked, and of a type that there isn't.
 static TYPES: [(u8, Ending); 8] = [
     (0x80, Ending::Del),
@@ -148,15 +133,15 @@ static TYPES: [(u8, Ending); 8] = [
     (0xFF, Ending::Other),
 ];
 
-/// Checks that the types have these endings.
-fn are_ended(rt: &impl Abort, rows: &[(u8, Ending)]) {
-    for &(type_byte, ending) in rows {
-        same_at(rt, Ending::of_type(type_byte), ending, type_byte);
-    }
-}
-
 #[test]
 fn names(rt: HostRuntime) {
-    are_named(&rt, &NAMES);
-    are_ended(&rt, &TYPES);
+    for &(number, name, ending, wanted) in &NAMES {
+        if name.len() <= 16 {
+            let found = file_name(number, name, ending);
+            same_at(&rt, found.as_slice(), wanted, name);
+        }
+    }
+    for &(type_byte, ending) in &TYPES {
+        same_at(&rt, Ending::of_type(type_byte), ending, type_byte);
+    }
 }
