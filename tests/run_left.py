@@ -1,4 +1,4 @@
-"""A run of a program in a folder: what it prints and reports, how it ends, and which files it changes."""
+"""A run of a program in a folder: what it prints and reports, how it ends, and which files it changes. It has a minute, or ROW_SECONDS."""
 
 import os
 import subprocess

@@ -2,7 +2,7 @@
 use test_runtime::Stored;
 
 /// Changes of an image: a name, the place of the bytes, and the bytes.
-static HURTS: [(&[u8], u64, &[u8]); 8] = [
+static HURTS: [(&[u8], u64, &[u8]); 7] = [
     // 17/0 links to itself.
     (b"LOOP", 86016, b"\x11\x00"),
     // Track 1 has a free sector too few in the map at 18/0.
@@ -17,7 +17,6 @@ static HURTS: [(&[u8], u64, &[u8]); 8] = [
     (b"CARDS FREED", 91460, b"\x11\xF0\xFF\x1F"),
     // 17/1, the only side sector of STOCK, with zeros alone.
     (b"SIDE LOST", 86272, &[0; 256]),
-    (b"CARD 3", 86054, b"K,00004,000000001\r"),
 ];
 
 /// Changes an image. Whether there is such a change.

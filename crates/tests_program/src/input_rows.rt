@@ -1,9 +1,10 @@
-//! Standard input that fails while it is read, and a command line without any word.
+//! Standard input that fails while it is read, a script that gives its bytes once, and a command line without any word.
 use crate::scenes::{Rows, hold};
 
 /// The rows, each text under what it shows.
-static ROWS: [Rows; 2] = [
+static ROWS: [Rows; 3] = [
     ("an input that fails is told", FAILING),
+    ("a pipe is read once", ONCE),
     ("no word is told", NO_WORD),
 ];
 
@@ -85,6 +86,13 @@ tells FILE|
 ends 3
 $ ledger_cli show a.d64
 prints TOP 9256|
+";
+
+/// What was read of a pipe isn't there any more.
+const ONCE: &[u8] = b"
+pipe script
+$ ledger_cli dry s.txt
+prints 1,1,DONE,5|
 ";
 
 /// There isn't even the program's name.

@@ -1,13 +1,9 @@
-//! Each subcommand by `job` and `run`, as another program calls them: the status, the lines on both outputs, and what is
-//! left of the file. The values are those of the commands' own rows.
+//! Subcommands that write, by `job` and `run`, as another program calls them: the status, the lines on both outputs, and what
+//! is left of the file. The values are those of the commands' own rows.
 use crate::scenes::{Rows, hold};
 
 /// The rows, each text under what it shows.
-static ROWS: [Rows; 3] = [
-    ("jobs that write are run", WRITING),
-    ("jobs that read are run", READING),
-    ("refused words are numbered", REFUSED),
-];
+static ROWS: [Rows; 1] = [("jobs that write are run", WRITING)];
 
 #[test]
 fn rows_hold(rt: HostRuntime) {
@@ -115,105 +111,4 @@ script 1,A|x|
 run ledger store a.d64 REQUESTS s.txt
 tells RECORDS LINE 2|
 ends 1
-";
-
-/// Jobs that read.
-const READING: &[u8] = b"
-no script
-run ledger list a.d64
-prints 0 \"STOCK LEDGER\" 01 2A|2 \"STOCK\" REL|2 \"REQUESTS\" REL|660 BLOCKS FREE|
-
-no script
-run ledger check a.d64
-prints OK|
-
-no script
-hurt LOOP
-run ledger check a.d64
-prints LOOP 17/0|
-ends 1
-
-no script
-hurt LOOP
-run ledger check --all a.d64
-prints LOOP 17/0 \"STOCK\"|
-ends 1
-
-no script
-run ledger check --all a.d64
-prints OK|
-
-no script
-image short
-run ledger check a.d64
-tells IMAGE SIZE|
-ends 1
-
-no script
-run ledger show a.d64
-prints TOP 9256|
-
-no script
-hurt CARD 3
-run ledger show a.d64
-tells BAD CARD 3|
-ends 1
-
-no script
-run ledger records a.d64 REQUESTS
-prints 1,\"\\ff\"|2,\"\\ff\"|
-
-no script
-run ledger bytes a.d64 REQUESTS
-prints \xff..
-
-no script
-run ledger bytes a.d64 REQUEST
-tells NO FILE|
-ends 1
-
-no script
-run ledger map a.d64
-prints    0         1         2|   012345678901234567890| 1 .....................|..
-
-no script
-run ledger picture a.d64
-prints <!DOCTYPE html>..
-
-# A fresh disk with 64 tills has 8819 records.
-no image
-script 1,1,S,8819,4|1,2,S,8820,4|
-run ledger dry s.txt
-prints 1,1,DONE,4|1,2,72,DISK FULL|
-
-no script
-run ledger check a.d64 a.d64
-tells FILE|
-ends 3
-
-run ledger picture --compare a.d64 s.txt
-tells IMAGE SIZE|
-ends 1
-";
-
-/// Words that ask for no job: its fault's number and status.
-const REFUSED: &[u8] = b"
-run ledger list
-tells fault 1
-ends 2
-
-run ledger --help
-tells fault 1
-
-run ledger format a.d64 --tills 65
-tells fault 2
-ends 2
-
-run ledger records a.d64 \\C1
-tells fault 3
-ends 2
-
-run ledger make a.d64 A --length 255
-tells fault 4
-ends 2
 ";

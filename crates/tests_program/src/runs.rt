@@ -1,7 +1,7 @@
 //! Jobs asked for and run as another program does it: `job` over words, and `run` over the bytes of its files.
 use ledger_cli::{Job, job, run};
 use std::alloc::Global;
-use std::io::{Cursor, Write};
+use std::io::Cursor;
 use test_runtime::{Errors, Kind, Memory, Stored};
 
 /// The words of a command line, with a zero between each two, as texts.
@@ -39,17 +39,13 @@ fn inputs_of(memory: &Memory, job: &Job<'_>) -> (Vec<u8>, Vec<u8>) {
     (image, text)
 }
 
-/// Runs the job that words ask for over the bytes of its files. `a.d64` is the file to write, if it is one. Words that
-/// ask for none end with the fault's number and status. Whether it could be run.
+/// Runs the job that words ask for over the bytes of its files. `a.d64` is the file to write, if it is one.
+/// Whether it could be run.
 pub(crate) fn ran(memory: &Memory, words: &[u8]) -> bool {
     let texts = texts_of(memory.alloc, words);
     let mut err = Errors(&memory.err);
-    let job = match job(memory.alloc, texts.as_slice()) {
-        Ok(job) => job,
-        Err(fault) => {
-            memory.status.set(fault.status());
-            return write!(err, "fault {}", fault.number()).is_ok();
-        }
+    let Ok(job) = job(memory.alloc, texts.as_slice()) else {
+        return false;
     };
     let (image, text) = inputs_of(memory, &job);
     let Ok(mut held) = memory.image.bytes.try_borrow_mut() else {

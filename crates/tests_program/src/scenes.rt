@@ -6,7 +6,7 @@
 //!
 //! What the program finds:
 //! - `image`, `script`, `input`: a file at `a.d64` or `s.txt`, or standard input, with this text
-//! - `no`, `folder`, `read-only` with `image` or `script`: what stands at its path
+//! - `no`, `folder`, `read-only`, `pipe` with `image` or `script`: what stands at its path
 //! - `keep`: the image at `a.d64` is the shop from here on, also for the rows below; `aside`: it is put aside
 //! - `hurt`: a change of the image (`hurts`); `resize`: its bytes, by cutting it or by zeros
 //!
@@ -68,6 +68,7 @@ fn stands(memory: &Memory, kind: &[u8], place: &[u8]) -> bool {
         b"no" => place.hold(Kind::Missing, b""),
         b"folder" => place.turn(Kind::Folder),
         b"read-only" => place.turn(Kind::ReadOnly),
+        b"pipe" => place.turn(Kind::Stream),
         _ => false,
     }
 }
