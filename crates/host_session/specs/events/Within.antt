@@ -34,11 +34,12 @@ IsBounded h ms old new = h.writes new ≤ h.writes old + most_of_run (length ms)
 abbrev pub most_of : Message → ℕ
 most_of m = if is_some m.cut_after then 12186 else 3618
 
--- and that a run of these messages writes, with the opening of its disk
+-- and the most that these messages write
 abbrev pub most_of_each : List Message → ℕ
 most_of_each [] = 0
 most_of_each (m ∷ ms) = most_of m + most_of_each ms
 
+-- the same with the opening of its disk
 abbrev pub most_of_all : List Message → ℕ
 most_of_all ms = 952 + most_of_each ms
 
