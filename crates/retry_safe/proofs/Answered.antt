@@ -1,14 +1,13 @@
 -- Which messages of a run were answered.
 use Rattle.std.proofs.Common.{◌≡◌, ◌≢◌, ◌∙◌, ℕ, Bool, true, false, List, [], ◌∷◌, ◌++◌, None, Option, Some, refl, subst, sym}
 use Rattle.std.proofs.lemmas.Bool.{false≢true}
-use Rattle.std.specs.Prelude.{◌↔◌, IsSome}
+use Rattle.std.specs.Prelude.{IsSome}
 use Rattle.host_session.proofs.lemmas.session.Handled.{media-word, one-bool, syntax-other}
 use Rattle.host_session.proofs.lemmas.session.Replies.{kept-other}
 use Rattle.host_session.proofs.lemmas.session.Settled.{settled-other}
 use Rattle.host_session.specs.events.Counted.{FailsAtLast, IsCounted, NoneGotMedia, answer}
 use Rattle.host_session.specs.events.Events.{Message}
 use Rattle.host_session.specs.session.Handling.{IsMedia}
-use Rattle.host_session.specs.shop.Shop.{Shop, start_of}
 use Rattle.request_cards.specs.Ledgers.{Entry, Start, State, plain, standing, word_in, word_on}
 use Rattle.request_cards.specs.Reading.{request_of}
 use Rattle.request_cards.specs.Requests.{Ask}

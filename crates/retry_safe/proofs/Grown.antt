@@ -1,7 +1,7 @@
 -- What is kept of a till only grows with the requests that count.
 use Rattle.std.proofs.Common.{◌≡◌, ◌≤◌, ◌<◌, ◌+◌, ◌∙◌, ℕ, Bool, true, false, List, [], ◌∷◌, ◌++◌, Option, Some, None, append_assoc}
 use Rattle.std.proofs.Common.{append-nil, arith, eq-eqb, inl, inr, le_refl, ne_eqb, refl, subst, sym}
-use Rattle.std.specs.Prelude.{◌==◌, ◌&&◌, if◌then◌else◌, nat_le, nat_lt}
+use Rattle.std.specs.Prelude.{◌==◌, ◌&&◌, nat_le, nat_lt}
 use Rattle.std.proofs.lemmas.Bool.{cases_Bool, cases_lt, le-ltb, lt-ltb}
 use Rattle.std.proofs.lemmas.Bool.Decides.{eqb_tells, nat_tests}
 use Rattle.request_cards.specs.declared.answer.Answer.{Answer}
@@ -69,6 +69,7 @@ kept_at start tills None prior a x w low other told = elim (cases_lt 1 a.number)
     ahead : nat_lt 1 a.number ≡ true → ⊥
     ahead e = let z : word_on (standing_at None prior a) x ≡ Ahead = rw e refl in
         let y : Ahead ≡ Kept w = sym z ∙ told in cc
+
     none_yet : a.number ≤ 1 → (a.number ≡ 1 → ⊥) → a.number ≤ 0
     none_yet few none = omega (arith, few, none)
 kept_at start tills (Some k) prior a x w low other told = elim (cases_lt k.number a.number) [
@@ -82,8 +83,11 @@ kept_at start tills (Some k) prior a x w low other told = elim (cases_lt k.numbe
     ahead : k.number < a.number → k.number + 1 < a.number → ⊥
     ahead more far =
         let z : word_on (standing_at (Some k) prior a) x ≡ Ahead =
-        rw (le-ltb a.number k.number (omega (arith, more)), ne_eqb a.number k.number (λ e. omega (arith, e, more)),
-        lt-ltb (k.number + 1) a.number far) refl in
+        rw (
+          le-ltb a.number k.number (omega (arith, more)),
+          ne_eqb a.number k.number (λ e. omega (arith, e, more)),
+          lt-ltb (k.number + 1) a.number far,
+        ) refl in
         let y : Ahead ≡ Kept w = sym z ∙ told in cc
 
 -- a request that got a kept answer is kept
@@ -103,6 +107,7 @@ kept_told start state a w told = elim (cases_Bool (next_in start state a)) [
     no_till past =
         let z : word_in start state a ≡ NoTill = rw (lt-ltb start.tills a.till past) refl in
         let y : NoTill ≡ Kept w = sym z ∙ told in cc
+
     here : a.till ≤ start.tills → standing start.tills (state.ledger.kept a.till) (state.prior a.till) a
         ≡ standing_at (state.ledger.kept a.till) (state.prior a.till) a
     here low = rw (le-ltb start.tills a.till low) refl

@@ -1,6 +1,6 @@
 -- What a run leaves over a fuse, of the disk beneath it.
 use Rattle.std.proofs.Common.{◌≡◌, ◌≤◌, ◌∙◌, ◌⊎◌, ⊎_elim, ℕ, Bool, List, [], ◌++◌, ap, append-nil, arith, inl, inr}
-use Rattle.std.proofs.Common.{Err, Ok, length, refl, subst, sym}
+use Rattle.std.proofs.Common.{Err, Ok, refl, subst, sym}
 use Rattle.d64_image.proofs.Moments.{never_failed}
 use Rattle.d64_image.specs.declared.fuse.Fuse.{Fuse}
 use Rattle.d64_image.specs.Fuses.{fuse, fuse_disk, fuse_failures, fuse_left, fuse_limit}

@@ -1,5 +1,5 @@
 -- The promise can be met: nothing was played, and an empty message was answered.
-use Rattle.std.proofs.Common.{◌≡◌, ◌∙◌, ◌⊎◌, ℕ, List, [], ◌++◌, None, Ok, Option, Some, ap, false, inl, refl, subst, sym}
+use Rattle.std.proofs.Common.{◌≡◌, ◌∙◌, ◌⊎◌, ℕ, [], ◌++◌, None, Ok, ap, false, inl, refl, subst, sym}
 use Rattle.std.proofs.lemmas.Option.{none-some}
 use Rattle.std.specs.Fmt.{digits}
 use Rattle.std.specs.Prelude.{option_to_list}
@@ -8,7 +8,7 @@ use Rattle.d64_image.specs.Images.{Image}
 use Rattle.host_session.proofs.lemmas.Held.{start}
 use Rattle.host_session.specs.shop.Shop.{IsSettled, IsShop, Shop, start_of, with_state}
 use Rattle.request_cards.proofs.Plain.{plain_nil}
-use Rattle.request_cards.specs.Ledgers.{State, plain, reply}
+use Rattle.request_cards.specs.Ledgers.{plain, reply}
 use Rattle.request_cards.specs.Reading.{amounts, kind_before, kind_of, request_of}
 use Rattle.request_cards.specs.declared.reply.Reply.TheVariants.{Syntax, Told}
 use Rattle.request_cards.specs.declared.reply.Word.TheVariants.{Media}

@@ -1,6 +1,6 @@
 -- The promise, of what a run leaves, openings behind it, and a message asked again.
 use Rattle.std.proofs.Common.{◌≡◌, ◌∙◌, ◌≤◌, ◌<◌, ◌+◌, ⊎_elim, ℕ, List, [], ◌∷◌, ◌++◌, Option, Some, None, Ok, Err, ap, append-nil}
-use Rattle.std.proofs.Common.{arith, inl, inr, length, map, refl, subst, sym}
+use Rattle.std.proofs.Common.{arith, inl, inr, length, refl, subst, sym}
 use Rattle.std.proofs.lemmas.Grind.{flat_map-append}
 use Rattle.std.specs.Prelude.{◌≢◌, ◌⊎◌, IfErr}
 use Rattle.d64_image.proofs.Moments.{never_failed_first, never_failed_rest}
@@ -11,7 +11,7 @@ use Rattle.host_session.proofs.lemmas.runs.OneMore.{goes_on}
 use Rattle.host_session.specs.Held.{HeldOnly}
 use Rattle.host_session.specs.declared.runs.plays.PlayFault.TheVariants as faults
 use Rattle.host_session.specs.events.Events.{Message}
-use Rattle.host_session.specs.session.Handling.{IsBeforeOrAfter, IsMedia, after_of}
+use Rattle.host_session.specs.session.Handling.{IsBeforeOrAfter, after_of}
 use Rattle.host_session.specs.shop.Shop.{IsSettled, IsShop, Shop, start_of, with_state}
 use Rattle.request_cards.proofs.Messages.{request_is}
 use Rattle.request_cards.proofs.Plain.{message_more, plain_nil}
@@ -23,8 +23,8 @@ use Rattle.retry_safe.proofs.Answered.{none_stopped}
 use Rattle.retry_safe.proofs.Repeats.{told_so_again}
 use Rattle.retry_safe.specs.Asked.{IsAsked}
 use Rattle.retry_safe.specs.Left.{AreAllOrStopped, AreTurns, IsAfterSome, IsLeft, shop_after, shop_after_both}
-use Rattle.retry_safe.specs.RetrySafe.{IfAnswered, IsOpened, LacksMemory, Reopened, RetrySafe, left_of}
-use Rattle.retry_safe.specs.Turns.{IsLastOfTill, Turn, asks_in, counted_in, messages_in}
+use Rattle.retry_safe.specs.RetrySafe.{IfAnswered, LacksMemory, Reopened, RetrySafe, left_of}
+use Rattle.retry_safe.specs.Turns.{IsLastOfTill, Turn, counted_in}
 
 -- the reply to a message looks at the limits of the shop alone
 pub replies_on : (s : Shop) (state : State) (o : Option Ask)

@@ -1,7 +1,6 @@
 -- No history with such a fault is safe.
 use Rattle.std.proofs.Common.{◌≡◌, ◌≢◌, ◌≤◌, ◌<◌, ◌+◌, ◌∙◌, ⊎_elim, ℕ, List, [], ◌∷◌, ◌++◌, Err, None, Ok, Option, Some, ap}
-use Rattle.std.proofs.Common.{append_assoc, append-nil, arith, length, length-append, map, refl, subst, sym}
-use Rattle.std.proofs.lemmas.List.{length-map}
+use Rattle.std.proofs.Common.{append_assoc, append-nil, arith, length, length-append, refl, subst, sym}
 use Rattle.std.specs.Prelude.{option_to_list}
 use Rattle.d64_image.specs.History.{History}
 use Rattle.d64_image.specs.Images.{Image}
@@ -138,7 +137,8 @@ module _ {D : Type 0} (h : History D) (s : Shop) (events : List Message) (power 
   lost t x shop =
       let Reply_is = Told x.till x.number (Kept x.answer) in
       let at = has_turn safe.turns x.before x.later Reply_is
-      (cancelled old (replies_in safe.turns) (x.before ++ Reply_is ∷ x.later) (sym safe.told ∙ x.told)) in
+      (cancelled old (replies_in safe.turns) (x.before ++ Reply_is ∷ x.later) (sym safe.told ∙ x.told
+      ∙ append_assoc old x.before (Reply_is ∷ x.later))) in
       let applied : Applied s (counted_in at.first) at.turn =
       each_at (λ before t. IsAnswer t.reply → Applied s before t) [] at.first at.turn at.later
       (subst (λ (ts : List Turn). EachTurn (λ before t. IsAnswer t.reply → Applied s before t) [] ts) at.parts

@@ -1,6 +1,6 @@
 -- Where there is power enough, events are received and answered.
-use Rattle.std.proofs.Common.{◌≡◌, ◌≤◌, ◌<◌, ◌+◌, ◌∙◌, ◌⊎◌, ⊎_elim, ℕ, zero, suc, List, [], ◌∷◌, ◌++◌, ap, arith, length, length-append}
-use Rattle.std.proofs.Common.{map, refl, subst, sym, take}
+use Rattle.std.proofs.Common.{◌≡◌, ◌≤◌, ◌<◌, ◌∙◌, ◌⊎◌, ⊎_elim, ℕ, zero, suc, List, [], ◌∷◌, ◌++◌, ap, arith, length}
+use Rattle.std.proofs.Common.{map, subst, sym, take}
 use Rattle.std.proofs.lemmas.Bool.{cases_lt}
 use Rattle.std.proofs.lemmas.List.{length-map}
 use Rattle.std.specs.List.{AllByRecursion}
@@ -73,8 +73,10 @@ module _ {D : Type 0} (h : History D) (s : Shop) (events : List Message) (power 
     where
       turns : List Turn
       turns = safe.turns
+
       same : told ≡ replies_in turns
       same = cancelled old told (replies_in turns) safe.told
+
       by_length : power ≤ most_of_all (messages_in turns) → (n < length turns) ⊎ (length turns ≤ n)
           → AreToldFirst events n (replies_in turns)
       by_length few = ⊎_elim

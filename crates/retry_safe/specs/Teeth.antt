@@ -1,12 +1,12 @@
 -- What the laws about `RetrySafe` speak of. All of it is our own.
-use Rattle.std.specs.Prelude.{◌≡◌, ◌<◌, ◌≤◌, ◌⊎◌, ◌+◌, ◌++◌, ℕ, List, [], ◌∷◌, length, take}
+use Rattle.std.specs.Prelude.{◌≡◌, ◌<◌, ◌≤◌, ◌++◌, ℕ, List, ◌∷◌, length, take}
 use Rattle.std.specs.List.{AllByRecursion}
 use Rattle.d64_image.specs.History.{History, NeverFailed}
 use Rattle.d64_image.specs.Images.{Image}
 use Rattle.host_session.specs.events.Events.{Message}
 use Rattle.host_session.specs.events.Quiet.{AreUncut}
 use Rattle.host_session.specs.events.Within.{most_of_all}
-use Rattle.host_session.specs.shop.Shop.{IsShop, Shop}
+use Rattle.host_session.specs.shop.Shop.{Shop}
 use Rattle.request_cards.specs.Ledgers.{number_of}
 use Rattle.request_cards.specs.declared.answer.Answer.{Answer}
 use Rattle.request_cards.specs.declared.reply.Reply.{Reply}

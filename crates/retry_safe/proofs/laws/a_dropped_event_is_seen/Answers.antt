@@ -1,5 +1,5 @@
 -- As many were told.
-use Rattle.std.proofs.Common.{arith, ◌≤◌, length}
+use Rattle.std.proofs.Common.{arith}
 use Rattle.retry_safe.proofs.TeethPower.{enough}
 use Rattle.retry_safe.proofs.laws.a_dropped_event_is_seen.Goals as goal
 

@@ -1,5 +1,5 @@
 -- The list had to grow.
-use Rattle.std.proofs.Common.{arith, ◌<◌, ◌+◌, length}
+use Rattle.std.proofs.Common.{arith}
 use Rattle.retry_safe.proofs.laws.memory_blamed_is_seen.Goals as goal
 
 pub returns : goal.returns
