@@ -34,7 +34,7 @@ ROOTS = (
     ("retry_safe", "retry_after_power_loss"),
 )
 # the most lines of code that the page may have
-LIMIT = 950
+LIMIT = 960
 INTRODUCTION = """# The core
 
 The headline is said by [the contracts](#the-contracts) at the end of this page: the device, and one call. They rest on the definitions above,

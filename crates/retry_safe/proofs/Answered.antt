@@ -7,9 +7,7 @@ use Rattle.host_session.proofs.lemmas.session.Replies.{kept-other}
 use Rattle.host_session.proofs.lemmas.session.Settled.{settled-other}
 use Rattle.host_session.specs.events.Counted.{FailsAtLast, IsCounted, NoneGotMedia, answer}
 use Rattle.host_session.specs.events.Events.{Message}
-use Rattle.host_session.specs.events.Quiet.{AreUncut}
 use Rattle.host_session.specs.session.Handling.{IsMedia}
-use Rattle.host_session.specs.shop.Shop.{Shop, start_of}
 use Rattle.request_cards.specs.Ledgers.{Entry, Start, State, plain, standing, word_in, word_on}
 use Rattle.request_cards.specs.Reading.{request_of}
 use Rattle.request_cards.specs.Requests.{Ask}
@@ -20,7 +18,7 @@ use Rattle.request_cards.specs.declared.reply.Word.TheVariants.{Media}
 use Rattle.request_cards.specs.declared.standing.Standing.{Standing}
 use Rattle.request_cards.specs.declared.standing.Standing.TheVariants.{New, Settled}
 use Rattle.retry_safe.proofs.Received.{turns_of}
-use Rattle.retry_safe.specs.Turns.{AreAnswered, EachTurn, IsAnswer, IsStopped, Turn}
+use Rattle.retry_safe.specs.Turns.{AreAnswered, EachTurn, IsAnswer, IsStopped, IsToldSo, Turn}
 
 -- the device failed in no message without a reset, but perhaps in the last one
 abbrev pub FailsOnlyAtLast : List Message → List Bool → Type 0
@@ -76,6 +74,12 @@ no_cut start state m false (Some a) is uncut e =
     let other : Told a.till a.number (word_in start state a) ≡ Cut = sym reply ∙ e in
     cc
 
+-- and one with a reset gets it
+is_cut : (start : Start) (state : State) (m : Message) (f : Bool) (after : Option ℕ) → m.cut_after ≡ after
+    → m.cut_after ≢ None → answer start state m f ≡ Cut
+is_cut start state m f None is reset = absurd (reset is)
+is_cut start state m f (Some n) is reset = rw is refl
+
 -- MEDIA is the reply if the device failed in a message without a reset
 media_is : (start : Start) (state : State) (m : Message) (f : Bool) (o : Option Ask) (after : Option ℕ)
     → request_of m.bytes ≡ o → m.cut_after ≡ after → IsMedia (answer start state m f) → (m.cut_after ≡ None) × (f ≡ true)
@@ -98,7 +102,10 @@ are_answered start before [] fs cs at = tt
 are_answered start before (m ∷ ms) [] cs at = tt
 are_answered start before (m ∷ ms) (f ∷ fs) [] at = tt
 are_answered start before (m ∷ ms) (f ∷ fs) (c ∷ cs) at = (
-  λ e uncut. no_cut start (plain start before) m f (request_of m.bytes) refl uncut e,
+  (
+    λ e uncut. no_cut start (plain start before) m f (request_of m.bytes) refl uncut e,
+    λ reset. is_cut start (plain start before) m f m.cut_after refl reset,
+  ),
   λ x.
       let failed = media_is start (plain start before) m f (request_of m.bytes) m.cut_after refl refl x in
       none_left (before ++ c) ms fs cs (at.0 failed.0 failed.1),
@@ -110,19 +117,19 @@ are_answered start before (m ∷ ms) (f ∷ fs) (c ∷ cs) at = (
     none_left bs [] gs ds is = refl
     none_left bs (x ∷ xs) gs ds is = absurd cc
 
--- each was answered, if none has a reset and the device failed in none
+-- each without a reset was answered, if the device failed in none
 pub all_answered : (start : Start) (before : List Ask) (ms : List Message) (fs : List Bool) (cs : List (List Ask))
-    → AreUncut ms → NoneGotMedia ms fs → EachTurn (λ _ t. IsAnswer t.reply) before (turns_of start before ms fs cs)
-all_answered start before [] fs cs uncut none = tt
-all_answered start before (m ∷ ms) [] cs uncut none = tt
-all_answered start before (m ∷ ms) (f ∷ fs) [] uncut none = tt
-all_answered start before (m ∷ ms) (f ∷ fs) (c ∷ cs) uncut none = (
-  (
-    no_cut start (plain start before) m f (request_of m.bytes) refl uncut.0,
+    → NoneGotMedia ms fs → EachTurn IsToldSo before (turns_of start before ms fs cs)
+all_answered start before [] fs cs none = tt
+all_answered start before (m ∷ ms) [] cs none = tt
+all_answered start before (m ∷ ms) (f ∷ fs) [] none = tt
+all_answered start before (m ∷ ms) (f ∷ fs) (c ∷ cs) none = (
+  λ uncut. (
+    no_cut start (plain start before) m f (request_of m.bytes) refl uncut,
     λ x. one-bool (media_is start (plain start before) m f (request_of m.bytes) m.cut_after refl refl x).1
-        (none.0 uncut.0),
+        (none.0 uncut),
   ),
-  all_answered start (before ++ c) ms fs cs uncut.1 none.1,
+  all_answered start (before ++ c) ms fs cs none.1,
 )
 
 -- the last of these messages wasn't answered; without any, this holds

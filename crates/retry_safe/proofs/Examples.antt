@@ -69,17 +69,20 @@ media_is_no_answer h = h.1 (1, 1, refl)
 
 -- CUT is the reply to a message with a reset alone, and MEDIA only to the last one
 pub no_cut_without_a_reset : AreAnswered (record set_to_7 { reply = Cut } ∷ []) → ⊥
-no_cut_without_a_reset h = h.0 refl refl
+no_cut_without_a_reset h = h.0.0 refl refl
+
+pub no_answer_with_a_reset : AreAnswered (record set_to_7 { message = cut_at (codes "1,1,S,15,7") 1 } ∷ []) → ⊥
+no_answer_with_a_reset h = let e : Told 1 1 (Kept (told.Done 7)) ≡ Cut = h.0.1 (λ none. cc) in cc
 
 pub no_media_before_another : AreAnswered (record set_to_7 { reply = Told 1 1 Media } ∷ set_to_7 ∷ []) → ⊥
 no_media_before_another h = let e : set_to_7 ∷ [] ≡ [] = h.1 (1, 1, refl) in cc
 
 pub last_may_get_media : AreAnswered (cut_receive [] ∷ record set_to_7 { reply = Told 1 1 Media } ∷ [])
 last_may_get_media = (
-  λ e none. cc,
+  ((λ e none. cc), (λ reset. refl)),
   λ m. let e : Cut ≡ Told m.0 m.1 Media = m.2 in absurd cc,
   (
-    λ e. let z : Told 1 1 Media ≡ Cut = e in absurd cc,
+    ((λ e. let z : Told 1 1 Media ≡ Cut = e in absurd cc), (λ reset. absurd (reset refl))),
     λ m. refl,
     tt,
   ),

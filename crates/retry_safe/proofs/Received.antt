@@ -8,7 +8,7 @@ use Rattle.host_session.specs.events.Counted.{IsCounted, IsIn, MayBeIn, MayCount
 use Rattle.host_session.specs.events.Events.{Message}
 use Rattle.host_session.specs.session.Handling.{is_first_set}
 use Rattle.host_session.specs.shop.Shop.{Shop, start_of}
-use Rattle.retry_safe.specs.Turns.{Answered, CountsOnce, EachTurn, IsAnswer, IsOnce, Turn, counted_in}
+use Rattle.retry_safe.specs.Turns.{Answered, CountsOnce, EachTurn, IsAnswer, IsOnce, Turn, counted_in, messages_in}
 
 -- what came of these messages, one by one
 abbrev pub turns_of : Start → List Ask → List Message → List Bool → List (List Ask) → List Turn
@@ -18,7 +18,7 @@ turns_of start before (m ∷ ms) (f ∷ fs) (c ∷ cs) =
 turns_of start before _ _ _ = []
 
 pub messages_are : (start : Start) (before : List Ask) (ms : List Message) (fs : List Bool) (cs : List (List Ask))
-    → IsCounted start before ms fs cs → map (λ t. t.message) (turns_of start before ms fs cs) ≡ ms
+    → IsCounted start before ms fs cs → messages_in (turns_of start before ms fs cs) ≡ ms
 messages_are start before [] [] [] is = refl
 messages_are start before (m ∷ ms) (f ∷ fs) (c ∷ cs) is =
     ap (λ xs. m ∷ xs) (messages_are start (before ++ c) ms fs cs is.1)

@@ -10,7 +10,7 @@ use Rattle.request_cards.specs.declared.answer.Answer.{Answer}
 use Rattle.request_cards.specs.declared.reply.Reply.TheVariants.{Told}
 use Rattle.request_cards.specs.declared.reply.Word.{Word}
 use Rattle.request_cards.specs.declared.reply.Word.TheVariants.{Ahead, Kept, NoTill}
-use Rattle.request_cards.specs.declared.standing.Standing.TheVariants.{Settled}
+use Rattle.request_cards.specs.declared.standing.Standing.TheVariants.{New, Settled}
 use Rattle.request_cards.specs.Ledgers.{Entry, Start, State, after, applied, entry_of, next_in, number_of, plain, reply}
 use Rattle.request_cards.specs.Ledgers.{standing, standing_at, told_again, told_late, word_in, word_on}
 use Rattle.request_cards.specs.Requests.{Ask, Body, same_body, same_kind}
@@ -143,16 +143,39 @@ counted_settles start state a low = elim (cases_Bool (next_in start state a)) [
         let x = settles start.tills (state.ledger.kept a.till) (state.prior a.till) a low e in
         rw (e, x.1) refl
 
--- asked again, before another request of its till, it is told so
-pub told_so_again : (start : Start) (before later : List Ask) (a : Ask) → 1 ≤ a.number → NoneOfTill a later
-    → reply start (before ++ a ∷ later) (Some a) ≡ reply start before (Some a)
-told_so_again start before later a low none =
+-- and stays so before another request of its till
+settled_so : (start : Start) (before later : List Ask) (a : Ask) → 1 ≤ a.number → NoneOfTill a later
+    → IsSettledTo start (plain start (before ++ a ∷ later)) a (word_in start (plain start before) a)
+settled_so start before later a low none =
     let w = word_in start (plain start before) a in
     let first : IsSettledTo start (plain start (before ++ a ∷ [])) a w =
     subst (λ (state : State). IsSettledTo start state a w) (sym (plain_more start before a))
     (counted_settles start (plain start before) a low) in
-    let all : IsSettledTo start (plain start (before ++ a ∷ later)) a w =
     subst (λ (xs : List Ask). IsSettledTo start (plain start xs) a w) (append_assoc before (a ∷ []) later)
-    (all_settled start (before ++ a ∷ []) later a w none first) in
+    (all_settled start (before ++ a ∷ []) later a w none first)
+
+-- asked again then, it is told so
+pub told_so_again : (start : Start) (before later : List Ask) (a : Ask) → 1 ≤ a.number → NoneOfTill a later
+    → reply start (before ++ a ∷ later) (Some a) ≡ reply start before (Some a)
+told_so_again start before later a low none =
     ap (λ x. Told a.till a.number (word_on x (outcome (plain start (before ++ a ∷ later)).ledger.cards start.top a.body).0))
-    all
+    (settled_so start before later a low none)
+
+-- and it counts no more
+pub counts_no_more : (start : Start) (before later : List Ask) (a : Ask) → 1 ≤ a.number → NoneOfTill a later
+    → plain start ((before ++ a ∷ later) ++ a ∷ []) ≡ plain start (before ++ a ∷ later)
+counts_no_more start before later a low none =
+    let state = plain start (before ++ a ∷ later) in
+    plain_more start (before ++ a ∷ later) a ∙ stays (next_in start state a) refl
+  where
+    stays : (c : Bool) → next_in start (plain start (before ++ a ∷ later)) a ≡ c
+        → after start (plain start (before ++ a ∷ later)) a ≡ plain start (before ++ a ∷ later)
+    stays false e = rw e refl
+    stays true e =
+        let state = plain start (before ++ a ∷ later) in
+        let number = next_number a.till start.tills a.number (number_of (state.ledger.kept a.till)) e in
+        let new : standing start.tills (state.ledger.kept a.till) (state.prior a.till) a ≡ New =
+        rw (there a.till start.tills a.number (number_of (state.ledger.kept a.till)) e)
+        (next_new (state.ledger.kept a.till) (state.prior a.till) a number) in
+        let z : New ≡ Settled (word_in start (plain start before) a) = sym new ∙ settled_so start before later a low none in
+        absurd cc

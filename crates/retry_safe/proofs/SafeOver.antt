@@ -1,14 +1,14 @@
 -- The promise, of what a service left and a message asked again.
 use Rattle.std.proofs.Common.{◌≡◌, ◌⊎◌, ◌≤◌, ◌+◌, ◌∙◌, ℕ, List, [], ◌∷◌, ◌++◌, Err, Ok, Result, ap, append-nil, arith, inl, inr}
 use Rattle.std.proofs.Common.{length, map, refl, subst, sym, true, ⊎_elim}
-use Rattle.std.specs.Prelude.{IfErr, IfOk, OnSome, option_to_list}
+use Rattle.std.specs.Prelude.{IfErr, IfOk, None, OnSome, Option, Some, option_to_list}
 use Rattle.std.specs.Io.KnownBytes.{IsAtEnd}
 use Rattle.std.proofs.lemmas.List.{length-append, length-map, map-append}
 use Rattle.d64_image.specs.History.{NeverFailed}
+use Rattle.d64_image.specs.Images.{Image}
 use Rattle.d64_image.specs.Memory.{disk_image, memory}
 use Rattle.d64_image.specs.declared.mem_disk.MemDisk.{MemDisk}
 use Rattle.host_session.proofs.lemmas.runs.OneMore.{goes_on}
-use Rattle.host_session.proofs.lemmas.shop.Shops.{IsShop-one}
 use Rattle.host_session.specs.declared.faults.OpenFault.{OpenFault}
 use Rattle.host_session.specs.declared.runs.event_loop.LoopFault.{LoopFault}
 use Rattle.host_session.specs.declared.runs.event_loop.LoopFault.TheVariants as loop
@@ -27,27 +27,31 @@ use Rattle.request_cards.specs.Ledgers.{plain, reply}
 use Rattle.request_cards.specs.Reading.{request_of}
 use Rattle.request_cards.specs.Requests.{Ask}
 use Rattle.request_cards.specs.declared.reply.Reply.{Reply}
-use Rattle.retry_safe.proofs.Counting.{applied_lines, as_many_turns, asks_of, counted_lines, line_turns, turn_asks}
-use Rattle.retry_safe.proofs.Counting.{turn_messages, unfailed}
+use Rattle.retry_safe.proofs.Counting.{applied_lines, as_many_turns, line_turns, turn_asks, turn_messages}
 use Rattle.retry_safe.proofs.Fronts.{Front, of_first, of_none, with_told}
-use Rattle.retry_safe.specs.RetrySafeOver.{AreKept, AreRead, AreToldOver, HasGone, IsToldWhole, RetrySafeOver}
-use Rattle.retry_safe.proofs.Received.{counts_are}
-use Rattle.retry_safe.proofs.Safe.{all_so, answered_so, opened_so, repeats, replies_on}
+use Rattle.retry_safe.specs.RetrySafeOver.{AreKept, AreRead, AreToldOver, HasGone, IsAnsweredIfHad, IsToldWhole, RetrySafeOver}
+use Rattle.retry_safe.proofs.Safe.{all_so, answered_so, repeats, replies_on}
 use Rattle.retry_safe.specs.Asked.{IsAsked}
-use Rattle.retry_safe.specs.Left.{IsReceived}
-use Rattle.retry_safe.specs.RetrySafe.{Reopened, left_of}
-use Rattle.retry_safe.specs.Turns.{asks_in, counted_in}
+use Rattle.retry_safe.specs.Left.{IsReceived, shop_after_both}
+use Rattle.retry_safe.specs.RetrySafe.{IsOpened, Reopened, left_of}
+use Rattle.retry_safe.specs.Turns.{asks_in}
 use Rattle.line_text.specs.scripts.Lines.{lines}
 use Rattle.shop_log.specs.ImageLogs.{LogHistory}
 
 -- the cards once the message was answered
 cards_after : (s : Shop) (ls : List (List ℕ)) (again : List ℕ)
     → after_of (shop_behind s ls) again
-    ≡ with_state s (plain (start_of s) (counted_in (line_turns s ls) ++ asks_in again))
+    ≡ shop_after_both s (line_turns s ls) again
 cards_after s ls again =
     ap (with_state s) (goes_on s (plain (start_of s) (requests_of ls)) (request_of again)
     ∙ sym (message_more (start_of s) (requests_of ls) (request_of again)))
     ∙ ap (λ (asks : List Ask). with_state s (plain (start_of s) (asks ++ asks_in again))) (turn_asks s ls)
+
+-- a disk that was had was opened
+opened_if_had : (leaving : Option Image → Type 0) (result : Reopened MemDisk) → IsOpened result
+    → IsAnsweredIfHad leaving result
+opened_if_had leaving (Ok x) o = o
+opened_if_had leaving (Err e) o = absurd o
 
 -- how the reading of lines ended
 by_fault : (All Over Read Told Many : Type 0) (fault : LoopFault) → (fault ≡ loop.Device → Over)
@@ -92,7 +96,7 @@ module _ {L R T : Type 0} (h : LogHistory L) (i : BatchInput R) (o : LogOutput L
     (old_in new_in : R) (old_out new_out : T) (ended : Result MemDisk (LoopFault × MemDisk))
     (served : IsServedOver h i o disk old new old_in new_in old_out new_out ended) (s : Shop)
     (shop : IsShop (disk_image disk) s) (stood : h.stands_for old (disk_image disk)) (at : ℕ)
-    (began : h.moment old ≤ at) (again : List ℕ) where
+    (began : h.moment old ≤ at) (again : List ℕ) (leaving : Option Image → Type 0) where
   abbrev Ls : List (List ℕ)
   Ls = lines served.handled
 
@@ -150,10 +154,11 @@ module _ {L R T : Type 0} (h : LogHistory L) (i : BatchInput R) (o : LogOutput L
 
   -- what is left was opened
   pub asked_again : (left : MemDisk) (leaves : (t : ℕ) → t ≤ at → h.left_since new t (disk_image left))
-      (result : Reopened MemDisk) → ((t : Shop) → IsShop (disk_image left) t → IsAsked memory t again left result)
-      → RetrySafeOver h i o s again at new old_in new_in old_out new_out result
+      → leaving (Some (disk_image left))
+      → (result : Reopened MemDisk) → ((t : Shop) → IsShop (disk_image left) t → IsAsked memory t again left result)
+      → RetrySafeOver h i o leaving s again at new old_in new_in old_out new_out result
   unfolding read
-  asked_again left leaves result asked =
+  asked_again left leaves given result asked =
       let safe = served.safe s shop stood in
       let first : Front s Ls 0 (disk_image left) = ⊎_elim
       (λ same. of_none s Ls (disk_image left) (subst (λ c. IsShop c s) (sym same) shop))
@@ -170,14 +175,14 @@ module _ {L R T : Type 0} (h : LogHistory L) (i : BatchInput R) (o : LogOutput L
         turns = turns;
         received = received ls f.rest f.parts told_by.1;
         told = told ls f.rest f.parts told_by.1;
-        gone = all_so result (HasGone h s at new turns) (record {
+        gone = all_so result (HasGone h leaving s at new turns) (record {
           image = disk_image left;
+          given = given;
           left = leaves;
           shop = subst (λ (asks : List Ask). IsShop (disk_image left) (with_state s (plain (start_of s) asks))) (turn_asks s ls) f.shop;
         });
-        answered = applied_lines s [] ls;
-        counts = counts_are s [] (map uncut ls) (unfailed ls) (asks_of ls) (counted_lines (start_of s) [] ls);
-        opens = opened_so result (is.opens (never_failed left (left_of result)));
+        applied = applied_lines s [] ls;
+        opens = opened_if_had leaving result (is.opens (never_failed left (left_of result)));
         cards = answered_so result _ _ (λ d r y. subst (IsSettled (disk_image d)) (cards_after s ls again) y.1) is.answer;
         repeat = (
           answered_so result _ _
@@ -188,14 +193,12 @@ module _ {L R T : Type 0} (h : LogHistory L) (i : BatchInput R) (o : LogOutput L
               ∙ ap (λ (asks : List Ask). reply (start_of s) asks (request_of again)) (turn_asks s ls)
               ∙ repeats s turns again before last) is.answer,
         );
-        owners = answered_so result _ _ (λ d r y. y.1.clean) is.answer;
-        others = answered_so result _ _ (λ d r y t x. ap (λ z. z.rest) (IsShop-one (disk_image d) t _ x y.1.shop)) is.answer;
       }
 
   -- it couldn't be had
-  pub not_had : (d : MemDisk) → RetrySafeOver h i o s again at new old_in new_in old_out new_out (Err (faults.NoMemory, d))
+  pub not_had : leaving None → (d : MemDisk) → RetrySafeOver h i o leaving s again at new old_in new_in old_out new_out (Err (faults.NoMemory, d))
   unfolding read
-  not_had d =
+  not_had none d =
       let kept = kept_all h at (length Ls) 0 (served.turns ++ option_to_list served.last) (omega (arith, few_told)) in
       record {
         read = read;
@@ -203,11 +206,8 @@ module _ {L R T : Type 0} (h : LogHistory L) (i : BatchInput R) (o : LogOutput L
         received = received Ls [] (append-nil Ls) kept;
         told = told Ls [] (append-nil Ls) kept;
         gone = tt;
-        answered = applied_lines s [] Ls;
-        counts = counts_are s [] (map uncut Ls) (unfailed Ls) (asks_of Ls) (counted_lines (start_of s) [] Ls);
-        opens = refl;
+        applied = applied_lines s [] Ls;
+        opens = (refl, none);
         cards = tt;
         repeat = (tt, λ before last. tt);
-        owners = tt;
-        others = tt;
       }

@@ -1,25 +1,27 @@
 -- The promise of the product for a shop that is served over a log, as one record. All of it is our own.
-use Rattle.std.specs.Prelude.{◌≡◌, ◌⊎◌, ◌≤◌, ◌+◌, ◌++◌, ℕ, List, [], ◌∷◌, None, OnSome, Option, length, map}
+use Rattle.std.specs.Prelude.{◌≡◌, ◌⊎◌, ◌≤◌, ◌+◌, ◌++◌, ℕ, Err, List, [], ◌∷◌, None, Ok, OnSome, Option, Result, Some, length, map}
 use Rattle.std.specs.Prelude.{option_to_list, true}
 use Rattle.std.specs.Io.KnownBytes.{Consumes, IsAtEnd}
 use Rattle.d64_image.specs.Images.{Image}
 use Rattle.d64_image.specs.Memory.{disk_image}
+use Rattle.d64_image.specs.declared.faults.ImageFault.{ImageFault}
 use Rattle.d64_image.specs.declared.mem_disk.MemDisk.{MemDisk}
-use Rattle.disk_layout.specs.Clean.{IsClean}
 use Rattle.host_session.specs.events.Events.{uncut}
 use Rattle.host_session.specs.runs.Chains.{told_in}
-use Rattle.host_session.specs.shop.Shop.{IsSettled, IsShop, Shop, start_of, with_state}
+use Rattle.host_session.specs.declared.runs.plays.PlayFault.TheVariants as faults
+use Rattle.host_session.specs.session.Handling.{IsMedia}
+use Rattle.host_session.specs.shop.Shop.{IsSettled, IsShop, Shop, start_of}
 use Rattle.line_server.specs.Batches.{BatchInput}
 use Rattle.line_server.specs.Read.{AreWhole, LacksLf}
 use Rattle.line_server.specs.logged.Reporting.{IsToldTo, LogOutput}
 use Rattle.line_server.specs.logged.Serves.{AreFirst}
-use Rattle.request_cards.specs.Ledgers.{plain, replies, reply}
+use Rattle.request_cards.specs.Ledgers.{replies, reply}
 use Rattle.request_cards.specs.Reading.{request_of}
 use Rattle.request_cards.specs.Requests.{Ask}
 use Rattle.request_cards.specs.declared.reply.Reply.{Reply}
-use Rattle.retry_safe.specs.Left.{IsReceived}
-use Rattle.retry_safe.specs.RetrySafe.{IfAnswered, IsAnswered, Reopened}
-use Rattle.retry_safe.specs.Turns.{Applied, CountsOnce, EachTurn, IsLastOfTill, Turn, asks_in, counted_in}
+use Rattle.retry_safe.specs.Left.{IsReceived, shop_after, shop_after_both}
+use Rattle.retry_safe.specs.RetrySafe.{IfAnswered, Reopened}
+use Rattle.retry_safe.specs.Turns.{Applied, EachTurn, IsLastOfTill, Turn, counted_in}
 use Rattle.line_text.specs.scripts.Lines.{lines}
 use Rattle.shop_log.specs.ImageLogs.{LogHistory}
 
@@ -58,39 +60,47 @@ pub record AreRead {L R T : Type 0} (h : LogHistory L) (i : BatchInput R) (o : L
   pub all : OnSome (i.remaining old) (IsAtEnd (i.remaining new)) ⊎ ((h.is_over log ≡ true)
       ⊎ ((i.has_failed new ≡ true) ⊎ ((o.has_failed out ≡ true) ⊎ (18446744073709551615 ≤ length (lines handled)))))
 
--- Power went at that moment of the log, and left the disk of the shop after these turns.
-pub record HasGone {L : Type 0} (h : LogHistory L) (s : Shop) (at : ℕ) (log : L) (turns : List Turn) : Type 0 where
+-- the image of a disk, if it could be had
+abbrev pub image_had : Result MemDisk ImageFault → Option Image
+image_had (Ok disk) = Some (disk_image disk)
+image_had (Err e) = None
+
+-- Power went at that moment of the log, and what it left is the disk of the shop after these turns.
+pub record HasGone {L : Type 0} (h : LogHistory L) (leaving : Option Image → Type 0) (s : Shop) (at : ℕ) (log : L)
+    (turns : List Turn) : Type 0 where
   pub image : Image
+  pub given : leaving (Some image)
   pub left : (t : ℕ) → t ≤ at → h.left_since log t image
-  pub shop : IsShop image (with_state s (plain (start_of s) (counted_in turns)))
+  pub shop : IsShop image (shop_after s turns)
+
+-- the disk was opened and the till was answered, or the disk couldn't be had
+abbrev pub IsAnsweredIfHad : (Option Image → Type 0) → Reopened MemDisk → Type 0
+IsAnsweredIfHad leaving (Ok x) = ¬ (IsMedia x.1)
+IsAnsweredIfHad leaving (Err e) = (e.0 ≡ faults.NoMemory) × leaving None
 
 -- Lines were served over a log that stood for the disk of a shop s, and power went at the moment `at`. Then the disk that
 -- it left was opened, and a till sent a message again. The fields of the same names are those of `RetrySafe`.
-pub record RetrySafeOver {L R T : Type 0} (h : LogHistory L) (i : BatchInput R) (o : LogOutput L T) (s : Shop)
-    (again : List ℕ) (at : ℕ) (log : L) (old_in new_in : R) (old new : T) (result : Reopened MemDisk) : Type 0 where
+pub record RetrySafeOver {L R T : Type 0} (h : LogHistory L) (i : BatchInput R) (o : LogOutput L T)
+    (leaving : Option Image → Type 0) (s : Shop) (again : List ℕ) (at : ℕ) (log : L) (old_in new_in : R) (old new : T)
+    (result : Reopened MemDisk) : Type 0 where
   -- Whatever the lines: these were read. A beginning of them counts, and no other.
   pub read : AreRead h i o log old_in new_in new
   pub turns : List Turn
   pub received : IsReceived (map uncut (lines read.handled)) turns
+  -- Each of these counts once, with the answer over those before it.
+  pub applied : EachTurn (Applied s) [] turns
   -- The replies that were reported are those to the first lines: to all, if log and output didn't fail. What was reported
   -- before power went counts.
   pub told : AreToldOver h o s (lines read.handled) at (length turns) log old new
   -- What power left is the shop after the lines that count.
-  pub gone : IfAnswered result (λ _ _. HasGone h s at log turns)
-  -- Each of these counts once, with the answer over those before it.
-  pub answered : EachTurn (Applied s) [] turns
-  pub counts : EachTurn CountsOnce [] turns
-  -- The next opening succeeds, and the till is answered, unless the disk couldn't be had.
-  pub opens : IsAnswered result
-  -- The cards are those of applying each new request once, in the order counted.
-  pub cards : IfAnswered result (λ d _. IsSettled (disk_image d)
-      (with_state s (plain (start_of s) (counted_in turns ++ asks_in again))))
+  pub gone : IfAnswered result (λ _ _. HasGone h leaving s at log turns)
+  -- It is opened, and the till is answered, unless it couldn't be had.
+  pub opens : IsAnsweredIfHad leaving result
   -- The till gets the answer over the requests that count. A line that counted, repeated before its till's next one, gets the
   -- answer that is kept of it.
   pub repeat : IfAnswered result (λ _ r. r ≡ reply (start_of s) (counted_in turns) (request_of again))
       × ((before : List Ask) → IsLastOfTill again before turns
       → IfAnswered result (λ _ r. r ≡ reply (start_of s) before (request_of again)))
-  -- Every block has one owner, and the map agrees.
-  pub owners : IfAnswered result (λ d _. IsClean (disk_image d))
-  -- The other files stay.
-  pub others : IfAnswered result (λ d _. (t : Shop) → IsShop (disk_image d) t → t.rest ≡ s.rest)
+  -- The cards are those of applying each new request once, in the order counted. The other files are the same, every block
+  -- has one owner, and the map agrees.
+  pub cards : IfAnswered result (λ d _. IsSettled (disk_image d) (shop_after_both s turns again))

@@ -1,5 +1,5 @@
 -- The messages that a run received, each with what it counted and its reply. All of it is our own.
-use Rattle.std.specs.Prelude.{◌≡◌, ◌≢◌, ℕ, zero, suc, List, [], ◌∷◌, ◌++◌, None, Option, Some, flat_map, map, option_to_list}
+use Rattle.std.specs.Prelude.{◌≡◌, ◌≢◌, ◌↔◌, ℕ, zero, suc, List, [], ◌∷◌, ◌++◌, None, Option, Some, flat_map, map, option_to_list}
 use Rattle.std.specs.List.{AllByRecursion}
 use Rattle.request_cards.specs.declared.reply.Reply.{Reply}
 use Rattle.request_cards.specs.declared.reply.Reply.TheVariants.{Cut}
@@ -23,6 +23,10 @@ pub record Turn : Type 0 where
 abbrev pub asks_in : List ℕ → List Ask
 asks_in bytes = option_to_list (request_of bytes)
 
+-- the messages alone
+abbrev pub messages_in : List Turn → List Message
+messages_in turns = map (λ t. t.message) turns
+
 -- the requests that count, in order
 abbrev pub counted_in : List Turn → List Ask
 counted_in turns = flat_map (λ t. t.counted) turns
@@ -45,18 +49,22 @@ Applied s before t =
 abbrev pub Answered : Shop → List Ask → Turn → Type 0
 Answered s before t = IsAnswer t.reply → Applied s before t
 
--- Each message was answered, unless a reset was in it, which gets CUT, or it is the last one, which may get MEDIA.
+-- CUT is the reply to each message with a reset, and to no other. MEDIA may be the last one's.
 abbrev pub AreAnswered : List Turn → Type 0
 AreAnswered [] = Unit {0}
-AreAnswered (t ∷ ts) = (t.reply ≡ Cut → t.message.cut_after ≢ None) × (IsMedia t.reply → ts ≡ []) × AreAnswered ts
+AreAnswered (t ∷ ts) = ((t.reply ≡ Cut) ↔ (t.message.cut_after ≢ None)) × (IsMedia t.reply → ts ≡ []) × AreAnswered ts
+
+-- a message without a reset was answered
+abbrev pub IsToldSo : List Ask → Turn → Type 0
+IsToldSo before t = t.message.cut_after ≡ None → IsAnswer t.reply
+
+-- All of these messages were received, and each without a reset was answered.
+abbrev pub AreAll : List Message → List Turn → Type 0
+AreAll events turns = (messages_in turns ≡ events) × EachTurn IsToldSo [] turns
 
 -- The last of these messages wasn't answered, or there is none.
 abbrev pub IsStopped : List Turn → Type 0
 IsStopped turns = (first : List Turn) (last : Turn) → turns ≡ first ++ last ∷ [] → ¬ (IsAnswer last.reply)
-
--- These messages were received, and each was answered.
-abbrev pub AllAnswered : List Message → List Turn → Type 0
-AllAnswered events turns = (map (λ t. t.message) turns ≡ events) × EachTurn (λ _ t. IsAnswer t.reply) [] turns
 
 -- what a request may count whatever came of it: itself once, or nothing; nothing if power went before its first write
 abbrev pub IsOnce : Option Ask → (cut_after : Option ℕ) → (counted : List Ask) → Type 0

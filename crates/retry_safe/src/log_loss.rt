@@ -31,8 +31,8 @@ pub fn retry_after_log_loss<L: ImageLog, R: BatchSource, T: Reports<L>, P: Power
 ) -> Result<(Session<MemDisk>, Reply), (PlayFault, MemDisk)>
     ensures { (s : Shop) → IsShop (disk_image disk) s → L.history.stands_for log.old (disk_image disk)
         → L.history.moment log.old ≤ P.moment power
-        → RetrySafeOver L.history R.input T.output s again.now (P.moment power) log.new input.old input.new
-        out.old out.new result }
+        → RetrySafeOver L.history R.input T.output (P.leaving power log.new) s again.now (P.moment power) log.new
+        input.old input.new out.old out.new result }
 {
     let served = match serve_batches(disk, log, input, out, room) {
         Ok(served) => served,

@@ -1,5 +1,5 @@
 //! A run that power ends, and what its shop's disk is afterwards.
-ghost use Rattle.std.specs.Prelude.{◌≡◌, ◌≢◌, ◌≤◌, ◌+◌, IfErr, IfOk, IsErr, map, sum};
+ghost use Rattle.std.specs.Prelude.{◌≡◌, ◌≢◌, ◌≤◌, ◌+◌, ◌<◌, IfErr, IfOk, IsErr, length, map, sum, vec_capacity};
 ghost use Rattle.host_session.specs.Held.{HeldOnly};
 ghost use Rattle.host_session.specs.declared.runs.plays.PlayFault.TheVariants as faults;
 ghost use Rattle.host_session.specs.events.Events.{message_of};
@@ -23,7 +23,8 @@ fn play_until<D: Sectors>(
     ensures left { (s : Shop) → IsShop (D.history.image disk) s → IfOk result (λ left.
         IsLeft D.history s (map message_of events.now) power disk left replies.old.items replies.new.items) }
     ensures unfit { (IsAShop (D.history.image disk) → ⊥) → IfOk result (λ left. IsKept D.history disk left) }
-    ensures memory { IfErr result (λ d. (d ≡ disk) × (replies.new.items ≡ replies.old.items)) }
+    ensures memory { IfErr result (λ d. (d ≡ disk) × (replies.new.items ≡ replies.old.items)
+        × (vec_capacity replies.old < length replies.old.items + length (map message_of events.now))) }
 {
     match play(Fuse::new(disk, power), events, replies) {
         Ok(fuse) => Ok(fuse.into_inner()),
@@ -98,7 +99,7 @@ pub fn retry_after_power_loss<D: Sectors>(
     replies: &mut Vec<Reply>,
 ) -> Result<(Session<D>, Reply), (PlayFault, D)>
     ensures safe { (s : Shop) → IsShop (D.history.image disk) s
-        → RetrySafe D.history s (map message_of events.now) power again.now disk
+        → RetrySafe D.history s (map message_of events.now) power again.now disk (vec_capacity replies.old)
         replies.old.items replies.new.items result }
     // no more is written than power lets pass in the run and in each opening of `recoveries`, then 952 sectors in the
     // last opening, and then 3618 in the message

@@ -1,5 +1,5 @@
 -- How many sectors the messages of a run write at most. All of it is our own.
-use Rattle.std.specs.Prelude.{◌≡◌, ◌<◌, ◌≤◌, ◌+◌, ◌*◌, ℕ, List, ◌∷◌, None, length}
+use Rattle.std.specs.Prelude.{◌≡◌, ◌<◌, ◌≤◌, ◌+◌, ◌*◌, ℕ, List, [], ◌∷◌, None, if◌then◌else◌, is_some, length}
 use Rattle.d64_image.specs.History.{History}
 use Rattle.request_cards.specs.Reading.{request_of}
 use Rattle.request_cards.specs.declared.reply.Reply.{Reply}
@@ -28,6 +28,28 @@ most_of_run n = 952 + 3618 * n
 -- a run of these messages wrote no more than that
 abbrev pub IsBounded : {D : Type 0} → History D → List Message → D → D → Type 0
 IsBounded h ms old new = h.writes new ≤ h.writes old + most_of_run (length ms)
+
+-- the most sectors that a message writes; where power fails in it, with 952 in each listed recovery, of which there are 8 at
+-- most, and in the whole one
+abbrev pub most_of : Message → ℕ
+most_of m = if is_some m.cut_after then 12186 else 3618
+
+-- and the most that these messages write
+abbrev pub most_of_each : List Message → ℕ
+most_of_each [] = 0
+most_of_each (m ∷ ms) = most_of m + most_of_each ms
+
+-- the same with the opening of its disk
+abbrev pub most_of_all : List Message → ℕ
+most_of_all ms = 952 + most_of_each ms
+
+-- the message wrote no more than that on a disk at rest
+abbrev pub IsWithinMost : {D : Type 0} → History D → Message → D → D → Type 0
+IsWithinMost h m old new = (s : Shop) → IsSettled (h.image old) s → h.writes new ≤ h.writes old + most_of m
+
+-- a run of these messages wrote no more than that
+abbrev pub AreWithinMost : {D : Type 0} → History D → List Message → D → D → Type 0
+AreWithinMost h ms old new = h.writes new ≤ h.writes old + most_of_all ms
 
 -- few messages: a count that is exact below 2^64 - 1 has room for all that a run of them writes
 abbrev pub AreFew : List Message → Type 0

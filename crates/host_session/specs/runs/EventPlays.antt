@@ -7,7 +7,7 @@ use Rattle.host_session.specs.declared.runs.plays.PlayFault.{PlayFault}
 use Rattle.host_session.specs.declared.runs.plays.PlayFault.TheVariants as faults
 use Rattle.host_session.specs.events.Events.{Message}
 use Rattle.host_session.specs.events.Quiet.{AreUncut, AskNothing, IsQuiet}
-use Rattle.host_session.specs.events.Within.{IsBounded, IsSpared}
+use Rattle.host_session.specs.events.Within.{AreWithinMost, IsBounded, IsSpared}
 use Rattle.host_session.specs.runs.Runs.{HeldBeginnings, IsPlayedWhole, IsRefused, StoppedByDevice}
 use Rattle.host_session.specs.session.Opening.{IsAShop, disk_of}
 use Rattle.host_session.specs.shop.Shop.{IsShop, Shop}
@@ -20,9 +20,11 @@ pub record PlaysEvents {D : Type 0} (h : History D) (ms : List Message) (disk : 
   -- At Ok each message has its reply, over what counted before it, and the shop is settled.
   pub ok : (s : Shop) → IsShop (h.image disk) s → IfOk result (λ left.
       (told : List Reply) × (new ≡ old ++ told) × IsPlayedWhole h s ms disk left told)
-  -- The device failed: this holds of the messages replied to, and it failed in the last of them.
+  -- The device failed: this holds of the messages replied to, and it failed in the last of them. They wrote no more than
+  -- they may, wherever power fails.
   pub device : (s : Shop) → IsShop (h.image disk) s → IfErr result (λ e. e.0 ≡ faults.Device
-      → (told : List Reply) × (new ≡ old ++ told) × StoppedByDevice h s ms disk e.1 told)
+      → (told : List Reply) × (new ≡ old ++ told) × (p : StoppedByDevice h s ms disk e.1 told)
+      × AreWithinMost h p.begun disk e.1)
   -- At each moment the shop is that of a counted list of a prefix of the messages.
   pub moments : (s : Shop) → IsShop (h.image disk) s → HeldBeginnings h s ms disk (disk_of (λ d. d) result)
   -- Messages that ask nothing new leave the disk alone, whatever the result.

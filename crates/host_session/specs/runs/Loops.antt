@@ -13,7 +13,7 @@ use Rattle.host_session.specs.events.Events.{Message}
 use Rattle.host_session.specs.events.Instants.{Instant, instant_of}
 use Rattle.host_session.specs.events.Quiet.{AreUncut, AskNothing, IsQuiet}
 use Rattle.host_session.specs.events.Telling.{Output}
-use Rattle.host_session.specs.events.Within.{AreSparing, AreWithin, IsBounded, IsSpared}
+use Rattle.host_session.specs.events.Within.{AreSparing, AreWithin, AreWithinMost, IsBounded, IsSpared}
 use Rattle.host_session.specs.runs.Chains.{HasRun, HasRunToFailure, asked_over, over_instants}
 use Rattle.host_session.specs.runs.Runs.{HeldBeginnings, IsRefused}
 use Rattle.host_session.specs.session.Opening.{IsAShop, disk_of}
@@ -82,13 +82,14 @@ pub record Origin (D A T : Type 0) : Type 0 where
   pub out : T
 
 -- A run is under way: the messages that it took from the source have P, it ran them and passed the replies, and the
--- output had room for as many.
+-- output had room for as many. They wrote no more than they may.
 pub record IsUnderWay {D A T : Type 0} (h : History D) (o : Output T) (from : Origin D A T) (disk : D) (out : T)
     (P : List (Message × Instant) → Type 0) : Type 0 where
   pub taken : List (Message × Instant)
   pub is : P taken
   pub whole : IsRunWhole h o from.shop taken from.disk disk from.out out
   pub room : o.room from.out ≤ o.room out + length (messages_in taken)
+  pub wrote : AreWithinMost h (messages_in taken) from.disk disk
 
 -- all that was taken from the source was run and its replies passed, and the source didn't fail
 abbrev pub HasCome : {D A T : Type 0} → History D → Source A → Output T → Origin D A T → D → A → T → Type 0
@@ -99,21 +100,24 @@ abbrev pub HasComeBut : {D A T : Type 0} → History D → Source A → Output T
 HasComeBut h a o from disk asks out =
     IsUnderWay h o from disk out (λ xs. GivesWell a from.asks asks (xs ++ (a.here asks, instant_of h disk) ∷ []))
 
--- how a run that was opened ends with this fault; at the fault Input its source failed, and at no other
+-- How a run that was opened ends with this fault; at the fault Input its source failed, and at no other. It wrote no more
+-- than its messages may.
 abbrev pub EndsBy : {D A T : Type 0} → History D → Source A → Output T → Origin D A T → A → T → D → LoopFault → Type 0
 EndsBy h a o from asks out left (faults.Open f) = ⊥
 EndsBy h a o from asks out left faults.Input = (taken : List (Message × Instant)) × a.gives from.asks asks taken
     × a.has_failed asks × IsRunWhole h o from.shop taken from.disk left from.out out
+    × AreWithinMost h (messages_in taken) from.disk left
 EndsBy h a o from asks out left faults.Output = (taken : List (Message × Instant)) × GivesWell a from.asks asks taken
-    × IsRunToOutput h o from.shop taken from.disk left from.out out
+    × IsRunToOutput h o from.shop taken from.disk left from.out out × AreWithinMost h (messages_in taken) from.disk left
 EndsBy h a o from asks out left faults.Device = (taken : List (Message × Instant)) × GivesWell a from.asks asks taken
-    × IsRunToDevice h o from.shop taken from.disk left from.out out
+    × IsRunToDevice h o from.shop taken from.disk left from.out out × AreWithinMost h (messages_in taken) from.disk left
 
 -- how a run ends that was opened
 abbrev pub Ends : {D A T : Type 0} → History D → Source A → Output T → Origin D A T → A → T → Result D (LoopFault × D)
     → Type 0
 Ends h a o from asks out (Ok left) = (taken : List (Message × Instant)) × GivesWell a from.asks asks taken
     × a.is_over asks × IsRunWhole h o from.shop taken from.disk left from.out out
+    × AreWithinMost h (messages_in taken) from.disk left
 Ends h a o from asks out (Err e) = EndsBy h a o from asks out e.1 e.0
 
 -- the end of a run, with its disk
@@ -163,6 +167,9 @@ pub record IsRun {D A T : Type 0} (h : History D) (a : Source A) (o : Output T) 
   -- If power fails in none of the events, at most 952 sectors were written, and 3618 for each, whatever the result.
   pub writes : (s : Shop) → IsShop (h.image disk) s → AreUncut (messages_in taken)
       → IsBounded h (messages_in taken) disk (disk_of (λ d. d) result)
+  -- Wherever power fails, and whatever the result, they wrote no more than they may.
+  pub wrote : (s : Shop) → IsShop (h.image disk) s
+      → AreWithinMost h (messages_in taken) disk (disk_of (λ d. d) result)
   -- On a shop whose device doesn't fail it answers Ok, unless the input or the output fails.
   pub plays : IsAShop (h.image disk) → NeverFailed h disk (disk_of (λ d. d) result)
       → IfErr result (λ e. (e.0 ≡ faults.Input) ⊎ (e.0 ≡ faults.Output))

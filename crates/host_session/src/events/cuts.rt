@@ -1,9 +1,9 @@
 //! One event of a run: a message, or one in which power fails and the openings after it.
-ghost use Rattle.std.specs.Prelude.{◌≡◌, ◌≤◌, ◌+◌, ◌↔◌, IfErr, IfOk, IsTrue, false};
+ghost use Rattle.std.specs.Prelude.{◌≡◌, ◌≤◌, ◌+◌, ◌*◌, ◌↔◌, IfErr, IfOk, IsTrue, false, length};
 ghost use Rattle.host_session.specs.Held.{HeldOnly};
 ghost use Rattle.host_session.specs.events.Events.{cut_at};
 ghost use Rattle.host_session.specs.events.OneEvent.{EndsFailed, GoesOn, IsEvent, Leaves};
-ghost use Rattle.host_session.specs.events.Within.{SparesTheDisk};
+ghost use Rattle.host_session.specs.events.Within.{IsWithinMost, SparesTheDisk};
 ghost use Rattle.host_session.specs.session.Handling.{IsMedia};
 ghost use Rattle.host_session.specs.session.Opening.{Untouched};
 ghost use Rattle.host_session.specs.shop.Shop.{IsSettled, IsShop, Shop};
@@ -17,6 +17,8 @@ use request_cards::{Reply, Word};
 fn cut_message<D: Sectors>(session: Session<D>, message: &[u8], after: u32) -> D
     ensures writes { (s : Shop) → IsSettled (D.history.image session.disk) s
         → D.history.writes result ≤ D.history.writes session.disk + after }
+    ensures most { (s : Shop) → IsSettled (D.history.image session.disk) s
+        → D.history.writes result ≤ D.history.writes session.disk + 3618 }
     ensures event { (s : Shop) → IsSettled (D.history.image session.disk) s → session.dead ≡ false
         → IsEvent D.history s (cut_at message.now after) session.disk result (Leaves D.history s result) }
     ensures spared { session.dead ≡ false → SparesTheDisk D.history (cut_at message.now after) session.disk result }
@@ -31,6 +33,8 @@ fn cut_opening<D: Sectors>(disk: D, writes: u32) -> D
     ensures moments { (s : Shop) → IsShop (D.history.image disk) s → HeldOnly D.history disk result (λ c. IsShop c s) }
     ensures writes { (s : Shop) → IsShop (D.history.image disk) s
         → D.history.writes result ≤ D.history.writes disk + writes }
+    ensures most { (s : Shop) → IsShop (D.history.image disk) s
+        → D.history.writes result ≤ D.history.writes disk + 952 }
     ensures later { (s : Shop) → IsShop (D.history.image disk) s → D.history.failures disk ≤ D.history.failures result }
     ensures quiet { (s : Shop) → IsSettled (D.history.image disk) s → Untouched D.history disk result }
 {
@@ -43,6 +47,8 @@ fn cut_opening<D: Sectors>(disk: D, writes: u32) -> D
 /// Cuts each of these openings.
 fn cut_openings<D: Sectors>(disk: D, recoveries: &[u32]) -> D
     ensures moments { (s : Shop) → IsShop (D.history.image disk) s → HeldOnly D.history disk result (λ c. IsShop c s) }
+    ensures most { (s : Shop) → IsShop (D.history.image disk) s
+        → D.history.writes result ≤ D.history.writes disk + 952 * length recoveries.now }
     ensures later { (s : Shop) → IsShop (D.history.image disk) s → D.history.failures disk ≤ D.history.failures result }
     ensures quiet { (s : Shop) → IsSettled (D.history.image disk) s → Untouched D.history disk result }
 {
@@ -66,11 +72,13 @@ pub(crate) fn cut_event<D: Sectors>(
         → IfOk result (λ x. (x.dead ≡ false)
         × IsEvent D.history s (cut_at message.now cut.now.after) session.disk x.disk
         (GoesOn D.history s (cut_at message.now cut.now.after) Reply.Cut x.disk)
-        × SparesTheDisk D.history (cut_at message.now cut.now.after) session.disk x.disk) }
+        × SparesTheDisk D.history (cut_at message.now cut.now.after) session.disk x.disk
+        × IsWithinMost D.history (cut_at message.now cut.now.after) session.disk x.disk) }
     ensures stopped { (s : Shop) → IsSettled (D.history.image session.disk) s → session.dead ≡ false
         → IfErr result (λ d. IsEvent D.history s (cut_at message.now cut.now.after) session.disk d
         (EndsFailed D.history s (cut_at message.now cut.now.after) Reply.Cut d)
-        × SparesTheDisk D.history (cut_at message.now cut.now.after) session.disk d) }
+        × SparesTheDisk D.history (cut_at message.now cut.now.after) session.disk d
+        × IsWithinMost D.history (cut_at message.now cut.now.after) session.disk d) }
 {
     let cut_disk = cut_message(session, message, cut.after);
     let disk = cut_openings(cut_disk, cut.recoveries.as_slice());

@@ -1,4 +1,6 @@
 //! The promise as one call, over a log in memory. The replies come from the trade rule, by hand.
+ghost use Rattle.std.specs.Prelude.{◌≡◌, None};
+
 use crate::comparing::same;
 use crate::disks::fresh;
 use crate::logged::logs::begun;
@@ -16,6 +18,7 @@ struct NoDisk;
 
 impl<L: ImageLog> PowerLoss<L> for NoDisk {
     ghost moment = { λ _. 0 };
+    ghost leaving = { λ _ _ image. image ≡ None };
 
     fn leaves(self, _log: &L) -> Result<MemDisk, ImageFault> {
         Err(ImageFault::NoMemory)

@@ -167,6 +167,14 @@ module _ {D : Type 0} (h : History D) where
       (subst (λ (y : D). h.writes (fuse_disk b) ≤ h.writes y + n) is
       (omega (arith, x.writes, x.limit, limit, b.within)))
 
+  -- nor more than was counted of the call
+  pub cut_most : (k : ℕ) (d r : D) (a b : Fuse D) (P : Image → Type 0) → fuse_disk a ≡ d → r ≡ fuse_disk b
+      → Changes (fuse h) a b k P → h.writes r ≤ h.writes d + k
+  cut_most k d r a b P is ends changes =
+      subst (λ (y : D). h.writes y ≤ h.writes d + k) (sym ends)
+      (subst (λ (y : D). h.writes (fuse_disk b) ≤ h.writes y + k) is
+      (omega (arith, changes.held.reached.writes, changes.writes)))
+
   -- an opening over a fuse holds the shop beneath it
   pub cut_moments : (s : Shop) (k : ℕ) (d r : D) (a b : Fuse D) → fuse_disk a ≡ d → r ≡ fuse_disk b
       → IsShop (h.image d) s

@@ -15,7 +15,7 @@ use Rattle.host_session.specs.events.Counted.{answer}
 use Rattle.host_session.specs.events.Events.{Message, uncut}
 use Rattle.host_session.specs.events.OneEvent.{EndsFailed, GoesOn, IsEvent, IsInEvent}
 use Rattle.host_session.specs.events.Quiet.{AsksNothing, IsLeftAlone, LeavesAlone}
-use Rattle.host_session.specs.events.Within.{IsWithin, SparesTheDisk}
+use Rattle.host_session.specs.events.Within.{IsWithin, IsWithinMost, SparesTheDisk}
 use Rattle.host_session.specs.session.Handled.{IsHandled}
 use Rattle.host_session.specs.session.Standing.{View}
 use Rattle.host_session.specs.session.Handling.{IsBeforeOrAfter, IsMedia, after_of, media}
@@ -130,6 +130,9 @@ module _ {D : Type 0} (h : History D) (x y : View D) (bytes : List ℕ) (reply :
       most = (r.moments s settled.shop).writes;
       needed = λ f has. r.writes f has;
     }
+
+    pub whole_most : IsWithinMost h (uncut bytes) x.disk y.disk
+    whole_most s settled = (r.moments s settled.shop).writes
 
     pub whole_spared : x.dead ≡ false → SparesTheDisk h (uncut bytes) x.disk y.disk
     whole_spared alive s settled asks =

@@ -4,7 +4,7 @@ use Rattle.std.proofs.Common.{le_of_eq}
 use Rattle.d64_image.specs.History.{History}
 use Rattle.request_cards.specs.declared.reply.Reply.{Reply}
 use Rattle.host_session.proofs.lemmas.runs.Runs.{HasPlayed, and_no_more, none_played, now_more, now_none, now_of}
-use Rattle.host_session.proofs.lemmas.runs.Runs.{one_played, stopped}
+use Rattle.host_session.proofs.lemmas.runs.Runs.{one_played, stopped, stopped_begun}
 use Rattle.host_session.specs.events.Counted.{after_all}
 use Rattle.host_session.specs.events.Events.{Message}
 use Rattle.host_session.specs.events.Instants.{instant_of}
@@ -125,6 +125,16 @@ module _ {D : Type 0} (h : History D) where
       let p = run_played s f.before xs old f.at f.run in
       stopped h s f.before rest all f.message old f.at new (told_in xs) last p.0 (ap (λ b. b ++ rest) f.parts ∙ parts)
       (subst (λ u. IsEvent h u f.message f.at new (EndsFailed h u f.message last new)) p.1 f.failed)
+
+  -- those are the messages that it was replied to
+  pub device_begun : (s : Shop) (ms rest all : List Message) (xs : List (Reply × D)) (last : Reply) (old new : D)
+      (parts : ms ++ rest ≡ all) (f : HasRunToFailure h s ms xs last old new)
+      → (at_device s ms rest all xs last old new parts f).0.begun ≡ ms
+  unfolding at_device
+  device_begun s ms rest all xs last old new parts f =
+      let p = run_played s f.before xs old f.at f.run in
+      stopped_begun h s f.before rest all f.message old f.at new (told_in xs) last p.0 (ap (λ b. b ++ rest) f.parts ∙ parts)
+      (subst (λ u. IsEvent h u f.message f.at new (EndsFailed h u f.message last new)) p.1 f.failed) ∙ f.parts
 
   -- the shop of a run is at rest at its end: so it was when the last reply was told
   pub run_rests : (s : Shop) (ms : List Message) (xs : List (Reply × D)) (old new : D) → (r : HasRun h s ms xs old new)

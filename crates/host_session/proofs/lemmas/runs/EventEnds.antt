@@ -9,7 +9,7 @@ use Rattle.d64_image.specs.History.{Failed, History, NeverFailed}
 use Rattle.request_cards.specs.declared.reply.Reply.{Reply}
 use Rattle.line_text.specs.declared.scripts.events.Event.{Event}
 use Rattle.host_session.proofs.lemmas.events.Printed.{told_more}
-use Rattle.host_session.proofs.lemmas.runs.Chained.{at_device, run_unfailed, told_over, whole}
+use Rattle.host_session.proofs.lemmas.runs.Chained.{at_device, device_begun, run_unfailed, told_over, whole}
 use Rattle.host_session.proofs.lemmas.runs.QuietRuns.{quiet_of_more}
 use Rattle.host_session.proofs.lemmas.runs.QuietWrites.{spared_of_more}
 use Rattle.host_session.proofs.lemmas.runs.Runs.{held_of_more}
@@ -25,7 +25,7 @@ use Rattle.host_session.specs.events.Asking.{last_taken, message_here, messages_
 use Rattle.host_session.specs.events.Events.{Message, message_of}
 use Rattle.host_session.specs.events.Instants.{Instant, instant_of}
 use Rattle.host_session.specs.events.Quiet.{AreUncut, AskNothing, IsQuiet}
-use Rattle.host_session.specs.events.Within.{IsBounded, IsSpared}
+use Rattle.host_session.specs.events.Within.{AreWithinMost, IsBounded, IsSpared}
 use Rattle.host_session.specs.runs.Chains.{over_instants, told_in}
 use Rattle.host_session.specs.runs.Faults.{play_fault_of}
 use Rattle.host_session.specs.runs.Loops.{IsRun, IsToldWhole}
@@ -63,7 +63,8 @@ opened_with _ = openings.Device
 pub record IsEventsEnd {D : Type 0} (h : History D) (disk left : D) (ms : List Message) (old new : List Reply)
     (e : PlayFault) : Type 0 where
   pub device : (s : Shop) → IsShop (h.image disk) s → e ≡ ends.Device
-      → (told : List Reply) × (new ≡ old ++ told) × StoppedByDevice h s ms disk left told
+      → (told : List Reply) × (new ≡ old ++ told) × (p : StoppedByDevice h s ms disk left told)
+      × AreWithinMost h p.begun disk left
   pub moments : (s : Shop) → IsShop (h.image disk) s → HeldBeginnings h s ms disk left
   pub quiet : (s : Shop) → IsShop (h.image disk) s → AskNothing s ms → IsQuiet h s ms disk left
   pub spared : (s : Shop) → IsShop (h.image disk) s → AskNothing s ms → IsSpared h s disk left
@@ -165,15 +166,20 @@ module _ {D : Type 0} (h : History D) (disk : D) (events : List Event) (asked as
       → IsEventsEnd h disk left (map message_of events) old.items new.items ends.Device
   stopped left k = record {
     device = λ s is _.
-        let x = (k.device s is refl).0 in (
+        let x = (k.device s is refl).0 in
+        let rest = map message_of (drop asks.taken asked.events.now) in
+        let p = (at_device h s (messages_in k.taken) rest (map message_of events) x.turns x.last disk left
+        (parts k.taken k.takes) x.run).0 in (
           told_in x.turns ++ x.last ∷ [],
           ⊎_elim
               (λ t. t ∙ ap (λ rs. old.items ++ rs) (told_more (over_instants h x.turns) (x.last, instant_of h left)
               ∙ ap (λ rs. rs ++ x.last ∷ []) (told_over h x.turns)))
               (λ t. absurd (too_many k.taken k.takes t.1))
               x.told,
-          (at_device h s (messages_in k.taken) (map message_of (drop asks.taken asked.events.now))
-              (map message_of events) x.turns x.last disk left (parts k.taken k.takes) x.run).0,
+          p,
+          subst (λ ms. AreWithinMost h ms disk left)
+              (sym (device_begun h s (messages_in k.taken) rest (map message_of events) x.turns x.last disk left
+              (parts k.taken k.takes) x.run)) (k.wrote s is),
         );
     moments = λ s is. held_of_more h s (messages_in k.taken) (map message_of (drop asks.taken asked.events.now))
         (map message_of events) disk left (parts k.taken k.takes) (k.moments s is);

@@ -15,12 +15,17 @@ use Rattle.host_session.specs.events.Events.{Message}
 use Rattle.host_session.specs.events.Instants.{Instant, instant_of}
 use Rattle.host_session.specs.events.OneEvent.{EndsFailed, GoesOn, IsEvent}
 use Rattle.host_session.specs.events.Telling.{BreaksOff, IsTold, Output, TellsOne}
-use Rattle.host_session.specs.events.Within.{AreSparing, AreWithin, IsWithin, SparesTheDisk}
+use Rattle.host_session.specs.events.Within.{AreSparing, AreWithin, AreWithinMost, IsWithin, IsWithinMost, SparesTheDisk}
+use Rattle.host_session.specs.events.Within.{most_of, most_of_each}
 use Rattle.host_session.specs.runs.Chains.{asked_over, over_instants}
 use Rattle.host_session.specs.runs.Loops.{Ends, EndsBy, HasCome, HasComeBut, Origin}
 use Rattle.host_session.specs.runs.Loops.{IsToldToDevice, IsToldToOutput, IsToldWhole}
 use Rattle.host_session.specs.session.Opening.{Untouched}
 use Rattle.host_session.specs.shop.Shop.{IsSettled, IsShop, Shop}
+
+most_more : (ms : List Message) (m : Message) → most_of_each (ms ++ m ∷ []) ≡ most_of_each ms + most_of m
+most_more [] m = omega arith
+most_more (n ∷ ms) m = let rest = most_more ms m in omega (arith, rest)
 
 over_more : {D : Type 0} (h : History D) (xs : List (Reply × D)) (reply : Reply) (disk : D)
     → over_instants h (xs ++ (reply, disk) ∷ []) ≡ over_instants h xs ++ (reply, instant_of h disk) ∷ []
@@ -47,6 +52,7 @@ module _ {D A T : Type 0} (h : History D) (a : Source A) (o : Output T) (from : 
       tt,
     );
     room = omega arith;
+    wrote = omega (arith, opening.writes);
   }
 
   -- the next event was taken, or there was none
@@ -58,13 +64,14 @@ module _ {D A T : Type 0} (h : History D) (a : Source A) (o : Output T) (from : 
       is = (takes from.asks w.taken w.is.0, λ failed. w.is.1 (sound failed));
       whole = w.whole;
       room = w.room;
+      wrote = w.wrote;
     }
 
     pub at_end : TakesNone a asks now × a.is_over now × FailsNoMore a asks now → Ends h a o from now out (Ok disk)
-    at_end x = (w.taken, (x.0 from.asks w.taken w.is.0, λ failed. w.is.1 (x.2 failed)), x.1, w.whole)
+    at_end x = (w.taken, (x.0 from.asks w.taken w.is.0, λ failed. w.is.1 (x.2 failed)), x.1, w.whole, w.wrote)
 
     pub at_fault : TakesNone a asks now × a.has_failed now → EndsBy h a o from now out disk faults.Input
-    at_fault x = (w.taken, x.0 from.asks w.taken w.is.0, x.1, w.whole)
+    at_fault x = (w.taken, x.0 from.asks w.taken w.is.0, x.1, w.whole, w.wrote)
 
   module _ (mid new : D) (asks : A) (reply : Reply) (out told : T) where
     -- with the event that is here
@@ -112,21 +119,33 @@ module _ {D A T : Type 0} (h : History D) (a : Source A) (o : Output T) (from : 
         (sparing_more h from.shop (messages_in w.taken) w.whole.0.turns r.first mid new r.now (a.here asks) reply
         r.chain w.whole.3 one)
 
+    -- and no more than it may, wherever power goes
+    abbrev Most : Type 0
+    Most = IsWithinMost h (a.here asks) mid new
+
+    most_now : (w : HasComeBut h a o from mid asks out) → Most
+        → AreWithinMost h (messages_in w.taken ++ a.here asks ∷ []) from.disk new
+    most_now w one =
+        let r = w.whole.0.run in
+        let last = one r.now (run_rests h from.shop (messages_in w.taken) w.whole.0.turns from.disk mid r) in
+        omega (arith, w.wrote, last, most_more (messages_in w.taken) (a.here asks))
+
     -- the event that is here was run, and its reply told
     pub goes_on : (Alive : Type 0) → TellsOne o out told reply (instant_of h new) × (o.room out ≤ o.room told + 1)
         → ((t : Shop) → IsSettled (h.image mid) t
         → Alive × IsEvent h t (a.here asks) mid new (GoesOn h t (a.here asks) reply new))
         → Within
         → Spares
+        → Most
         → HasComeBut h a o from mid asks out → Alive × HasCome h a o from new asks told
-    goes_on Alive tells event within spares w =
+    goes_on Alive tells event within spares most w =
         let x = w.whole.0 in
         let e = event x.run.now (run_rests h from.shop (messages_in w.taken) x.turns from.disk mid x.run) in
         let last : List (Reply × D) = (reply, new) ∷ [] in
         let Told : List Message → Type 0 = λ ms. (y : IsToldWhole h o from.shop ms from.disk new from.out told)
         × (TakenNow w ≡ asked_over h y.run.first y.turns ms) × AreWithin h ms y.turns y.run.first
         × AreSparing h ms y.turns y.run.first
-        × (o.room from.out ≤ o.room told + length ms) in
+        × (o.room from.out ≤ o.room told + length ms) × AreWithinMost h ms from.disk new in
         let y = subst Told (sym (messages_now w)) (
           record {
             turns = x.turns ++ last;
@@ -144,8 +163,9 @@ module _ {D A T : Type 0} (h : History D) (a : Source A) (o : Output T) (from : 
               (run_more-first h from.shop (messages_in w.taken) x.turns from.disk mid new (a.here asks) reply x.run e.1)
               spares,
           omega (arith, w.room, tells.1, length-append (messages_in w.taken) (a.here asks ∷ [])),
+          most_now w most,
         ) in
-        (e.0, record { taken = TakenNow w; is = w.is; whole = (y.0, y.1, y.2, y.3); room = y.4 })
+        (e.0, record { taken = TakenNow w; is = w.is; whole = (y.0, y.1, y.2, y.3); room = y.4; wrote = y.5 })
 
     -- it was run, and the output didn't take its reply
     pub breaks_off : (Alive : Type 0) → BreaksOff o out told reply (instant_of h new) × (o.room out ≡ 0)
@@ -153,8 +173,9 @@ module _ {D A T : Type 0} (h : History D) (a : Source A) (o : Output T) (from : 
         → Alive × IsEvent h t (a.here asks) mid new (GoesOn h t (a.here asks) reply new))
         → Within
         → Spares
+        → Most
         → HasComeBut h a o from mid asks out → EndsBy h a o from asks told new faults.Output
-    breaks_off Alive breaks event within spares w =
+    breaks_off Alive breaks event within spares most w =
         let x = w.whole.0 in
         let e = event x.run.now (run_rests h from.shop (messages_in w.taken) x.turns from.disk mid x.run) in
         let run = run_more h from.shop (messages_in w.taken) x.turns from.disk mid new (a.here asks) reply x.run e.1 in
@@ -163,7 +184,9 @@ module _ {D A T : Type 0} (h : History D) (a : Source A) (o : Output T) (from : 
         let Told : List Message → Type 0 = λ ms. (y : IsToldToOutput h o from.shop ms from.disk new from.out told)
         × (TakenNow w ≡ asked_over h y.run.first y.turns ms)
         × AreWithin h ms (y.turns ++ y.last ∷ []) y.run.first
-        × AreSparing h ms (y.turns ++ y.last ∷ []) y.run.first in (
+        × AreSparing h ms (y.turns ++ y.last ∷ []) y.run.first in
+        let both : AreWithinMost h (messages_in (TakenNow w)) from.disk new =
+        subst (λ ms. AreWithinMost h ms from.disk new) (sym (messages_now w)) (most_now w most) in (
           TakenNow w,
           w.is,
           subst Told (sym (messages_now w)) (
@@ -180,6 +203,7 @@ module _ {D A T : Type 0} (h : History D) (a : Source A) (o : Output T) (from : 
             within_now w _ same within,
             sparing_now w _ same spares,
           ),
+          both,
         )
 
     -- the device failed in it
@@ -188,13 +212,16 @@ module _ {D A T : Type 0} (h : History D) (a : Source A) (o : Output T) (from : 
         → IsEvent h t (a.here asks) mid new (EndsFailed h t (a.here asks) reply new))
         → Within
         → Spares
+        → Most
         → HasComeBut h a o from mid asks out → EndsBy h a o from asks told new faults.Device
-    fails result tells event within spares w =
+    fails result tells event within spares most w =
         let x = w.whole.0 in
         let Told : List Message → Type 0 = λ ms. (y : IsToldToDevice h o from.shop ms from.disk new from.out told)
         × (TakenNow w ≡ asked_over h y.run.run.first y.turns ms)
         × AreWithin h ms (y.turns ++ (y.last, new) ∷ []) y.run.run.first
-        × AreSparing h ms (y.turns ++ (y.last, new) ∷ []) y.run.run.first in (
+        × AreSparing h ms (y.turns ++ (y.last, new) ∷ []) y.run.run.first in
+        let both : AreWithinMost h (messages_in (TakenNow w)) from.disk new =
+        subst (λ ms. AreWithinMost h ms from.disk new) (sym (messages_now w)) (most_now w most) in (
           TakenNow w,
           w.is,
           subst Told (sym (messages_now w)) (
@@ -217,6 +244,7 @@ module _ {D A T : Type 0} (h : History D) (a : Source A) (o : Output T) (from : 
             within_now w x.run.first refl within,
             sparing_now w x.run.first refl spares,
           ),
+          both,
         )
       where
         pick : {E : Type 0} (result : Result Unit E) → IsTold o out told reply (instant_of h new) result

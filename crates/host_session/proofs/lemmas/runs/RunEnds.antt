@@ -1,6 +1,6 @@
 -- How a run over a source and an output ended, or that it was refused.
 use Rattle.std.proofs.Common.{◌≡◌, ◌++◌, ⊎_elim, List, [], ◌∷◌, Ok, Err, refl, subst, ap, inl, inr}
-use Rattle.std.proofs.Common.{append-nil}
+use Rattle.std.proofs.Common.{append-nil, arith}
 use Rattle.std.specs.Prelude.{Result}
 use Rattle.d64_image.proofs.Moments.{never_failed}
 use Rattle.d64_image.specs.History.{History, NeverFailed}
@@ -56,6 +56,7 @@ module _ {D A T : Type 0} (h : History D) (a : Source A) (o : Output T) (from : 
       spared = λ s is. subst (IsSparedTo (messages_in e.0) left) (same s is)
           (λ asks. spared_run h from.shop (messages_in e.0) e.3.0.turns from.disk left asks e.3.0.run e.3.3);
       writes = λ s is. run_bound h from.shop (messages_in e.0) e.3.0.turns from.disk left e.3.0.run e.3.2;
+      wrote = λ s is. e.4;
       plays = λ shop never. inl refl;
       «open» = λ f (is_input : faults.Input ≡ faults.Open f). cc;
       cause = λ (is_input : faults.Input ≡ faults.Device). cc;
@@ -83,6 +84,7 @@ module _ {D A T : Type 0} (h : History D) (a : Source A) (o : Output T) (from : 
           e.2.0.run e.2.3);
       writes = λ s is. run_bound h from.shop (messages_in e.0) (e.2.0.turns ++ e.2.0.last ∷ []) from.disk left e.2.0.run
           e.2.2;
+      wrote = λ s is. e.3;
       plays = λ shop never. inr refl;
       «open» = λ f (is_output : faults.Output ≡ faults.Open f). cc;
       cause = λ (is_output : faults.Output ≡ faults.Device). cc;
@@ -113,6 +115,7 @@ module _ {D A T : Type 0} (h : History D) (a : Source A) (o : Output T) (from : 
               e.2.0.run e.2.3);
           writes = λ s is. failure_bound h from.shop (messages_in e.0) e.2.0.turns e.2.0.last from.disk left e.2.0.run
               e.2.2;
+          wrote = λ s is. e.3;
           plays = λ shop never. absurd (never_failed h _ _ never failed);
           «open» = λ f (is_device : faults.Device ≡ faults.Open f). cc;
           cause = λ _. ((from.shop, is_shop), failed);
@@ -146,6 +149,7 @@ module _ {D A T : Type 0} (h : History D) (a : Source A) (o : Output T) (from : 
       spared = λ s is. subst (IsSparedTo (messages_in e.0) left) (same s is)
           (λ asks. spared_run h from.shop (messages_in e.0) e.3.0.turns from.disk left asks e.3.0.run e.3.3);
       writes = λ s is. run_bound h from.shop (messages_in e.0) e.3.0.turns from.disk left e.3.0.run e.3.2;
+      wrote = λ s is. e.4;
       plays = λ shop never. tt;
       «open» = tt;
       cause = tt;
@@ -178,6 +182,7 @@ run_refused h a o disk left asks out f refused held quiet fails = record {
   quiet = λ s is _. quiet_refused h s disk left (refused.same s is) (quiet s);
   spared = λ s is _. spared_refused h s disk left (refused.same s is) (quiet s);
   writes = λ s is _. refused_bound h (λ i. IsShop i s) disk left (refused.same s is);
+  wrote = λ s is. omega (arith, (refused.same s is).writes);
   plays = λ shop never. absurd (fails shop never);
   «open» = λ x e. (subst (λ y. IsRefused h disk y left) (ap opened_with e) refused, refl, refl, refl);
   cause = λ (e : faults.Open f ≡ faults.Device). cc;

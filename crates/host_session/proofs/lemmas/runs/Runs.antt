@@ -245,3 +245,11 @@ module _ {D : Type 0} (h : History D) where
         },
         held_of_more s (ms ++ m ∷ []) rest all old new parts (moments_more s ms m old mid new told e.later p e.moments),
       )
+
+  -- those are the messages that it was replied to
+  pub stopped_begun : (s : Shop) (ms rest all : List Message) (m : Message) (old mid new : D) (told : List Reply)
+      (reply : Reply) (p : HasPlayed s ms old mid told) (parts : (ms ++ m ∷ []) ++ rest ≡ all)
+      (e : IsEvent h (now_of s ms old mid told p) m mid new (EndsFailed h (now_of s ms old mid told p) m reply new))
+      → (stopped s ms rest all m old mid new told reply p parts e).0.begun ≡ ms ++ m ∷ []
+  unfolding stopped
+  stopped_begun s ms rest all m old mid new told reply p parts e = refl

@@ -17,8 +17,8 @@ returns-in-Ok-clause-safe g c = λ s shop.
     let left = c.in-Ok.ensures.left s shop in
     let opened = c.open_until_each.ensures.moments _ left.shop in
     safe h s (map message_of c.args.events.now) c.args.power c.args.again.now c.args.disk c.in-Ok.left
-    c.open_until_each.result _ _ c.ask.result left opened (c.open_until_each.ensures.later _ left.shop)
-    (c.ask.ensures.asked _ (at_end h _ _ _ opened))
+    c.open_until_each.result _ _ _ c.ask.result left opened (c.open_until_each.ensures.later _ left.shop)
+    (c.ask.ensures.asked _ (at_end h _ _ _ opened)) c.ask.ensures.room
 
 pub returns-in-Ok-clause-writes : goal.returns-in-Ok-clause-writes
 returns-in-Ok-clause-writes g c = λ s shop.
@@ -49,9 +49,9 @@ returns-in-Err g c =
     let kept = c.in-Err.ensures.memory in
     record {
       safe = λ s shop.
-          no_memory h s (map message_of c.args.events.now) c.args.power c.args.again.now c.args.disk c.in-Err.disk _ _ shop
-          kept.0 kept.1;
+          no_memory h s (map message_of c.args.events.now) c.args.power c.args.again.now c.args.disk c.in-Err.disk _ _ _ shop
+          kept.0 kept.1 kept.2;
       writes = λ s shop. omega (arith, ap h.writes kept.0);
       unfit = λ none. (refl, subst (IsKept h c.args.disk) (sym kept.0) (kept_none h c.args.disk));
-      memory = λ is. kept;
+      memory = λ is. (kept.0, kept.1);
     }

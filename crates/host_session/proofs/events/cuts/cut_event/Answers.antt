@@ -1,5 +1,5 @@
 -- The openings after a cut message keep the shop that it left.
-use Rattle.std.proofs.Common.{◌≡◌, ◌≤◌, ⊎_elim, List, None, refl, subst, sym, ℕ}
+use Rattle.std.proofs.Common.{◌≡◌, ◌≤◌, ⊎_elim, List, None, arith, refl, subst, sym, ℕ}
 use Rattle.std.proofs.lemmas.Option.{none-some}
 use Rattle.d64_image.specs.History.{Failed}
 use Rattle.host_session.specs.Held.{HeldOnly}
@@ -48,6 +48,17 @@ returns-in-Ok-clause-done g c = λ s settled alive.
             settled = subst (IsSettled (h.image c.in-Ok.session.disk)) (IsShop-one _ _ t ok.1 there) ok.2;
           }),
       λ u rests asks. (spared u rests asks).1,
+      λ u rests.
+          let y = c.cut_message-cut_disk.ensures.event u rests alive in
+          let v : Shop = with_state u (after_all (start_of u) u.state y.counted) in
+          let there = at_end h _ _ (λ i. IsShop i v) (c.cut_openings-disk.ensures.moments v y.ends) in
+          omega (
+            arith,
+            c.cut_message-cut_disk.ensures.most u rests,
+            c.cut_openings-disk.ensures.most v y.ends,
+            c.as_slice.ensures.fits,
+            (c.in-Ok.ensures.moments v there).writes,
+          ),
     )
 
 pub returns-in-Err-clause-stopped : goal.returns-in-Err-clause-stopped
@@ -79,4 +90,15 @@ returns-in-Err-clause-stopped g c = λ s settled alive.
             shop = at_end h _ _ (λ i. IsShop i t) held;
           }),
       λ u rests asks. (spared u rests asks).1,
+      λ u rests.
+          let y = c.cut_message-cut_disk.ensures.event u rests alive in
+          let v : Shop = with_state u (after_all (start_of u) u.state y.counted) in
+          let there = at_end h _ _ (λ i. IsShop i v) (c.cut_openings-disk.ensures.moments v y.ends) in
+          omega (
+            arith,
+            c.cut_message-cut_disk.ensures.most u rests,
+            c.cut_openings-disk.ensures.most v y.ends,
+            c.as_slice.ensures.fits,
+            (c.in-Err.ensures.moments v there).writes,
+          ),
     )

@@ -3,7 +3,7 @@ use Rattle.std.proofs.Common.{◌≡◌, ◌∙◌, ap, arith, inl, inr, ⊎_eli
 use Rattle.d64_image.specs.Fuses.{fuse_disk}
 use Rattle.host_session.specs.session.Handling.{IsBeforeOrAfter}
 use Rattle.host_session.specs.shop.Shop.{IsShop}
-use Rattle.host_session.proofs.lemmas.events.Cuts.{cut_writes, message_cut}
+use Rattle.host_session.proofs.lemmas.events.Cuts.{cut_most, cut_writes, message_cut}
 use Rattle.host_session.proofs.events.cuts.cut_message.Goals as goal
 
 pub returns-clause-writes : goal.returns-clause-writes
@@ -11,6 +11,13 @@ returns-clause-writes g c = λ s settled. cut_writes g.D.Sectors.history c.args.
     c.into_inner.result
     c.fused-cut.result.disk c.handle.new.self.disk (IsBeforeOrAfter s c.args.message.now)
     c.fused-cut.ensures.disk (c.into_inner.ensures ∙ ap (λ f. f.disk) c.close.ensures) c.fused-cut.ensures.limit
+    (c.handle.ensures.moments s (subst (λ d. IsShop (g.D.Sectors.history.image d) s) (sym c.fused-cut.ensures.disk)
+    settled.shop))
+
+pub returns-clause-most : goal.returns-clause-most
+returns-clause-most g c = λ s settled. cut_most g.D.Sectors.history 3618 c.args.session.disk c.into_inner.result
+    c.fused-cut.result.disk c.handle.new.self.disk (IsBeforeOrAfter s c.args.message.now)
+    c.fused-cut.ensures.disk (c.into_inner.ensures ∙ ap (λ f. f.disk) c.close.ensures)
     (c.handle.ensures.moments s (subst (λ d. IsShop (g.D.Sectors.history.image d) s) (sym c.fused-cut.ensures.disk)
     settled.shop))
 

@@ -1,7 +1,7 @@
 -- An opening whose power goes.
 use Rattle.std.proofs.Common.{◌∙◌, ap, subst, sym}
 use Rattle.d64_image.specs.Fuses.{fuse_disk}
-use Rattle.host_session.proofs.lemmas.events.Cuts.{cut_later, cut_moments, cut_writes}
+use Rattle.host_session.proofs.lemmas.events.Cuts.{cut_later, cut_moments, cut_most, cut_writes}
 use Rattle.host_session.proofs.lemmas.events.Quiet.{cut_quiet}
 use Rattle.host_session.specs.shop.Shop.{IsShop}
 use Rattle.host_session.proofs.events.cuts.cut_opening.Goals as goal
@@ -16,6 +16,10 @@ returns-in-Ok g c = record {
       cut_writes g.D.Sectors.history c.args.writes 952 c.args.disk c.into_inner.result c.new.result c.in-Ok.session.disk
       (λ i. IsShop i s) c.new.ensures.disk
       (c.into_inner.ensures ∙ ap fuse_disk c.close.ensures) c.new.ensures.limit
+      (c.in-Ok.ensures.moments s (subst (λ d. IsShop (g.D.Sectors.history.image d) s) (sym c.new.ensures.disk) shop));
+  most = λ s shop.
+      cut_most g.D.Sectors.history 952 c.args.disk c.into_inner.result c.new.result c.in-Ok.session.disk (λ i. IsShop i s)
+      c.new.ensures.disk (c.into_inner.ensures ∙ ap fuse_disk c.close.ensures)
       (c.in-Ok.ensures.moments s (subst (λ d. IsShop (g.D.Sectors.history.image d) s) (sym c.new.ensures.disk) shop));
   later = λ s shop.
       cut_later g.D.Sectors.history s 952 c.args.disk c.into_inner.result c.new.result c.in-Ok.session.disk
@@ -36,6 +40,10 @@ returns-in-Err g c = record {
       cut_writes g.D.Sectors.history c.args.writes 952 c.args.disk c.into_inner-in-Err.result c.new.result c.in-Err.fuse
       (λ i. IsShop i s) c.new.ensures.disk
       c.into_inner-in-Err.ensures c.new.ensures.limit
+      (c.in-Err.ensures.moments s (subst (λ d. IsShop (g.D.Sectors.history.image d) s) (sym c.new.ensures.disk) shop));
+  most = λ s shop.
+      cut_most g.D.Sectors.history 952 c.args.disk c.into_inner-in-Err.result c.new.result c.in-Err.fuse (λ i. IsShop i s)
+      c.new.ensures.disk c.into_inner-in-Err.ensures
       (c.in-Err.ensures.moments s (subst (λ d. IsShop (g.D.Sectors.history.image d) s) (sym c.new.ensures.disk) shop));
   later = λ s shop.
       cut_later g.D.Sectors.history s 952 c.args.disk c.into_inner-in-Err.result c.new.result c.in-Err.fuse

@@ -9,7 +9,7 @@ pub loop-writes-init : goal.loop-writes-init
 loop-writes-init g c =
     let h = g.D.Sectors.history in
     record {
-      shop = λ s shop. (start h c.args.disk (λ i. IsShop i s) shop, le_refl (h.failures c.args.disk));
+      shop = λ s shop. (start h c.args.disk (λ i. IsShop i s) shop, le_refl (h.failures c.args.disk), omega arith);
       quiet = λ s rests. no_change h c.args.disk (λ i. i ≡ h.image c.args.disk) refl;
     }
 
@@ -22,6 +22,7 @@ loop-writes-preserved g c =
           let there = at_end h _ _ (λ i. IsShop i s) so_far.0 in (
             then h _ _ _ (λ i. IsShop i s) so_far.0 (c.cut_opening-disk.ensures.moments s there),
             omega (arith, so_far.1, c.cut_opening-disk.ensures.later s there),
+            omega (arith, so_far.2, c.cut_opening-disk.ensures.most s there),
           );
       quiet = λ s rests. untouched_on h _ _ _ (c.loop-writes.invariant.quiet s rests)
           (λ same. c.cut_opening-disk.ensures.quiet s (subst (λ i. IsSettled i s) (sym same) rests));
@@ -32,6 +33,9 @@ returns-clause-moments g c = λ s shop. (c.loop-writes.invariant.shop s shop).0
 
 pub returns-clause-later : goal.returns-clause-later
 returns-clause-later g c = λ s shop. (c.loop-writes.invariant.shop s shop).1
+
+pub returns-clause-most : goal.returns-clause-most
+returns-clause-most g c = λ s shop. omega (arith, (c.loop-writes.invariant.shop s shop).2)
 
 pub returns-clause-quiet : goal.returns-clause-quiet
 returns-clause-quiet g c = λ s rests. c.loop-writes.invariant.quiet s rests

@@ -9,7 +9,7 @@ use Rattle.host_session.specs.runs.Loops.{Ends, IsStretch, with_disk}
 use Rattle.host_session.specs.events.OneEvent.{GoesOn, IsEvent}
 use Rattle.host_session.specs.declared.runs.event_loop.LoopFault.TheVariants as faults
 use Rattle.host_session.specs.events.Telling.{IsTold}
-use Rattle.host_session.specs.events.Within.{SparesTheDisk}
+use Rattle.host_session.specs.events.Within.{IsWithinMost, SparesTheDisk}
 use Rattle.host_session.proofs.runs.event_loop.run_on.Goals as goal
 use Rattle.host_session.proofs.runs.event_loop.run_on.Answers.Stopped as stopped
 
@@ -57,6 +57,10 @@ loop-next-preserved g c =
           (is_reset m c.message.result.now _ c.message.ensures
           (cut_is _ c.cut.result c.unwrap-cut.result _ c.unwrap-cut.ensures c.cut.ensures))
           (λ t settled. (c.in-Ok.ensures.done t settled before.0).2 t settled))
+          (subst (λ n. IsWithinMost h n x y)
+          (is_reset m c.message.result.now _ c.message.ensures
+          (cut_is _ c.cut.result c.unwrap-cut.result _ c.unwrap-cut.ensures c.cut.ensures))
+          (λ t settled. (c.in-Ok.ensures.done t settled before.0).3 t settled))
           before.1 in
           subst (IsStretch h a o from c.whole_messages.new.session c.whole_messages.new.asks c.whole_messages.new.out)
           c.in-Cut.is
@@ -89,6 +93,10 @@ returns-in-Ended g c = λ from w alive.
     (is_reset m c.message.result.now _ c.message.ensures
     (cut_is _ c.cut.result c.unwrap-cut.result _ c.unwrap-cut.ensures c.cut.ensures))
     (λ t settled. (c.in-Ok.ensures.done t settled before.0).2 t settled))
+    (subst (λ n. IsWithinMost h n x y)
+    (is_reset m c.message.result.now _ c.message.ensures
+    (cut_is _ c.cut.result c.unwrap-cut.result _ c.unwrap-cut.ensures c.cut.ensures))
+    (λ t settled. (c.in-Ok.ensures.done t settled before.0).3 t settled))
     before.1 in
     let stretch =
     subst (IsStretch h a o from c.whole_messages.new.session c.whole_messages.new.asks c.whole_messages.new.out)

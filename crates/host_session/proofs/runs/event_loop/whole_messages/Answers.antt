@@ -2,7 +2,7 @@
 mod Stopped
 use Rattle.std.proofs.Common.{◌≡◌, ◌∙◌, Err, Ok, Result, false, arith, le_refl, not, ap, subst, sym}
 use Rattle.std.proofs.lemmas.Bool.{false≢true}
-use Rattle.host_session.proofs.lemmas.events.WholeMessages.{whole_done, whole_spared, whole_within}
+use Rattle.host_session.proofs.lemmas.events.WholeMessages.{whole_done, whole_most, whole_spared, whole_within}
 use Rattle.host_session.proofs.lemmas.runs.AskedTold.{is_whole, no_cut, some_cut, was_asked, was_told}
 use Rattle.host_session.proofs.lemmas.runs.Looped.{at_end, at_fault, goes_on, takes_one}
 use Rattle.host_session.specs.declared.runs.event_loop.LoopFault.{LoopFault}
@@ -11,7 +11,7 @@ use Rattle.host_session.specs.declared.runs.event_loop.Stopped.TheVariants as st
 use Rattle.host_session.specs.events.Instants.{instant_of}
 use Rattle.host_session.specs.events.OneEvent.{GoesOn, IsEvent}
 use Rattle.host_session.specs.events.Telling.{IsTold}
-use Rattle.host_session.specs.events.Within.{IsWithin, SparesTheDisk}
+use Rattle.host_session.specs.events.Within.{IsWithin, IsWithinMost, SparesTheDisk}
 use Rattle.host_session.proofs.runs.event_loop.whole_messages.Goals as goal
 use Rattle.host_session.proofs.runs.event_loop.whole_messages.Answers.Stopped as stopped
 
@@ -120,5 +120,9 @@ loop-asks-preserved g c =
           (is_whole m c.message.result.now c.message.ensures
           (no_cut _ c.cut.result _ c.cut.ensures (sym c.is_some.ensures ∙ c.if-is_some.false)))
           (whole_spared h c.loop-asks.session c.handle-reply.new.self c.message.result.now reply c.handle-reply.ensures before.0))
+          (subst (λ n. IsWithinMost h n x y)
+          (is_whole m c.message.result.now c.message.ensures
+          (no_cut _ c.cut.result _ c.cut.ensures (sym c.is_some.ensures ∙ c.if-is_some.false)))
+          (whole_most h c.loop-asks.session c.handle-reply.new.self c.message.result.now reply c.handle-reply.ensures))
           (takes_one h a o from x c.loop-asks.asks c.next.new.self c.loop-asks.out before.1 took.0 took.2);
     }

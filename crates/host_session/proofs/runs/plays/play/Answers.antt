@@ -99,7 +99,7 @@ returns-in-Err-run g c =
       ok = λ s shop. tt;
       device = λ s shop is.
           let x = e.device s shop is in
-          (x.0, subst (λ (xs : List Reply). new.items ≡ xs ++ x.0) c.in-Ok.ensures.items x.1, x.2);
+          (x.0, subst (λ (xs : List Reply). new.items ≡ xs ++ x.0) c.in-Ok.ensures.items x.1, x.2, x.3);
       moments = e.moments;
       quiet = e.quiet;
       spared = e.spared;

@@ -8,7 +8,7 @@ use Rattle.host_session.specs.runs.Loops.{EndsBy}
 use Rattle.host_session.specs.events.OneEvent.{EndsFailed, GoesOn, IsEvent}
 use Rattle.host_session.specs.declared.runs.event_loop.LoopFault.TheVariants as faults
 use Rattle.host_session.specs.events.Telling.{IsTold}
-use Rattle.host_session.specs.events.Within.{SparesTheDisk}
+use Rattle.host_session.specs.events.Within.{IsWithinMost, SparesTheDisk}
 use Rattle.host_session.proofs.runs.event_loop.run_on.Goals as goal
 
 pub returns-in-Err : goal.returns-in-Err
@@ -30,6 +30,10 @@ returns-in-Err g c = λ from w alive.
     (is_reset m c.message.result.now _ c.message.ensures
     (cut_is _ c.cut.result c.unwrap-cut.result _ c.unwrap-cut.ensures c.cut.ensures))
     (λ t settled. (c.in-Err.ensures.stopped t settled before.0).1 t settled))
+    (subst (λ n. IsWithinMost h n x y)
+    (is_reset m c.message.result.now _ c.message.ensures
+    (cut_is _ c.cut.result c.unwrap-cut.result _ c.unwrap-cut.ensures c.cut.ensures))
+    (λ t settled. (c.in-Err.ensures.stopped t settled before.0).2 t settled))
     before.1
 
 pub returns-then-is_err : goal.returns-then-is_err
@@ -59,4 +63,8 @@ returns-then-is_err g c = λ from w alive.
     (is_reset m c.message.result.now _ c.message.ensures
     (cut_is _ c.cut.result c.unwrap-cut.result _ c.unwrap-cut.ensures c.cut.ensures))
     (λ t settled. (c.in-Ok.ensures.done t settled before.0).2 t settled))
+    (subst (λ n. IsWithinMost h n x y)
+    (is_reset m c.message.result.now _ c.message.ensures
+    (cut_is _ c.cut.result c.unwrap-cut.result _ c.unwrap-cut.ensures c.cut.ensures))
+    (λ t settled. (c.in-Ok.ensures.done t settled before.0).3 t settled))
     before.1)

@@ -1,13 +1,13 @@
 -- The device or the output failed.
 use Rattle.std.proofs.Common.{◌≡◌, ◌∙◌, false, subst, sym}
 use Rattle.std.proofs.lemmas.Bool.{false≢true}
-use Rattle.host_session.proofs.lemmas.events.WholeMessages.{whole_done, whole_spared, whole_stopped, whole_within}
+use Rattle.host_session.proofs.lemmas.events.WholeMessages.{whole_done, whole_most, whole_spared, whole_stopped, whole_within}
 use Rattle.host_session.proofs.lemmas.runs.AskedTold.{is_whole, no_cut, was_asked, was_broken}
 use Rattle.host_session.proofs.lemmas.runs.Looped.{breaks_off, fails, takes_one}
 use Rattle.host_session.specs.events.Instants.{instant_of}
 use Rattle.host_session.specs.events.OneEvent.{EndsFailed, GoesOn, IsEvent}
 use Rattle.host_session.specs.events.Telling.{IsTold}
-use Rattle.host_session.specs.events.Within.{IsWithin, SparesTheDisk}
+use Rattle.host_session.specs.events.Within.{IsWithin, IsWithinMost, SparesTheDisk}
 use Rattle.host_session.proofs.runs.event_loop.whole_messages.Goals as goal
 
 pub returns-then-is_media-clause-way : goal.returns-then-is_media-clause-way
@@ -37,6 +37,10 @@ returns-then-is_media-clause-way g c = λ from w alive.
     (is_whole m c.message.result.now c.message.ensures
     (no_cut _ c.cut.result _ c.cut.ensures (sym c.is_some.ensures ∙ c.if-is_some.false)))
     (whole_spared h c.loop-asks.session c.handle-reply.new.self c.message.result.now reply c.handle-reply.ensures before.0))
+    (subst (λ n. IsWithinMost h n x y)
+    (is_whole m c.message.result.now c.message.ensures
+    (no_cut _ c.cut.result _ c.cut.ensures (sym c.is_some.ensures ∙ c.if-is_some.false)))
+    (whole_most h c.loop-asks.session c.handle-reply.new.self c.message.result.now reply c.handle-reply.ensures))
     (takes_one h a o from x c.loop-asks.asks c.next.new.self c.loop-asks.out before.1 took.0 took.2)
 
 pub returns-then-is_err-clause-way : goal.returns-then-is_err-clause-way
@@ -73,4 +77,8 @@ returns-then-is_err-clause-way g c = λ from w alive.
     (is_whole m c.message.result.now c.message.ensures
     (no_cut _ c.cut.result _ c.cut.ensures (sym c.is_some.ensures ∙ c.if-is_some.false)))
     (whole_spared h c.loop-asks.session c.handle-reply.new.self c.message.result.now reply c.handle-reply.ensures before.0))
+    (subst (λ n. IsWithinMost h n x y)
+    (is_whole m c.message.result.now c.message.ensures
+    (no_cut _ c.cut.result _ c.cut.ensures (sym c.is_some.ensures ∙ c.if-is_some.false)))
+    (whole_most h c.loop-asks.session c.handle-reply.new.self c.message.result.now reply c.handle-reply.ensures))
     (takes_one h a o from x c.loop-asks.asks c.next.new.self c.loop-asks.out before.1 took.0 took.2)
