@@ -2,6 +2,7 @@ mod Answered
 mod Asking
 mod Counted
 mod Counting
+mod CrashSafety
 pub mod Examples
 pub mod Fronts
 mod Grown

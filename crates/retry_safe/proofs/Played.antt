@@ -45,17 +45,22 @@ module _ (s : Shop) (ms begun : List Message) (fails : List Bool) (counted : Lis
   turns_shop i is shop = subst (λ (xs : List Ask). IsShop i (with_state s (plain (start_of s) xs)))
       (counted_are (start_of s) [] begun fails counted is) shop
 
+-- the shop of a beginning, as turns
+pub after_some : (s : Shop) (ms : List Message) (Blamed : List Bool → Type 0) (i : Image) → IsSomeBeginning s ms Blamed i
+    → IsAfterSome s ms i
+after_some s ms Blamed i x = record {
+  turns = turns_of (start_of s) [] x.begun x.fails x.counted;
+  are = turns_are s ms x.begun x.fails x.counted x.rest x.parts x.is (none_failed x.begun x.fails x.whole);
+  shop = turns_shop s ms x.begun x.fails x.counted i x.is x.shop;
+}
+
 module _ {D : Type 0} (h : History D) (s : Shop) (ms : List Message) (n : ℕ) (a b : Fuse D) (old new : List Reply) where
   -- on the way, beneath the fuse
   on_the_way : HeldBeginnings (fuse h) s ms a b → HeldOnly h (fuse_disk a) (fuse_disk b) (IsAfterSome s ms)
   on_the_way held =
       let P : Image → Type 0 = IsSomeBeginning s ms (IsBlamed (fuse h) a b) in
       weaker h (fuse_disk a) (fuse_disk b) P (IsAfterSome s ms)
-      (λ i x. record {
-        turns = turns_of (start_of s) [] x.begun x.fails x.counted;
-        are = turns_are s ms x.begun x.fails x.counted x.rest x.parts x.is (none_failed x.begun x.fails x.whole);
-        shop = turns_shop s ms x.begun x.fails x.counted i x.is x.shop;
-      })
+      (λ i x. after_some s ms (IsBlamed (fuse h) a b) i x)
       (held_beneath h a b P held)
 
   -- some of the messages were played, from the first on

@@ -1,4 +1,5 @@
 pub mod Asked
+pub mod CrashSafe
 pub mod Left
 pub mod RetrySafe
 pub mod RetrySafeOver

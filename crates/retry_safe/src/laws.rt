@@ -6,18 +6,27 @@ ghost use Rattle.d64_image.specs.Images.{Image};
 ghost use Rattle.disk_layout.specs.Clean.{IsClean};
 ghost use Rattle.disk_layout.specs.Layout.{IsSound};
 ghost use Rattle.host_session.specs.events.Events.{Message};
+ghost use Rattle.host_session.specs.runs.Chains.{HasRun};
 ghost use Rattle.host_session.specs.session.Handling.{IsMedia};
 ghost use Rattle.host_session.specs.session.Standing.{View};
 ghost use Rattle.host_session.specs.shop.Shop.{IsSettled, IsShop, Shop};
 ghost use Rattle.request_cards.specs.Requests.{Ask};
 ghost use Rattle.request_cards.specs.declared.reply.Reply.{Reply};
 ghost use Rattle.request_cards.specs.declared.reply.Reply.TheVariants.{Syntax};
+ghost use Rattle.retry_safe.specs.CrashSafe.{IsCrashSafe};
 ghost use Rattle.retry_safe.specs.Left.{shop_after};
 ghost use Rattle.retry_safe.specs.RetrySafe.{IsOpened, LacksMemory, Reopened, RetrySafe, left_of};
 ghost use Rattle.retry_safe.specs.Teeth.{AreToldFirst, HasPowerFor, IsLost, WasHeld, kept_number};
 ghost use Rattle.retry_safe.specs.Turns.{IsAnswer, IsLastOfTill};
 
 use d64_image::Sectors;
+
+/// Each run of messages is safe under crashes: `run` over any source and output returns such runs (`HasRun`), and so does
+/// each run that a device ended, up to its last event.
+pub fn a_run_is_crash_safe<D: Sectors>()
+    ensures { (s : Shop) (messages : List Message) (told : List (Reply × D)) (disk left : D)
+        → HasRun D.history s messages told disk left → IsCrashSafe D.history s messages told disk left }
+{}
 
 /// The promise isn't empty: a shop at rest, no events, and an empty message, which is answered.
 pub fn the_promise_can_be_met<D: Sectors>()

@@ -9,7 +9,7 @@ mod power_loss;
 
 pub use laws::{
     a_changed_file_is_seen, a_disk_not_opened_is_seen, a_dropped_event_is_seen,
-    a_lost_answer_is_seen, a_reply_too_many_is_seen, a_second_count_is_seen,
+    a_lost_answer_is_seen, a_reply_too_many_is_seen, a_run_is_crash_safe, a_second_count_is_seen,
     a_second_owner_is_seen, a_vanished_card_is_seen, a_wrong_map_is_seen, another_answer_is_seen,
     enough_power_is_enough, memory_blamed_is_seen, the_promise_can_be_met,
 };
