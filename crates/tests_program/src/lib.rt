@@ -1,6 +1,6 @@
-//! Worked rows of the whole program over a runtime in memory: its words, its files, its input and output, what it reports
-//! and its exit status. Tests only: no program stands on this crate. They stand here and not in the crates that they test
-//! so that the gate proves those once.
+//! Worked rows of the whole program over a runtime in memory: calls that fail, locks that aren't given, what is synced, and
+//! outputs that are full. What the built program shows by itself is in tests/rows. Tests only: no program stands on this
+//! crate. They stand here and not in the crates that they test so that the gate proves those once.
 #![tactic(auto)]
 
 #[cfg(test)]
