@@ -59,7 +59,7 @@ prints 1,1,DONE,5|
 /// lands it.
 const LEFT: &[u8] = b"
 input 1,1,S,1,5|
-log-sync 3 fails
+log-sync 4 fails
 $ ledger_cli serve a.d64
 tells DEVICE|
 ends 3
@@ -81,7 +81,7 @@ $ ledger_cli show a.d64
 prints TOP 9256|CARD 1,9|TILL 1,2,R,1,4,DONE,9|PRIOR 1,1,S,1,5,DONE,5|
 
 input 1,1,S,1,5|
-log-sync 3 fails
+log-sync 4 fails
 $ ledger_cli serve a.d64
 tells DEVICE|
 ends 3
@@ -93,7 +93,7 @@ $ ledger_cli show a.d64
 prints TOP 9256|CARD 1,5|TILL 1,1,S,1,5,DONE,5|
 
 input 1,1,S,1,5|
-log-sync 3 fails
+log-sync 4 fails
 $ ledger_cli serve a.d64
 tells DEVICE|
 ends 3
@@ -104,7 +104,7 @@ prints 1,1,DONE,5|
 written
 
 input 1,1,S,1,5|
-log-sync 3 fails
+log-sync 4 fails
 $ ledger_cli serve a.d64
 tells DEVICE|
 ends 3
@@ -115,7 +115,7 @@ rewritten
 
 # the log goes when the old image is no shop any more
 input 1,1,S,1,5|
-log-sync 3 fails
+log-sync 4 fails
 $ ledger_cli serve a.d64
 tells DEVICE|
 ends 3
@@ -137,7 +137,7 @@ tells FILE|
 ends 3
 ";
 
-/// A log that gives no image is refused by every word, and nothing is changed; but `format` removes it.
+/// A file in the log's place that gives no image is refused by every word, and nothing is changed.
 const REFUSED: &[u8] = b"
 log junk
 $ ledger_cli show a.d64
@@ -197,8 +197,9 @@ tells LOG|ledger: a.d64: the log beside it is of another image, or not whole; do
 ends 1
 logged
 $ ledger_cli format a.d64 --tills 2
-prints FORMATTED|
-rewritten
+tells FILE|
+ends 3
+logged
 
 # no image is made beside a log alone
 no image
@@ -208,8 +209,9 @@ tells FILE EXISTS|
 ends 1
 logged
 $ ledger_cli format a.d64 --tills 2
-prints FORMATTED|
-written
+tells FILE|
+ends 3
+logged
 
 # an image of another size has no log
 log junk

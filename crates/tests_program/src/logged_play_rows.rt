@@ -70,7 +70,7 @@ syncs 0
 
 /// A commit that fails isn't reported, and its log stays, as it does if the image goes from its name. The next play lands it.
 const LEFT: &[u8] = b"
-log-sync 3 fails
+log-sync 4 fails
 $ ledger_cli play --log a.d64 s.txt
 tells DEVICE|
 ends 3
