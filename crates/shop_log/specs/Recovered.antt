@@ -22,7 +22,7 @@ abbrev pub recovered : List ℕ → Image
 recovered f = replayed (block_at f) blank (commits_end f)
 
 -- Block q may be a part of one commit that was torn and begins at block `end`. It is one of the 46 blocks that a commit may
--- have, and no whole block of them before it ends the commit. What else stands in these blocks isn't asked.
+-- have, and no whole block of them before it ends the commit. These blocks may hold any other bytes.
 pub record MayBeTorn (f : List ℕ) (end q : ℕ) : Type 0 where
   pub near : q < end + 46
   pub unended : (p : ℕ) → end ≤ p → p < q → is_whole p (block_at f p) && is_last (block_at f p) ≡ false
