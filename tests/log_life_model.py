@@ -8,8 +8,9 @@ is full and lands it at the end; `play`, which lands a log and then changes IMAG
 and then puts another image in IMAGE's place. Each is stopped at a random
 call, by a kill or by a power loss, during recoveries too. A power loss keeps any of the unsynced changes of names, and
 tears each unsynced write: every byte of it comes or stays out. Each image that the next program finds must be one that
-was there since the last confirmed change. The same is then tried with one step of the order left out: the model must
-find that wrong, or it would be blind."""
+was there since the last confirmed change. Now and then somebody puts another IMAGE there, damages the log, puts a file of
+another kind at a name of it, or takes the log's name away under a service. The same is then tried with one step left out:
+the model must find that wrong, or it would be blind."""
 import collections
 import random
 import sys
@@ -18,8 +19,9 @@ SECTORS, WIDTH, PER = 4, 2, 2       # sectors of IMAGE, bytes of a sector, secto
 HEAD = 3                            # count of zeros, kind, number of sectors
 BLOCK = HEAD + PER * (1 + WIDTH)
 BLOCKS = 9                          # blocks of a log; the mark stands behind them
+LENGTH = BLOCK * BLOCKS + 1
 MORE, LAST = 1, 2
-BASE = SECTORS // PER
+BASE = SECTORS // PER               # blocks of a commit, at most
 
 # each step that may be left out, and what is expected to go wrong without it
 STEPS = {
@@ -42,6 +44,11 @@ STEPS = {
     'mark first': 'a reader takes the mark that it finds behind the log\'s blocks',
     'log first': 'a reader reads IMAGE before the log',
     'lock': 'a reader may look before the log stands',
+    'backwards': 'a reader reads the first block of the log first',
+    'damage': 'a log that is damaged before its end is landed',
+    'looks': 'a service doesn\'t look for the log\'s name before it lands it',
+    'length': 'the length of a new log is not synced first',
+    'foreign': 'a file that is no log in the making is removed',
 }
 
 
@@ -50,7 +57,11 @@ class Wrong(Exception):
 
 
 class Refused(Exception):
-    """The log is of another image."""
+    """The log is of another image, or damaged; or another file stands at a name of it."""
+
+
+class Gone(Exception):
+    """The log's name doesn't lead to the log of a service."""
 
 
 class Disk:
@@ -72,6 +83,10 @@ class Disk:
     def write(self, number, at, data):
         put(self.seen[number], at, data)
         self.writes[number].append((at, bytes(data)))
+
+    def lengthen(self, number, size):
+        put(self.seen[number], size, b'')
+        self.writes[number].append((size, None))
 
     def sync(self, number):
         self.kept[number] = bytearray(self.seen[number])
@@ -102,6 +117,9 @@ class Disk:
             style = rng.choice(('bytes', 'writes', 'none', 'all'))
             for at, new in self.writes[number]:
                 whole = rng.random() < .5
+                if new is None:
+                    put(data, at if whole else 0, b'')
+                    continue
                 for i, byte in enumerate(new):
                     comes = {'bytes': rng.random() < .5, 'writes': whole, 'none': False, 'all': True}[style]
                     put(data, at + i, bytes([byte]) if comes else data[at + i:at + i + 1] or b'\0')
@@ -134,22 +152,32 @@ def blocks_of(sectors):
 
 
 def read_log(data):
-    """The base, the image, whether the mark is there, and the number of whole blocks; None if there is no base."""
-    if len(data) != BLOCK * BLOCKS + 1:
+    """The base, the image, whether the mark is there, and whether one torn commit is all that stands after the whole ones;
+    None if there is no base."""
+    if len(data) != LENGTH:
         return None
-    image, base, sectors, whole = [bytes(WIDTH)] * SECTORS, None, {}, 0
-    for q in range(BLOCKS):
-        block = data[q * BLOCK:(q + 1) * BLOCK]
-        if block[0] != block[1:].count(0) or block[1] not in (MORE, LAST):
+    image, base, sectors, end = [bytes(WIDTH)] * SECTORS, None, {}, 0
+    blocks = [data[q * BLOCK:(q + 1) * BLOCK] for q in range(BLOCKS)]
+    for q, block in enumerate(blocks):
+        if not is_whole(block):
             break
-        whole += 1
         for j in range(min(block[2], PER)):
             at = HEAD + j * (1 + WIDTH)
             sectors[block[at] - 1] = bytes(block[at + 1:at + 1 + WIDTH])
         if block[1] == LAST:
             image = [sectors.get(i, image[i]) for i in range(SECTORS)]
-            base, sectors = base or image, {}
-    return None if base is None else (base, image, data[-1] != 0, whole)
+            base, sectors, end = base or image, {}, q + 1
+    return None if base is None else (base, image, data[-1] != 0, ends_torn(blocks, end))
+
+
+def is_whole(block):
+    return block[0] == block[1:].count(0) and block[1] in (MORE, LAST)
+
+
+def ends_torn(blocks, end):
+    """Whether one torn commit is all that stands after the first blocks, if anything does."""
+    written = max((q + 1 for q in range(end, BLOCKS) if any(blocks[q])), default=end)
+    return written <= end + BASE and not any(is_whole(it) and it[1] == LAST for it in blocks[end:max(end, written - 1)])
 
 
 def is_mix(image, base, shop):
@@ -173,7 +201,7 @@ class World:
         self.disk.sync(self.image)
         self.disk.sync_folder()
         self.may_be, self.confirmed = [first], 0
-        self.shared, self.reader, self.views = True, None, 0
+        self.shared, self.reader, self.views, self.serving = True, None, 0, False
 
     def sectors(self):
         data = self.disk.seen[self.image]
@@ -205,17 +233,21 @@ class World:
         else:
             mark = bytes(disk.seen[log][-1:])
             yield
-            data = bytearray()
-            while len(data) < BLOCK * BLOCKS + 1:
-                data += disk.seen[log][len(data):len(data) + self.rng.choice((1, 3, BLOCK))]
-                yield
+            data = bytearray(LENGTH)
+            for q in range(BLOCKS + 1) if self.without == 'backwards' else range(BLOCKS, -1, -1):
+                at, end = q * BLOCK, min(LENGTH, q * BLOCK + BLOCK)
+                while at < end:
+                    to = min(end, at + self.rng.choice((1, 3, BLOCK)))
+                    data[at:to] = disk.seen[log][at:to]
+                    at = to
+                    yield
             # commits may have come while it was read, and then the mark
             if self.without != 'mark first':
                 data[-1:] = mark
             if image is None:
                 image = yield from self.read_image()
             found = read_log(data)
-            if found is None:
+            if found is None or not found[3]:
                 raise Wrong('a reader is refused')
             # a writer judged the log if it landed it meanwhile: it got its mark, or it had that and lost its name
             if found[2]:
@@ -281,7 +313,9 @@ class World:
         found = read_log(disk.seen[log])
         if found is None:
             raise Refused('no base')
-        base, image, marked, _ = found
+        base, image, marked, is_torn = found
+        if not is_torn and without != 'damage':
+            raise Refused('damaged')
         if not (without == 'judge' or marked and without == 'marked alone' or is_of(self.sectors(), base, image, marked)):
             raise Refused('of another image')
         if without == 'wins':
@@ -292,12 +326,8 @@ class World:
 
     def make(self, image):
         disk, without = self.disk, self.without
-        if 'NEW' in disk.names:
-            disk.remove('NEW')
-            yield
-        log = disk.create('NEW')
-        yield
-        disk.write(log, 0, bytes(BLOCK * BLOCKS + 1))
+        log = yield from self.lay_out()
+        disk.write(log, 0, bytes(LENGTH))
         yield
         disk.sync(log)
         yield
@@ -317,6 +347,28 @@ class World:
             yield
         return log, BASE
 
+    def lay_out(self):
+        """A file of zeros as long as a log, in the place of one that a run before left."""
+        disk = self.disk
+        if 'NEW' in disk.names:
+            if self.without != 'foreign' and len(disk.seen[disk.names['NEW']]) not in (0, LENGTH):
+                raise Refused('another file stands where a log is made')
+            disk.remove('NEW')
+            yield
+        log = disk.create('NEW')
+        yield
+        disk.lengthen(log, LENGTH)
+        yield
+        if self.without != 'length':
+            disk.sync(log)
+            yield
+        return log
+
+    def look(self, log):
+        """A service looks whether the log's name leads to its log."""
+        if self.disk.names.get('LOG') != log:
+            raise Gone
+
     def change(self, image, most):
         image = list(image)
         touched = sorted(self.rng.sample(range(SECTORS), self.rng.randint(1, most)))
@@ -330,7 +382,7 @@ class World:
         image = yield from self.land()
         self.find(image)
         log, end = yield from self.make(image)
-        self.shared = True
+        self.shared = self.serving = True
         for _ in range(self.rng.randrange(7)):
             image, touched = self.change(image, 3)
             here = len(self.may_be) - 1
@@ -345,10 +397,13 @@ class World:
                 at += len(piece)
                 yield
             disk.sync(log)
+            self.look(log)
             self.confirmed = here
             yield
             end += len(data) // BLOCK
             if end + BASE > BLOCKS:
+                self.look(log)
+                self.serving = False
                 yield from self.bring(log, image)
                 if self.without == 'zeros':
                     disk.write(log, BLOCK * BLOCKS, b'\0')
@@ -359,6 +414,10 @@ class World:
                     end = BASE
                 else:
                     log, end = yield from self.make(image)
+                self.serving = True
+        if self.without != 'looks':
+            self.look(log)
+        self.serving = False
         yield from self.bring(log, image)
         yield from self.unlog()
 
@@ -368,13 +427,7 @@ class World:
         self.find(image)
         new, touched = self.change(image, SECTORS)
         here = len(self.may_be) - 1
-        if 'NEW' in disk.names:
-            disk.remove('NEW')
-            yield
-        log = disk.create('NEW')
-        yield
-        disk.write(log, 0, bytes(BLOCK * BLOCKS + 1))
-        yield
+        log = yield from self.lay_out()
         base = new if without == 'kept base' else image
         disk.write(log, 0, blocks_of(list(enumerate(base))) + blocks_of([(i, new[i]) for i in touched]))
         yield
@@ -426,6 +479,55 @@ class World:
         if found:
             raise Wrong('a log was landed on another image')
 
+    def hurt(self):
+        """A byte of a commit is lost that isn't one of the last two. This must be refused, and never be an older image."""
+        log = self.disk.names.get('LOG')
+        if log is None or read_log(self.disk.seen[log]) is None:
+            return
+        data = self.disk.seen[log]
+        ends = [q for q in range(BLOCKS) if data[q * BLOCK + 1] == LAST and is_whole(data[q * BLOCK:q * BLOCK + BLOCK])]
+        hurt = [at for at in range(ends[-3] * BLOCK + BLOCK if len(ends) > 2 else 0) if data[at]]
+        if not hurt:
+            return
+        data[self.rng.choice(hurt)] = 0
+        try:
+            for _ in self.land():
+                pass
+        except Refused:
+            return
+        raise Wrong('a damaged log was landed')
+
+    def put_notes(self):
+        """Somebody's file where a log is made must stay."""
+        if 'NEW' in self.disk.names:
+            self.disk.remove('NEW')
+        number = self.disk.create('NEW')
+        self.disk.write(number, 0, b'notes')
+        try:
+            for _ in self.serve():
+                pass
+        except Refused:
+            pass
+        if self.disk.names.get('NEW') != number:
+            raise Wrong('a file that is no log was removed')
+
+    def take_log(self):
+        """Somebody takes the log's name away under a service, and may put another file there. Nothing may be removed then, and
+        IMAGE stays."""
+        calls, put_there, before, self.serving = self.rng.randint(1, 60), None, None, False
+        try:
+            for _ in self.serve():
+                calls -= 1
+                if calls < 0 and before is None and self.serving:
+                    self.disk.rename('LOG', 'KEPT')
+                    if self.rng.random() < .5:
+                        put_there = self.disk.create('LOG')
+                    before = self.sectors()
+        except (Gone, KeyError):
+            pass
+        if before is not None and (self.disk.names.get('LOG') != put_there or self.sectors() != before):
+            raise Wrong('a service landed a log whose name had gone')
+
 
 def run(world, program, calls=10 ** 9):
     """Runs a program for so many calls, with readers beside it."""
@@ -450,8 +552,9 @@ def day(seed, without):
             world.disk.lose_power(rng)
         # what begins to write waits for readers
         world.look_on(10 ** 9)
-    if rng.random() < .1:
-        world.swap()
+    end = rng.random()
+    if end < .4:
+        (world.swap, world.hurt, world.put_notes, world.take_log)[int(end * 10)]()
     else:
         run(world, world.serve())
     return stops, world.views

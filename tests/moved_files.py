@@ -4,7 +4,8 @@
     tests/moved_files.py PROGRAM
 
 Behind each change the next line hears MEDIA, standard error has DEVICE, and the status is 3; also a line that is repeated and known
-from memory. If the input ends instead, it ends so too, and over a log nothing is landed or removed. Of two `serve`s under one name only the one whose file the name leads to answers. It ends by itself and uses no network."""
+from memory. If the input ends instead, it ends so too, and over a log nothing is landed or removed. The same with the log of a
+running `serve`; then no reply is told to the next line. Files beside an image that are no logs stay. Of two `serve`s under one name only the one whose file the name leads to answers. It ends by itself and uses no network."""
 
 import os
 import shutil
@@ -76,7 +77,62 @@ def held(folder):
     return {each.name: each.is_file() and each.read_bytes() for each in folder.iterdir()}
 
 
+def log_moved(folder):
+    (folder / "s.d64-log").rename(folder / "kept")
+
+
+def log_replaced(folder):
+    shutil.copy(folder / "s.d64-log", folder / "kept")
+    (folder / "kept").rename(folder / "s.d64-log")
+
+
+def log_removed(folder):
+    (folder / "s.d64-log").unlink()
+
+
+def log_cut(folder):
+    os.truncate(folder / "s.d64-log", 4_194_304)
+
+
+def log_longer(folder):
+    with (folder / "s.d64-log").open("ab") as file:
+        file.write(b"x")
+
+
+def log_a_folder(folder):
+    log_removed(folder)
+    (folder / "s.d64-log").mkdir()
+
+
+LOG_CHANGES = [log_moved, log_replaced, log_removed, log_cut, log_longer, log_a_folder]
 CHANGES = [moved, replaced, removed, emptied, cut, longer, made_a_folder]
+
+
+def run(folder, *words):
+    done = subprocess.run([PROGRAM, *words], cwd=folder, stdin=subprocess.DEVNULL, capture_output=True)
+    return done.returncode
+
+
+def strangers(folder):
+    """Files at the names of a log that are none stay, whatever runs. Returns how many commands ran."""
+    tried = 0
+    for name, what in (("s.d64-log", b"notes\n"), ("s.d64-log", bytes(4_198_400)), ("s.d64-log.new", b"notes\n")):
+        for words in (["serve", "s.d64"], ["format", "s.d64", "--tills", "2"], ["delete", "s.d64", "NONE"], ["play", "s.d64", "/dev/null"]):
+            fresh(folder)
+            (folder / name).write_bytes(what)
+            image = (folder / "s.d64").read_bytes()
+            status = run(folder, *words)
+            want(f"{words} beside {name}", (folder / name).read_bytes(), what)
+            if name == "s.d64-log":
+                want(f"{words} beside {name}", (status != 0, (folder / "s.d64").read_bytes()), (True, image))
+            tried += 1
+    # what a kill may leave of a log in the making doesn't stay
+    for what in (b"", bytes(4_198_400), b"\1" * 4_198_400):
+        fresh(folder)
+        (folder / "s.d64-log.new").write_bytes(what)
+        want("a log in the making", (run(folder, "serve", "s.d64"), sorted(held(folder))), (0, ["backup.d64", "s.d64"]))
+        tried += 1
+    return tried
 
 
 def fresh(folder):
@@ -109,6 +165,23 @@ def main():
             want(name, served.end(), (3, b"DEVICE\n"))
             want(name, held(folder), before)
             tried += 1
+        for change in LOG_CHANGES:
+            for line in (b"1,2,I,15,1", None):
+                fresh(folder)
+                served = Served(folder)
+                want("the first line", served.ask(b"1,1,S,15,7"), b"1,1,DONE,7")
+                change(folder)
+                before = held(folder)
+                name = f"{change.__name__} {line}"
+                if line:
+                    want(name, served.ask(line), b"")
+                want(name, served.end(), (3, b"DEVICE\n"))
+                if line is None:
+                    want(name, held(folder), before)
+                else:
+                    want(name, set(held(folder)), set(before))
+                tried += 1
+        tried += strangers(folder)
         # the goods of a shop whose copy came in its place are sold once: the second service lands the log of the first
         fresh(folder)
         first = Served(folder)

@@ -26,7 +26,7 @@ pub use noted::noted_runtime::NotedRuntime;
 pub use noted::subjects::Subject;
 pub use overwritten_file::{OpensFile, OverwrittenFile};
 pub use paths::host::HostFiles;
-pub use paths::names::{FileName, Stays};
+pub use paths::names::{FileName, Identity, Stays, leads_to};
 pub use paths::opening::{opened_to_change, opened_to_read, regular, regular_at};
 pub use reading::{read_image, read_script};
 pub use remaining::EndedFile;

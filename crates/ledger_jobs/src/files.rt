@@ -10,10 +10,10 @@ use crate::image_logs::{is_there, see_one_name};
 use crate::refusals::Refusal;
 use command_faults::CommandFault;
 use image_file::{
-    DIRECTORY_START, EndedFile, HostFiles, Locks, OpensFile, SPOILED_DIRECTORY, read_script,
-    regular, regular_at,
+    DIRECTORY_START, EndedFile, HostFiles, Identity, Locks, OpensFile, SPOILED_DIRECTORY,
+    read_script, regular, regular_at,
 };
-use shop_log::{LogNames, forget_log};
+use shop_log::{LogNames, find_log, forget_log};
 use std::fs::OpenFile;
 use std::io;
 
@@ -71,23 +71,40 @@ fn is_file_at<R: HostFiles>(rt: &R, path: &str) -> io::Result<bool>
     }
 }
 
-/// Removes the log of the image at a path, whose file this is, and which would win over the new image. The file is
+/// The log of the image at a path that is written over, if there is one. An error if another file stands there. If the image
+/// is kept, no log is looked for.
+fn older_log<R: HostFiles>(
+    rt: &R,
+    path: &str,
+    names: &LogNames,
+    older: Older,
+) -> io::Result<Option<Identity>>
+    requires makes { MayMakeImage R.rights rt.now path.now }
+    requires leads { R.rights.leads rt.now path.now (string_bytes names.now.image) ≡ true }
+{
+    match older {
+        Older::Replaced => find_log(rt, names),
+        Older::Kept => Ok(None),
+    }
+}
+
+/// Removes this log of the image at a path, whose file this is, and which would win over the new image. The file is
 /// spoiled before, and that is synced: without its log the old image is an older shop.
 fn forget_shop<F: EndedFile, R: HostFiles>(
     rt: &R,
     path: &str,
     names: &LogNames,
+    log: Option<Identity>,
     file: &mut F,
 ) -> io::Result<()>
     requires makes { MayMakeImage R.rights rt.now path.now }
     requires leads { R.rights.leads rt.now path.now (string_bytes names.now.image) ≡ true }
 {
-    if is_there(rt, names.log())? {
+    if log.is_some() {
         file.put_over(&SPOILED_DIRECTORY, DIRECTORY_START as u64)?;
         file.sync_whole()?;
     }
-    forget_log(rt, names)?;
-    Ok(())
+    forget_log(rt, names, log)
 }
 
 /// What becomes of a file that is there before another is made.
@@ -178,6 +195,7 @@ where
         let (rt, path) = (self.rt, self.path);
         // before the file is made, since memory may be refused
         let names = LogNames::of(rt, rt.alloc(), path)?;
+        let log = older_log(rt, path, &names, self.older)?;
         let mut file = self.opened(&names)?;
         // another thing may stand there by now
         regular(OpenFile::metadata(&file))?;
@@ -187,7 +205,7 @@ where
         if let Err(refusal) = see_one_name(&file) {
             return Err(self.refuse(refusal, io::ErrorKind::InvalidInput.into()));
         }
-        forget_shop(rt, path, &names, &mut file)?;
+        forget_shop(rt, path, &names, log, &mut file)?;
         Ok(file)
     }
 }

@@ -11,9 +11,9 @@ ghost use Rattle.ledger_jobs.specs.WatchedFiles.{while_there};
 ghost use Rattle.shop_log.specs.life.LiveLogs.{of_live};
 ghost use Rattle.line_server.specs.logged.Reporting.{of_output};
 ghost use Rattle.ledger_jobs.specs.Rights.{MayChangeImage};
-ghost use Rattle.image_file.specs.paths.Rights.{Look, May, MayWrite, Remove};
+ghost use Rattle.image_file.specs.paths.Rights.{Look, May, MayWrite};
 ghost use Rattle.image_file.specs.paths.Standing.{AreOf};
-ghost use Rattle.shop_log.specs.life.LogRights.{MayKeepLogOf, making_of};
+ghost use Rattle.shop_log.specs.life.LogRights.{MayForget, MayKeepLogOf};
 
 use crate::image_logs::{log_refusal, opened_alone, see_size};
 use crate::jobs::Loss;
@@ -201,7 +201,7 @@ pub(crate) fn cleared_end<F: OpenFile, R: HostFiles<File = F>, T>(
     ended: Result<T, Refusal>,
 ) -> Result<T, Refusal>
     requires image { May R.rights rt.now Look path.now }
-    requires log { May R.rights rt.now Remove (making_of (string_bytes names.now.image)) }
+    requires log { MayForget R.rights rt.now (string_bytes names.now.image) }
     ensures { result ≡ ended }
 {
     if ended.is_err() && name_of(rt, path, image).is_ok() {

@@ -42,7 +42,7 @@ module _ (room : List (List ℕ)) (n end : ℕ) (commit : IsCommit (λ q. get_or
       (makes : (image : Image) → replayed B image n ≡ after image) (f : List ℕ) (log : IsLog f end) where
     torn_of : (c : List ℕ) → Mixed (4096 * end) bytes f c → IsTorn f end (after (recovered f)) c
     torn_of c mixed = record {
-      left = λ some. left f end log B n commit within bytes size each blocks c mixed (base_of f) (recovered f) (after (recovered f))
+      left = λ some. left f end log B n commit within bytes size each blocks c mixed few (base_of f) (recovered f) (after (recovered f))
           some refl refl (makes (recovered f));
       unmarked = unmarked f end log B n commit within bytes size each blocks c mixed;
     }

@@ -14,7 +14,7 @@ use Rattle.shop_log.specs.declared.log_file.LogFile.{Ghosts}
 use Rattle.shop_log.proofs.Filled.{brought_all, length-replayed}
 use Rattle.shop_log.proofs.Marked.{is_there, mark_left}
 use Rattle.shop_log.proofs.Moments.{started, weaker}
-use Rattle.shop_log.proofs.Torn.{base_end_is}
+use Rattle.shop_log.proofs.Torn.{base_end_is, ends_clean}
 
 module _ {F : Type 0} {G : Ghosts F} (l : Log F G) (start now : Image) (s : StandsFor l start now) where
   pub at_rest : Rests G.history l.file s.bytes
@@ -38,7 +38,7 @@ module _ {F T E : Type 0} {G : Ghosts F} (l : Log F G) (new : F) (result : Resul
         (λ c mixed.
         subst (λ (x : Image). IsLeft start x x c) s.image
         (subst (λ (b : Image). IsLeft b (recovered s.bytes) (recovered s.bytes) c) s.base
-        (mark_left s.bytes (is_log l start now s).size c mixed s.based)))
+        (mark_left s.bytes (is_log l start now s).size c mixed s.based s.ends)))
         mark_brought.any_moment
 
     marked_of : (r : Result T E) → OnOk r (Rests G.history new (overwritten s.bytes 4194304 (1 ∷ [])))
@@ -80,7 +80,7 @@ module _ {F : Type 0} {G : Ghosts F} (l : Log F G) (now : Image) (touched : List
   left_as_it_is : IsLeft start before now s.bytes × (is_marked s.bytes ≡ false)
   left_as_it_is =
       let log = is_log l start before s in (
-        record { size = log.size; based = s.based; base = s.base; image = inl s.image },
+        record { size = log.size; based = s.based; base = s.base; image = inl s.image; ends = s.ends },
         ap not (eq-eqb (slice_index s.bytes 4194304) 0 (log.zeros 4194304 (omega (arith, log.within)))),
       )
 
@@ -148,6 +148,7 @@ module _ {F : Type 0} {G : Ghosts F} (l : Log F G) (now : Image) (touched : List
         based = omega (arith, base_end_is a.bytes (l.end + n) a.log, a.based);
         base = a.base (based l start before s) ∙ s.base;
         image = a.image ∙ made start before s covers;
+        ends = ends_clean a.bytes (l.end + n) a.log;
       }
 
   -- so does a read beside it
@@ -230,4 +231,5 @@ module _ {F : Type 0} {G : Ghosts F} (old mid new : F) (image : Image) (touched 
         based = omega (arith, base_end_is a.bytes (0 + n) a.log, a.based);
         base = a.first refl ∙ all_of_it;
         image = a.image ∙ all_of_it;
+        ends = ends_clean a.bytes (0 + n) a.log;
       }

@@ -1,9 +1,9 @@
 -- A file of zeros is an empty log.
-use Rattle.std.proofs.Common.{◌≡◌, ◌≤◌, ◌+◌, ◌*◌, ◌++◌, ◌∙◌, ℕ, List, [], Option, Some, Result, Ok, Err, OnOk, arith, drop, inl, inr, length, refl, replicate, slice_index, take, get_or-take, get_or-drop, length-append, length-drop, length-take-le, length-take}
+use Rattle.std.proofs.Common.{◌≡◌, ◌≤◌, ◌<◌, ◌+◌, ◌*◌, ◌++◌, ◌∙◌, ℕ, List, [], Option, Some, Result, Ok, Err, OnOk, arith, drop, inl, inr, length, refl, replicate, slice_index, take, get_or-take, get_or-drop, length-append, length-drop, length-take-le, length-take}
 use Rattle.std.proofs.lemmas.Bool.{cases_lt}
 use Rattle.std.proofs.lemmas.List.{get_or-replicate, get_or_append_left, get_or-append_right, get_or_past, length-replicate}
 use Rattle.shop_log.specs.Blocks.{block_at}
-use Rattle.shop_log.specs.Files.{FileHistory, Only, Rests, SyncsBytes, overwritten}
+use Rattle.shop_log.specs.Files.{FileHistory, Lengthens, Only, Rests, SyncsBytes, overwritten}
 use Rattle.shop_log.specs.Recovered.{IsLog}
 use Rattle.shop_log.proofs.Runs.{committed_none}
 
@@ -34,47 +34,52 @@ zeros_replicate n i = elim (cases_lt i n) [
   | inr past ↦ get_or_past (replicate n 0) i 0 (omega (arith, past, length-replicate {A = ℕ} n 0))
 ]
 
--- the first k blocks are there, all zeros
-pub record Laid (held : Option (List ℕ)) (k : ℕ) : Type 0 where
+-- it is as long as a log, and all zeros
+pub record Laid (held : Option (List ℕ)) : Type 0 where
   pub bytes : List ℕ
   pub known : held ≡ Some bytes
-  pub size : length bytes ≡ 4096 * k
+  pub size : length bytes ≡ 4198400
   pub blank : AreZeros bytes
 
-pub laid_none : (held : Option (List ℕ)) → held ≡ Some [] → Laid held 0
-laid_none held known = record { bytes = []; known = known; size = omega arith; blank = λ i. refl }
+pub laid_first : {F T E : Type 0} (h : FileHistory F) (old mid new : F) (r : Result T E) → Lengthens h old mid 4198400 r
+    → h.held new ≡ h.held mid → OnOk r (h.held old ≡ Some [] → Laid (h.held new))
+laid_first h old mid new (Ok x) lengthens same = λ known.
+    let there = lengthens.ok known in
+    record { bytes = there.0; known = same ∙ there.1; size = there.2; blank = there.3 }
+laid_first h old mid new (Err e) lengthens same = tt
 
-pub laid_more : (old new : Option (List ℕ)) (k wide : ℕ) → wide ≡ 4096
+pub laid_more : (old new : Option (List ℕ)) (k wide : ℕ) → wide ≡ 4096 → k < 1025
     → ((f : List ℕ) → old ≡ Some f → 4096 * k ≤ length f → new ≡ Some (overwritten f (4096 * k) (zeros wide)))
-    → Laid old k → Laid new (k + 1)
-laid_more old new k wide is writes laid =
+    → Laid old → Laid new
+laid_more old new k wide is low writes laid =
     let f = laid.bytes in
     let rest = drop (4096 * k + length (zeros wide)) f in
     record {
       bytes = overwritten f (4096 * k) (zeros wide);
-      known = writes f laid.known (omega (arith, laid.size));
+      known = writes f laid.known (omega (arith, laid.size, low));
       size = omega (
         arith,
         laid.size,
         is,
+        low,
         length-append (take (4096 * k) f) (zeros wide ++ rest),
         length-append (zeros wide) rest,
         length-drop (4096 * k + length (zeros wide)) f,
-        length-take-le (4096 * k) f (omega (arith, laid.size)),
+        length-take-le (4096 * k) f (omega (arith, laid.size, low)),
         length-replicate {A = ℕ} wide 0,
       );
       blank = zeros_append (take (4096 * k) f) (zeros wide ++ rest) (zeros_take (4096 * k) f laid.blank)
           (zeros_append (zeros wide) rest (zeros_replicate wide) (zeros_drop (4096 * k + length (zeros wide)) f laid.blank));
     }
 
-pub laid_log : {F : Type 0} (h : FileHistory F) (old new : F) (k : ℕ) → k ≡ 1025 → h.held new ≡ h.held old
-    → ((f : List ℕ) → h.held old ≡ Some f → Only f (h.may_leave new)) → Laid (h.held old) k
+laid_log : {F : Type 0} (h : FileHistory F) (old new : F) → h.held new ≡ h.held old
+    → ((f : List ℕ) → h.held old ≡ Some f → Only f (h.may_leave new)) → Laid (h.held old)
     → (f : List ℕ) × Rests h new f × IsLog f 0
-laid_log h old new k is same only laid = (
+laid_log h old new same only laid = (
   laid.bytes,
   record { held = same ∙ laid.known; durable = only laid.bytes laid.known },
   record {
-    size = omega (arith, laid.size, is);
+    size = laid.size;
     within = omega arith;
     whole = λ q low. absurd (omega (arith, low));
     ended = committed_none (block_at laid.bytes);
@@ -82,7 +87,7 @@ laid_log h old new k is same only laid = (
   },
 )
 
-pub laid_ok : {F P T E : Type 0} (h : FileHistory F) (old new : F) (k : ℕ) → k ≡ 1025 → (r : Result T E) → SyncsBytes h old new r
-    → (P → Laid (h.held old) k) → OnOk r (P → (f : List ℕ) × Rests h new f × IsLog f 0)
-laid_ok h old new k is (Ok x) syncs laid = λ p. laid_log h old new k is syncs.held syncs.ok (laid p)
-laid_ok h old new k is (Err e) syncs laid = tt
+pub laid_ok : {F P T E : Type 0} (h : FileHistory F) (old new : F) (r : Result T E) → SyncsBytes h old new r
+    → (P → Laid (h.held old)) → OnOk r (P → (f : List ℕ) × Rests h new f × IsLog f 0)
+laid_ok h old new (Ok x) syncs laid = λ p. laid_log h old new syncs.held syncs.ok (laid p)
+laid_ok h old new (Err e) syncs laid = tt

@@ -13,4 +13,5 @@ pub mod Remembered
 mod Runs
 mod Sealed
 pub mod Torn
+pub mod TornEnds
 mod Touches

@@ -1,8 +1,8 @@
 -- The mark leaves every block as it was.
-use Rattle.std.proofs.Common.{◌≡◌, ◌≤◌, ◌<◌, ◌+◌, ◌*◌, ◌∙◌, ℕ, List, [], ◌∷◌, ap, arith, length, slice_index, sym, eqb, true, not, inl}
-use Rattle.shop_log.specs.Blocks.{block_at, committed, first_commit, replayed}
+use Rattle.std.proofs.Common.{◌≡◌, ◌≤◌, ◌<◌, ◌+◌, ◌*◌, ◌∙◌, ℕ, List, [], ◌∷◌, ap, arith, length, slice_index, sym, eqb, true, not, inl, inr, ◌&&◌, false, subst, ⊎_elim}
+use Rattle.shop_log.specs.Blocks.{block_at, committed, first_commit, is_last, is_whole, replayed}
 use Rattle.shop_log.specs.Files.{Mixed, overwritten}
-use Rattle.shop_log.specs.Recovered.{IsLeft, base_end, base_of, blank, is_marked, recovered, whole_blocks}
+use Rattle.shop_log.specs.Recovered.{EndsTorn, IsLeft, base_end, base_of, blank, commits_end, is_marked, recovered, whole_blocks}
 use Rattle.shop_log.proofs.Commits.{new_each}
 use Rattle.shop_log.proofs.Runs.{block_is, committed_alike, committed_few, first_alike, first_few, replayed_alike, same_parts, whole_alike, whole_few}
 
@@ -37,18 +37,35 @@ module _ (f : List ℕ) (size : length f ≡ 4198400) where
         ∙ replayed_alike (block_at c) (block_at f) blank (committed (block_at f) (whole_blocks f))
         (λ q low. same_block q (omega (arith, low, few, few_committed)))
 
+    same_end : commits_end c ≡ commits_end f
+    same_end = ap (committed (block_at c)) same_whole
+        ∙ committed_alike (block_at c) (block_at f) (whole_blocks f) (λ q low. same_block q (omega (arith, low, few)))
+
+    pub same_ends : EndsTorn f (commits_end f) → EndsTorn c (commits_end c)
+    same_ends ends = subst (EndsTorn c) (sym same_end) (λ q from low. ⊎_elim
+        (λ none. inl (λ i small. ap (λ (b : List ℕ). slice_index b i) (same_block q low) ∙ none i small))
+        (λ torn. inr (record {
+          near = torn.near;
+          unended = λ p at before.
+              subst (λ (b : List ℕ). is_whole p b && is_last b ≡ false) (sym (same_block p (omega (arith, before, low))))
+              (torn.unended p at before);
+        }))
+        (ends q from low))
+
     pub same_base : base_of c ≡ base_of f
     same_base =
         ap (replayed (block_at c) blank) same_base_end
         ∙ replayed_alike (block_at c) (block_at f) blank (base_end f)
         (λ q low. same_block q (omega (arith, low, few, first_few (block_at f) (whole_blocks f))))
 
-  pub mark_left : (c : List ℕ) → Mixed 4194304 (1 ∷ []) f c → 0 < base_end f → IsLeft (base_of f) (recovered f) (recovered f) c
-  mark_left c mixed some = record {
+  pub mark_left : (c : List ℕ) → Mixed 4194304 (1 ∷ []) f c → 0 < base_end f → EndsTorn f (commits_end f)
+      → IsLeft (base_of f) (recovered f) (recovered f) c
+  mark_left c mixed some ends = record {
     size = mixed.size ∙ size;
     based = omega (arith, some, same_base_end c mixed);
     base = same_base c mixed;
     image = inl (same_recovered c mixed);
+    ends = same_ends c mixed ends;
   }
 
   pub is_there : is_marked (overwritten f 4194304 (1 ∷ [])) ≡ true

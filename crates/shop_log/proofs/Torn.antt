@@ -1,11 +1,11 @@
 -- What a torn commit leaves: of its blocks those up to the first that isn't all there, and nothing behind.
 use Rattle.std.proofs.Common.{◌≡◌, ◌⊎◌, ℕ, zero, suc, ◌+◌, ◌-◌, ◌*◌, ◌<◌, ◌≤◌, true, List, length, slice_index, sym, ◌∙◌}
-use Rattle.std.proofs.Common.{ap, inl, inr, arith}
-use Rattle.std.proofs.lemmas.Bool.{and_parts, cases_lt}
+use Rattle.std.proofs.Common.{◌&&◌, ap, false, inl, inr, arith, subst}
+use Rattle.std.proofs.lemmas.Bool.{and_parts, cases_Bool, cases_lt}
 use Rattle.d64_image.specs.Images.{Image}
-use Rattle.shop_log.specs.Blocks.{IsCommit, block_at, committed, counts, first_commit, is_last, is_whole, replayed, whole_from}
+use Rattle.shop_log.specs.Blocks.{IsBlank, IsCommit, block_at, committed, counts, first_commit, is_last, is_whole, replayed, whole_from}
 use Rattle.shop_log.specs.Files.{Mixed}
-use Rattle.shop_log.specs.Recovered.{IsLeft, IsLog, base_end, base_of, blank, recovered, whole_blocks}
+use Rattle.shop_log.specs.Recovered.{EndsTorn, IsLeft, IsLog, MayBeTorn, base_end, base_of, blank, commits_end, recovered, whole_blocks}
 use Rattle.shop_log.proofs.Counting.{Faint, all_or_nothing, blank_counts}
 use Rattle.shop_log.proofs.Runs.{committed_last, committed_more, first_alike, first_few, first_stays, length-block, replayed_alike, replayed_behind, same_parts, slice_index-block, whole_add, whole_below, committed_alike, block_is}
 
@@ -38,6 +38,12 @@ module _ (f : List ℕ) (end : ℕ) (log : IsLog f end) where
 
   pub base_end_is : base_end f ≡ first_commit (block_at f) end
   base_end_is = ap (first_commit (block_at f)) ended_at
+
+  -- nothing stands after its end
+  pub ends_clean : EndsTorn f (commits_end f)
+  ends_clean q from low =
+      let end_is : commits_end f ≡ end = ap (committed (block_at f)) ended_at ∙ log.ended in
+      inl (λ i few. slice_index-block f q i few ∙ log.zeros (4096 * q + i) (omega (arith, end_is, from)))
 
 -- the blocks of a commit, and where they are to stand
 module _ (f : List ℕ) (end : ℕ) (log : IsLog f end) (B : ℕ → List ℕ) (n : ℕ) (commit : IsCommit B end n)
@@ -129,15 +135,53 @@ module _ (f : List ℕ) (end : ℕ) (log : IsLog f end) (B : ℕ → List ℕ) (
           ∙ ap (λ (image : Image). replayed B image n) (before_is ∙ sym (recovered_is f end log)))
     ]
 
+    -- the blocks after the commit are zeros
+    blank_after : (q : ℕ) → end + n ≤ q → IsBlank (block_at c q)
+    blank_after q from i few = slice_index-block c q i few
+        ∙ mixed.after (4096 * q + i) (omega (arith, long, from)) ∙ log.zeros (4096 * q + i) (omega (arith, from))
+
+    -- a whole block of the commit, before its last one, doesn't end it
+    ends_none : (k : ℕ) → suc k < n → is_whole (end + k) (block_at c (end + k)) && is_last (block_at c (end + k)) ≡ false
+    ends_none k low = elim (cases_Bool (is_whole (end + k) (block_at c (end + k)))) [
+      | inl is ↦
+          let there : k < n = omega (arith, low) in
+          let same = all_or_nothing (block_at c (end + k)) (B k) (length-block c (end + k) (omega (arith, size, room)))
+          (each_long k there) (λ i few. faint k i there few)
+          (counts_of (end + k) (block_at c (end + k)) is) (counts_of (end + k) (B k) (commit.whole k there)) in
+          ap (λ b. b && is_last (block_at c (end + k))) is ∙ ap is_last same ∙ commit.more k low
+      | inr isnt ↦ ap (λ b. b && is_last (block_at c (end + k))) isnt
+    ]
+
+    -- the torn commit is all that stands after the whole ones
+    pub ends_torn : n ≤ 46 → EndsTorn c (commits_end c)
+    ends_torn most q from low = elim (cases_lt q (end + n)) [
+      | inr behind_it ↦ inl (blank_after q behind_it)
+      | inl inside ↦ elim (cases_lt behind n) [
+        | inr all ↦
+            let e : end + behind ≡ end + n = omega (arith, few_behind) in
+            let is : commits_end c ≡ end + n = ap (committed (block_at c)) (reach ∙ e) ∙ all_of_it all in
+            absurd (omega (arith, is, from, inside))
+        | inl part ↦
+            let is : commits_end c ≡ end = ap (committed (block_at c)) reach ∙ part_of_it behind part (omega arith) in
+            inr (record {
+              near = omega (arith, is, inside, most);
+              unended = λ p at before.
+                  let e : end + (p - end) ≡ p = omega (arith, is, at) in
+                  subst (λ (k : ℕ). is_whole k (block_at c k) && is_last (block_at c k) ≡ false) e
+                  (ends_none (p - end) (omega (arith, is, at, before, inside)));
+            })
+      ]
+    ]
+
     -- the base stays
     pub base_same : 0 < first_commit (block_at f) end → base_end c ≡ first_commit (block_at f) end
     base_same some =
         let alike = first_alike (block_at c) (block_at f) end same_before in
         ap (first_commit (block_at c)) reach ∙ first_stays (block_at c) end behind (omega (arith, alike, some)) ∙ alike
 
-    pub left : (base before now : Image) → 0 < first_commit (block_at f) end → base_of f ≡ base → recovered f ≡ before
+    pub left : n ≤ 46 → (base before now : Image) → 0 < first_commit (block_at f) end → base_of f ≡ base → recovered f ≡ before
         → replayed B before n ≡ now → IsLeft base before now c
-    left base before now some is_base is_before is_now =
+    left most base before now some is_base is_before is_now =
         let ends = base_same some in
         let few : first_commit (block_at f) end ≤ end = first_few (block_at f) end in
         record {
@@ -150,4 +194,5 @@ module _ (f : List ℕ) (end : ℕ) (log : IsLog f end) (B : ℕ → List ℕ) (
             | inl old ↦ inl (old ∙ is_before)
             | inr new ↦ inr (new ∙ ap (λ (image : Image). replayed B image n) is_before ∙ is_now)
           ];
+          ends = ends_torn most;
         }

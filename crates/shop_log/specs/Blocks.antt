@@ -37,6 +37,10 @@ is_whole place b = counts b && ((pair_at b 12 == place) && matches b)
 abbrev pub is_last : List ℕ → Bool
 is_last b = slice_index b 10 == 2
 
+-- a block of zeros
+abbrev pub IsBlank : List ℕ → Type 0
+IsBlank b = (i : ℕ) → i < 4096 → slice_index b i ≡ 0
+
 -- the image with the first n sectors of the block: the index of each in two bytes from 16 on, its bytes from 64 on
 unfoldable pub with_sectors : List ℕ → ℕ → Image → Image
 with_sectors b zero image = image

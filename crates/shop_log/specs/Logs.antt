@@ -2,7 +2,7 @@
 use Rattle.std.specs.Prelude.{ℕ, ◌+◌, ◌≡◌, ◌<◌, ◌||◌, Bool, List, Some, length, nat_lt, true}
 use Rattle.d64_image.specs.Images.{Image}
 use Rattle.shop_log.specs.Files.{Only}
-use Rattle.shop_log.specs.Recovered.{base_end, base_of, recovered}
+use Rattle.shop_log.specs.Recovered.{EndsTorn, base_end, base_of, commits_end, recovered}
 use Rattle.shop_log.specs.declared.log.Log.{Log}
 use Rattle.shop_log.specs.declared.log_file.LogFile.{Ghosts}
 
@@ -33,3 +33,4 @@ module _ {F : Type 0} {G : Ghosts F} where
     pub based : 0 < base_end bytes
     pub base : base_of bytes ≡ start
     pub image : recovered bytes ≡ now
+    pub ends : EndsTorn bytes (commits_end bytes)

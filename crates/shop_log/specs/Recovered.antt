@@ -1,8 +1,8 @@
 -- What a log's bytes stand for, and a log at rest. Our own.
-use Rattle.std.specs.Prelude.{ℕ, ◌+◌, ◌*◌, ◌==◌, ◌≡◌, ◌≤◌, ◌<◌, ◌⊎◌, Bool, List, length, not, replicate}
+use Rattle.std.specs.Prelude.{ℕ, ◌+◌, ◌*◌, ◌==◌, ◌&&◌, ◌≡◌, ◌≤◌, ◌<◌, ◌⊎◌, Bool, List, length, not, replicate}
 use Rattle.std.specs.Prelude.{IsTrue, Some, false, slice_index}
 use Rattle.d64_image.specs.Images.{Image}
-use Rattle.shop_log.specs.Blocks.{block_at, committed, first_commit, is_whole, replayed, whole_from}
+use Rattle.shop_log.specs.Blocks.{IsBlank, block_at, committed, first_commit, is_last, is_whole, replayed, whole_from}
 use Rattle.shop_log.specs.Files.{FileHistory, IsBlend, Only, Rests}
 
 -- 683 sectors of zeros, which the base replaces
@@ -13,9 +13,23 @@ blank = replicate 683 (replicate 256 0)
 abbrev pub whole_blocks : List ℕ → ℕ
 whole_blocks f = whole_from (block_at f) 0 1024
 
+-- how many blocks its whole commits take
+abbrev pub commits_end : List ℕ → ℕ
+commits_end f = committed (block_at f) (whole_blocks f)
+
 -- the image that the file's whole commits stand for
 abbrev pub recovered : List ℕ → Image
-recovered f = replayed (block_at f) blank (committed (block_at f) (whole_blocks f))
+recovered f = replayed (block_at f) blank (commits_end f)
+
+-- Block q may be a part of one commit that was torn and begins at block `end`. It is one of the 46 blocks that a commit may
+-- have, and no whole block of them before it ends the commit. These blocks may hold any other bytes.
+pub record MayBeTorn (f : List ℕ) (end q : ℕ) : Type 0 where
+  pub near : q < end + 46
+  pub unended : (p : ℕ) → end ≤ p → p < q → is_whole p (block_at f p) && is_last (block_at f p) ≡ false
+
+-- One torn commit is all that stands after the first `end` blocks, if anything does.
+abbrev pub EndsTorn : List ℕ → ℕ → Type 0
+EndsTorn f end = (q : ℕ) → end ≤ q → q < 1024 → IsBlank (block_at f q) ⊎ MayBeTorn f end q
 
 -- how many blocks the base takes, which is the first commit; 0 if the file has none
 abbrev pub base_end : List ℕ → ℕ
@@ -49,6 +63,7 @@ pub record IsLeft (start before after : Image) (f : List ℕ) : Type 0 where
   pub based : 0 < base_end f
   pub base : base_of f ≡ start
   pub image : (recovered f ≡ before) ⊎ (recovered f ≡ after)
+  pub ends : EndsTorn f (commits_end f)
 
 -- What a power loss may leave while a commit is written after the log f.
 pub record IsTorn (f : List ℕ) (end : ℕ) (after : Image) (c : List ℕ) : Type 0 where

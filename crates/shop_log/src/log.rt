@@ -16,6 +16,9 @@ use std::io;
 /// How many blocks a log has room for. The mark's block stands after them.
 pub const BLOCKS: usize = 1024;
 
+/// How many bytes a log has.
+pub(crate) const LOG_BYTES: usize = BLOCK * (BLOCKS + 1);
+
 /// How many blocks a commit takes at most, with all 683 sectors.
 pub const MOST: usize = 46;
 

@@ -11,7 +11,7 @@ use crate::log::BLOCKS;
 const PER: usize = 15;
 
 /// Block q of the file.
-fn block(file: &[u8], q: usize) -> [u8; 4096]
+pub(crate) fn block(file: &[u8], q: usize) -> [u8; 4096]
     requires { 4096 * q + 4096 ≤ length file.now }
     ensures { result ≡ block_at file.now q }
 {
@@ -44,7 +44,7 @@ fn ends_commit(file: &[u8], q: usize) -> bool
 }
 
 /// How many of the file's blocks are whole, up to the first that isn't.
-fn count_whole(file: &[u8]) -> usize
+pub(crate) fn count_whole(file: &[u8]) -> usize
     requires { 4194304 ≤ length file.now }
     ensures whole { result ≡ whole_blocks file.now }
     ensures within { result ≤ 1024 }
@@ -58,7 +58,7 @@ fn count_whole(file: &[u8]) -> usize
 }
 
 /// How many of these whole blocks there are up to the end of the last commit.
-fn count_committed(file: &[u8], whole: usize) -> usize
+pub(crate) fn count_committed(file: &[u8], whole: usize) -> usize
     requires { 4096 * whole ≤ length file.now }
     ensures committed { result ≡ committed_in (block_at file.now) whole }
     ensures few { result ≤ whole }
@@ -74,7 +74,7 @@ fn count_committed(file: &[u8], whole: usize) -> usize
 }
 
 /// How many of these whole blocks the first commit takes.
-fn count_first(file: &[u8], whole: usize) -> usize
+pub(crate) fn count_first(file: &[u8], whole: usize) -> usize
     requires { 4096 * whole ≤ length file.now }
     ensures first { result ≡ first_commit (block_at file.now) whole }
     ensures few { result ≤ whole }
@@ -98,7 +98,7 @@ fn wipe(image: &mut [[u8; 256]])
 }
 
 /// Puts the sectors of the file's first n blocks into an image of zeros.
-fn replay(file: &[u8], n: usize, image: &mut [[u8; 256]])
+pub(crate) fn replay(file: &[u8], n: usize, image: &mut [[u8; 256]])
     requires within { 4096 * n ≤ length file.now }
     requires sized { length image.old ≡ 683 }
     ensures { image.new ≡ replayed (block_at file.now) blank n }

@@ -31,7 +31,7 @@ ends 3
 
 # a log that the medium refuses stands beside the image
 input 1,1,S,1,5|
-log-sync 3 fails
+log-sync 4 fails
 person ledger_cli serve a.d64
 tells DEVICE|ledger: beside a.d64: other error; copy it to another medium, check the copy, and go on there|
 ends 3

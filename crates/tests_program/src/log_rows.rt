@@ -39,7 +39,7 @@ ends 3
 /// lands it.
 const LEFT: &[u8] = b"
 input 1,1,S,1,5|
-log-sync 3 fails
+log-sync 4 fails
 $ ledger_cli serve a.d64
 tells DEVICE|
 ends 3
@@ -61,7 +61,7 @@ $ ledger_cli show a.d64
 prints TOP 9256|CARD 1,9|TILL 1,2,R,1,4,DONE,9|PRIOR 1,1,S,1,5,DONE,5|
 
 input 1,1,S,1,5|
-log-sync 3 fails
+log-sync 4 fails
 $ ledger_cli serve a.d64
 tells DEVICE|
 ends 3
@@ -73,7 +73,7 @@ $ ledger_cli show a.d64
 prints TOP 9256|CARD 1,5|TILL 1,1,S,1,5,DONE,5|
 
 input 1,1,S,1,5|
-log-sync 3 fails
+log-sync 4 fails
 $ ledger_cli serve a.d64
 tells DEVICE|
 ends 3
@@ -84,7 +84,7 @@ prints 1,1,DONE,5|
 written
 
 input 1,1,S,1,5|
-log-sync 3 fails
+log-sync 4 fails
 $ ledger_cli serve a.d64
 tells DEVICE|
 ends 3
@@ -95,7 +95,7 @@ rewritten
 
 # the log goes when the old image is no shop any more
 input 1,1,S,1,5|
-log-sync 3 fails
+log-sync 4 fails
 $ ledger_cli serve a.d64
 tells DEVICE|
 ends 3
@@ -119,7 +119,7 @@ ends 3
 
 /// A commit that fails isn't reported, and its log stays, as it does if the image goes from its name. The next play lands it.
 const PLAYED: &[u8] = b"
-log-sync 3 fails
+log-sync 4 fails
 $ ledger_cli play --sync a.d64 s.txt
 tells DEVICE|
 ends 3

@@ -1,7 +1,8 @@
 //! Names of open files. Such a name may come to lead elsewhere.
-ghost use Rattle.std.specs.Prelude.{◌≡◌};
+ghost use Rattle.std.specs.Prelude.{◌≡◌, false};
 ghost use Rattle.std.proofs.Props.{props};
 ghost use Rattle.image_file.specs.paths.Rights.{Look, May};
+ghost use Rattle.image_file.specs.paths.Standing.{IsMissing};
 
 use crate::paths::host::HostFiles;
 use std::fs::{Metadata, OpenFile};
@@ -10,7 +11,7 @@ use std::os::unix::fs::MetadataExt;
 
 /// Which file it is: its device, its number on that, and how many bytes it has.
 #[derive(Clone, Copy, Debug, PartialEq, Eq)]
-struct Identity {
+pub struct Identity {
     device: u64,
     number: u64,
     bytes: u64,
@@ -19,11 +20,27 @@ struct Identity {
 impl Identity {
     /// The file that this metadata describes.
     fn of(found: &Metadata) -> Identity {
+        Identity::sized(found, found.len())
+    }
+
+    /// The file that this metadata describes, once it has this many bytes.
+    pub fn sized(found: &Metadata, bytes: u64) -> Identity {
         Identity {
             device: found.dev(),
             number: found.ino(),
-            bytes: found.len(),
+            bytes,
         }
+    }
+}
+
+/// Whether a path leads to this file, and that has as many bytes. False if the system can't say.
+pub fn leads_to<R: HostFiles>(rt: &R, path: &str, file: Identity) -> bool
+    requires { May R.rights rt.now Look path.now }
+    ensures { IsMissing R.stands rt.now path.now → result ≡ false }
+{
+    match rt.look_at(path) {
+        Ok(found) => Identity::of(&found) == file,
+        Err(_) => false,
     }
 }
 
@@ -60,9 +77,6 @@ impl<'a, R: HostFiles> FileName<'a, R> {
 impl<R: HostFiles> Stays for FileName<'_, R> {
     /// Whether the path leads to the same file, and that has as many bytes. False if the system can't say.
     fn is_there(&self) -> bool {
-        match self.rt.look_at(self.path) {
-            Ok(found) => Identity::of(&found) == self.file,
-            Err(_) => false,
-        }
+        leads_to(self.rt, self.path, self.file)
     }
 }

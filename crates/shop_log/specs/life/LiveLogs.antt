@@ -19,6 +19,7 @@ stands_gives log base shop stands image is = record {
   based = stands.based;
   own = inl (is ∙ sym stands.base);
   is = stands.image;
+  ends = stands.ends;
 }
 
 -- if the folder gives an image, it is this one

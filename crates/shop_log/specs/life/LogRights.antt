@@ -15,14 +15,15 @@ module _ {H : Type 0} (rights : Rights H) (host : H) where
   abbrev pub WhereItLeads : (List ℕ → Type 0) → List ℕ → Type 0
   WhereItLeads P path = (image : List ℕ) → rights.leads host path image ≡ true → P image
 
-  -- the log of this image, and one in the making, may be removed, and that may be synced
-  abbrev pub MayForget : List ℕ → Type 0
-  MayForget image = May rights host Look image × May rights host Remove (log_of image)
-      × May rights host Remove (making_of image)
-
   -- the log of this image may be read
   abbrev pub MayReadLogOf : List ℕ → Type 0
   MayReadLogOf image = MayRead rights host (log_of image)
+
+  -- the log of this image, and one in the making, may be looked at and removed, and that may be synced
+  abbrev pub MayForget : List ℕ → Type 0
+  MayForget image = May rights host Look image × May rights host Look (log_of image)
+      × May rights host Remove (log_of image) × May rights host Look (making_of image)
+      × May rights host Remove (making_of image)
 
   -- it may be read, written, made beside and put in its place, and removed
   abbrev pub MayKeepLogOf : List ℕ → Type 0
@@ -37,7 +38,7 @@ module _ {H : Type 0} (rights : Rights H) (host : H) where
   abbrev pub MayKeepLog : List ℕ → Type 0
   MayKeepLog path = May rights host Look path × WhereItLeads MayKeepLogOf path
 
-  -- or looked for, and removed
+  -- or read, and removed
   abbrev pub MayForgetLog : List ℕ → Type 0
   MayForgetLog path = May rights host Look path
-      × WhereItLeads (λ image. MayForget image × May rights host Look (log_of image)) path
+      × WhereItLeads (λ image. MayForget image × MayReadLogOf image) path

@@ -1,17 +1,18 @@
 -- The image that a folder gives, by its log or by IMAGE. Our own: docs/LOG.md has the rule.
 use Rattle.std.specs.Prelude.{ℕ, ◌<◌, ◌≡◌, ◌⊎◌, Contains, List, None, Option, Some, length, true}
 use Rattle.d64_image.specs.Images.{Image}
-use Rattle.shop_log.specs.Recovered.{base_end, base_of, is_marked, recovered}
+use Rattle.shop_log.specs.Recovered.{EndsTorn, base_end, base_of, commits_end, is_marked, recovered}
 use Rattle.shop_log.specs.life.Folders.{Folder}
 use Rattle.shop_log.specs.life.Mixes.{IsMixOf}
 
 -- A log beside this IMAGE gives an image, that of its whole commits. IMAGE is its base; or the log is marked, and IMAGE is
--- a mix of its base and that image, since it was being brought there.
+-- a mix of its base and that image, since it was being brought there. A log that is damaged before its end gives none.
 pub record LogGives (log : List ℕ) (image given : Image) : Type 0 where
   pub size : length log ≡ 4198400
   pub based : 0 < base_end log
   pub own : (image ≡ base_of log) ⊎ ((is_marked log ≡ true) × IsMixOf (base_of log) given image)
   pub is : recovered log ≡ given
+  pub ends : EndsTorn log (commits_end log)
 
 -- by the log, if there is one; otherwise IMAGE itself
 abbrev pub given_by : Option (List ℕ) → Image → Image → Type 0

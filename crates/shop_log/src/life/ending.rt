@@ -1,8 +1,9 @@
 //! The end of a service over a log.
-ghost use Rattle.std.specs.Prelude.{◌≡◌, Bool, IsErr, OnOk, length, true};
+ghost use Rattle.std.specs.Prelude.{◌≡◌, Bool, IfSome, IsErr, OnOk, length, true};
 ghost use Rattle.d64_image.specs.Images.{Image};
 ghost use Rattle.shop_log.specs.life.Bringing.{RestsAlone};
 ghost use Rattle.shop_log.specs.life.LiveLogs.{IsLeftAlone, IsRenewing, Stands, is_shut};
+ghost use Rattle.shop_log.specs.Logs.{log_file};
 
 use crate::life::landing::{LogFault, land};
 use crate::life::log_folder::LogFolder;
@@ -12,8 +13,8 @@ use crate::log_file::LogFile;
 use std::alloc::Global;
 use std::io;
 
-/// Closes an open log, and lands it. If the log takes no more commits, it is closed and an error is returned. `base` is
-/// room for an image.
+/// Closes an open log, and lands it. If the log takes no more commits, or its name leads to another file, it is closed and
+/// an error is returned. `base` is room for an image.
 pub(crate) fn end_log<F: LogFile, D: LogFolder<F>>(
     alloc: Global,
     folder: &mut D,
@@ -27,6 +28,9 @@ pub(crate) fn end_log<F: LogFile, D: LogFolder<F>>(
         → RestsAlone D.history folder.new image) }
     // a closed one is left alone
     ensures over { is_shut D.history log ≡ true → IsErr result × IsLeftAlone D.history folder.old log folder.new }
+    // and so is one whose name has gone
+    ensures away { IfSome log (λ l. D.IsAway folder.old (log_file l) → IsErr result
+        × IsLeftAlone D.history folder.old log folder.new) }
 {
     let Some(open_log) = log else {
         return Err(LogFault::File(io::ErrorKind::Other.into()));

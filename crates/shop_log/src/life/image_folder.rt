@@ -5,11 +5,11 @@ ghost use Rattle.image_file.specs.paths.Standing.{IsMissing};
 ghost use Rattle.std.specs.Prelude.{◌≡◌, ◌<◌, IfOk, IsNone, length, string_bytes};
 ghost use Rattle.std.proofs.Props.{props};
 
-use crate::life::judging::LOG_BYTES;
 use crate::life::log_folder::LogFolder;
-use crate::life::log_names::{LogNames, forget_making, sync_names};
+use crate::life::log_names::{LogNames, forget_making, see_log, sync_names};
 use crate::life::system_log::SystemLog;
-use image_file::{EndedFile, HostFiles, opened_to_change, opened_to_read, regular};
+use crate::log::LOG_BYTES;
+use image_file::{EndedFile, HostFiles, Identity, opened_to_change, opened_to_read, regular};
 use std::alloc::Global;
 use std::cell::Cell;
 use std::fs::OpenFile;
@@ -17,13 +17,17 @@ use std::io::{self, Read, Seek, SeekFrom};
 use std::os::unix::fs::MetadataExt;
 
 /// An image's open file, and the names of its log beside it. The file is read, written, synced and closed. It isn't
-/// locked: the caller does that. Nothing is known of what it holds: it is trusted to satisfy the contract of `LogFolder`.
+/// locked: the caller does that. Once a log was read or got its name, it alone is opened, replaced or removed by that name.
+/// If the name leads to another file, or the log has another length, the call is an error, and does nothing. Nothing is
+/// known of what the files hold: they are trusted to satisfy the contract of `LogFolder`.
 #[derive(Drop)]
 pub struct ImageFolder<'a, R: HostFiles> {
     rt: &'a R,
     alloc: Global,
     names: &'a LogNames,
     image: R::File,
+    // the file that is the log
+    log: Option<Identity>,
     synced: bool,
     // the log may be kept
     ghost keeps: { MayKeepLogOf R.rights rt.now (string_bytes names.now.image) } by { Prim.hlevel props },
@@ -80,20 +84,49 @@ where
             alloc,
             names,
             image,
+            log: None,
             synced,
         })
     }
 
-    /// An open file as the log, or as one in the making.
-    fn log_of(&self, file: R::File, synced: bool) -> SystemLog<'a, R> {
+    /// An open file as the log, or as one in the making that hasn't its name yet.
+    fn log_of(
+        &self,
+        file: R::File,
+        identity: Identity,
+        named: bool,
+        synced: bool,
+    ) -> SystemLog<'a, R> {
         SystemLog {
             rt: self.rt,
             name: self.names.log(),
             file,
-            named: Cell::new(false),
+            identity,
+            named: Cell::new(named),
             synced,
         }
     }
+
+    /// Takes this file for the log. An error if another one was that.
+    fn know(&mut self, log: Identity) -> io::Result<()> {
+        let known = self.log;
+        if known.is_some() && known != Some(log) {
+            return Err(io::ErrorKind::NotFound.into());
+        }
+        self.log = Some(log);
+        Ok(())
+    }
+
+    /// An error if the log's name doesn't lead to the log, or if there is none and the name leads to a file.
+    fn see_log(&self) -> io::Result<()> {
+        see_log(self.rt, self.names.log(), self.log)
+    }
+}
+
+/// Which file an open log is, as long as a log.
+fn identity_of<F: OpenFile>(file: &F) -> io::Result<Identity> {
+    let found = OpenFile::metadata(file)?;
+    Ok(Identity::sized(&found, LOG_BYTES as u64))
 }
 
 impl<'a, R: HostFiles> LogFolder<SystemLog<'a, R>> for ImageFolder<'a, R>
@@ -101,6 +134,8 @@ where
     R::File: EndedFile + OpenFile,
 {
     ghost history = { unknown_folder };
+
+    ghost IsAway = { λ _ file. IsMissing R.stands file.rt.now file.name.now };
 
     fn read_image(&mut self, image: &mut [[u8; 256]]) -> io::Result<()> {
         read_sectors(&mut self.image, image)
@@ -116,25 +151,30 @@ where
 
     fn read_log(&mut self) -> io::Result<Option<Vec<u8>>> {
         match log_to_read(self.rt, self.names)? {
-            Some(mut file) => Ok(Some(log_bytes(self.alloc, &mut file)?)),
+            Some(mut file) => {
+                self.know(identity_of(&file)?)?;
+                Ok(Some(log_bytes(self.alloc, &mut file)?))
+            }
             None => Ok(None),
         }
     }
 
     fn open_log(&mut self) -> io::Result<SystemLog<'a, R>> {
         let file = opened_to_change(self.rt, self.names.log())?;
-        Ok(self.log_of(file, true))
+        let identity = identity_of(&file)?;
+        self.know(identity)?;
+        Ok(self.log_of(file, identity, true, true))
     }
 
     fn close_log(&mut self, file: SystemLog<'a, R>) -> io::Result<()> {
-        drop(file);
-        Ok(())
+        file.see_name()
     }
 
     fn make_log(&mut self) -> io::Result<SystemLog<'a, R>> {
         forget_making(self.rt, self.names)?;
         let file = self.rt.make_file(self.names.making())?;
-        Ok(self.log_of(file, self.synced))
+        let identity = identity_of(&file)?;
+        Ok(self.log_of(file, identity, false, self.synced))
     }
 
     fn leave_making(&mut self, file: SystemLog<'a, R>) {
@@ -142,12 +182,16 @@ where
     }
 
     fn name_log(&mut self, file: &SystemLog<'a, R>) -> io::Result<()> {
+        self.see_log()?;
         self.rt.give_name(self.names.making(), self.names.log())?;
+        self.log = Some(file.identity);
         file.named.set(true);
         Ok(())
     }
 
     fn remove_log(&mut self) -> io::Result<()> {
+        self.see_log()?;
+        self.log = None;
         self.rt.take_name(self.names.log())
     }
 

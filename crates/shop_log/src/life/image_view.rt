@@ -9,7 +9,7 @@ use crate::blocks::BLOCK;
 use crate::life::image_folder::{log_bytes, log_to_read, read_sectors};
 use crate::life::log_names::LogNames;
 use crate::life::viewing::ViewsImage;
-use crate::log::BLOCKS;
+use crate::log::{BLOCKS, LOG_BYTES};
 use image_file::HostFiles;
 use std::alloc::Global;
 use std::fs::OpenFile;
@@ -55,6 +55,27 @@ fn byte_behind<F: Read + Seek>(file: &mut F) -> io::Result<u8> {
     Ok(byte[0])
 }
 
+/// All bytes of a log's file, the last block first. A writer may go on meanwhile, and writes each commit after those before
+/// it. So beside any part of a commit that was read stand all earlier commits, and no part of a later one. A file of
+/// another length is no log, and is read as it comes.
+fn read_backwards<F: Read + Seek + OpenFile + Drop>(
+    alloc: Global,
+    file: &mut F,
+) -> io::Result<Vec<u8>> {
+    if OpenFile::metadata(file)?.len() != LOG_BYTES as u64 {
+        file.seek(SeekFrom::Start(0))?;
+        return log_bytes(alloc, file);
+    }
+    let mut bytes = Vec::new(alloc);
+    bytes.resize(LOG_BYTES, 0)?;
+    for q in 0..BLOCKS + 1 {
+        let at = BLOCK * (BLOCKS - q);
+        file.seek(SeekFrom::Start(at as u64))?;
+        file.read_exact(&mut bytes[at..at + BLOCK])?;
+    }
+    Ok(bytes)
+}
+
 impl<R: HostFiles> ViewsImage for ImageView<'_, R>
 where
     R::File: OpenFile,
@@ -68,8 +89,7 @@ where
             return Ok(None);
         };
         let mark = byte_behind(&mut file)?;
-        file.seek(SeekFrom::Start(0))?;
-        let mut bytes = log_bytes(self.alloc, &mut file)?;
+        let mut bytes = read_backwards(self.alloc, &mut file)?;
         // blocks may have come while it was read, and then the mark: it counts as it was before
         if let Some(byte) = bytes.get_mut(BLOCK * BLOCKS) {
             *byte = mark;

@@ -29,12 +29,13 @@ pub struct LiveLog<F: LogFile, D> {
 }
 
 impl<F: LogFile, D: LogFolder<F> + Drop> LiveLog<F, D> {
-    ghost use Rattle.std.specs.Prelude.{◌⊎◌, IfErr, IfOk, IsErr, OnErr, OnOk, Some, false, true};
+    ghost use Rattle.std.specs.Prelude.{◌⊎◌, IfErr, IfOk, IfSome, IsErr, OnErr, OnOk, Some, false, true};
     ghost use Rattle.d64_image.specs.Images.{Image};
     ghost use Rattle.shop_log.specs.life.Folders.{AllLeft, Folder, LeavesFolders};
     ghost use Rattle.shop_log.specs.life.Bringing.{IsBrought, RestsAlone};
     ghost use Rattle.shop_log.specs.life.LiveLogs.{IsEnding, IsLeftAlone, is_shut, of_live};
     ghost use Rattle.shop_log.specs.ImageLogs.{IsEither, LeavesImages};
+    ghost use Rattle.shop_log.specs.Logs.{log_file};
     ghost use Rattle.shop_log.specs.Marks.{Covers};
 
     /// Makes a log in a folder that was landed with this image, in this room. At an error the folder is returned, and
@@ -119,14 +120,17 @@ impl<F: LogFile, D: LogFolder<F> + Drop> LiveLog<F, D> {
     }
 
     /// Lands the log, and returns the folder: IMAGE has the log's image then, and the log is gone. If the log takes no more
-    /// commits, this is an error, and the files are left alone: the next beginning lands it. At an error the folder gives
-    /// the image that it gave.
+    /// commits, or its name leads to another file, this is an error, and the files are left alone: the next beginning lands
+    /// it. At an error the folder gives the image that it gave.
     pub fn end(self) -> (D, Result<(), LogFault>)
         ensures any_moment { (image : Image) → (of_live D.history).stands_for self image → IsEnding D.history self result.0 image }
         ensures ok { OnOk result.1 ((image : Image) → (of_live D.history).stands_for self image
             → RestsAlone D.history result.0 image) }
         // one that was closed, or couldn't be renewed, is left alone
         ensures over { is_shut D.history self.log ≡ true → IsErr result.1 × IsLeftAlone D.history self.folder self.log result.0 }
+        // and so is one whose name has gone
+        ensures away { IfSome self.log (λ l. D.IsAway self.folder (log_file l) → IsErr result.1
+            × IsLeftAlone D.history self.folder self.log result.0) }
     {
         let LiveLog {
             alloc,

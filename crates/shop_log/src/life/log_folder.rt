@@ -1,5 +1,5 @@
 //! The folder in which an image stands, as its log's life sees it.
-ghost use Rattle.std.specs.Prelude.{◌≡◌, ◌<◌, [], IfOk, List, None, OnErr, OnOk, Some, length, option_map, true, ℕ};
+ghost use Rattle.std.specs.Prelude.{◌≡◌, ◌<◌, [], IfOk, IsErr, List, None, OnErr, OnOk, Some, length, option_map, true, ℕ};
 ghost use Rattle.shop_log.specs.life.Folders.{Acts, Brings, Folder, FolderHistory, HasImage, HasNames, IsGivenUp, IsImageWritten, IsMaking, IsNaming, IsRemoving, IsReturned, LogOf, Same, being_made, named, unlogged, with_sector};
 ghost use Rattle.shop_log.specs.Files.{Only};
 
@@ -12,6 +12,9 @@ use std::io;
 pub trait LogFolder<F: LogFile> {
     /// What a folder of this type holds, and what a power loss may leave of it.
     ghost history: { FolderHistory Self };
+
+    // it is known that the log's name doesn't lead to this open file, which is the log
+    ghost IsAway: { Self → F → Type 0 } = { λ _ _. ⊥ };
 
     /// Reads the 683 sectors of IMAGE.
     fn read_image(&mut self, image: &mut [[u8; 256]]) -> io::Result<()>
@@ -42,9 +45,11 @@ pub trait LogFolder<F: LogFile> {
         ensures lent { IfOk result (λ file. F.history.moment file ≡ history.lent self.new) }
         ensures acts { Acts history self.old self.new (λ s. s) Same result };
 
-    /// Closes the log that was opened, or that got its name.
+    /// Closes the log that was opened, or that got its name. An error also if its name leads to another file by then, or
+    /// to none.
     fn close_log(&mut self, file: F) -> io::Result<()>
-        ensures { IsReturned history F.history self.old self.new file result };
+        ensures returned { IsReturned history F.history self.old self.new file result }
+        ensures away { IsAway self.old file → IsErr result };
 
     /// Makes an empty `IMAGE-log.new` in place of one that may be there, and opens it.
     fn make_log(&mut self) -> io::Result<F>

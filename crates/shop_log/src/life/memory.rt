@@ -1,15 +1,15 @@
 //! Functions that take the memory for their images.
-ghost use Rattle.std.specs.Prelude.{◌≡◌, IfErr, IfOk, IfSome, IsNone, List, None, Some, length};
+ghost use Rattle.std.specs.Prelude.{◌≡◌, IfErr, IfOk, IfSome, IsNone, List, None, Some, length, true};
 ghost use Rattle.d64_image.specs.Images.{Image};
 ghost use Rattle.shop_log.specs.life.Bringing.{RestsAlone};
 ghost use Rattle.shop_log.specs.life.Faults.{IsMisfit};
 ghost use Rattle.shop_log.specs.life.Folders.{AllLeft, Folder, LeavesFolders};
 ghost use Rattle.shop_log.specs.life.Shops.{Gives, GivesOneOf};
-ghost use Rattle.shop_log.specs.life.Views.{IsLogViewed, Seen, SeenGives};
+ghost use Rattle.shop_log.specs.life.Views.{Goes, IsLogViewed, Seen, SeenGives};
 
 use crate::life::landing::{LogFault, land};
 use crate::life::log_folder::LogFolder;
-use crate::life::viewing::{ViewsImage, view};
+use crate::life::viewing::{ViewsImage, view_log};
 use crate::log_file::LogFile;
 use d64_image::SECTORS;
 use std::alloc::Global;
@@ -53,7 +53,36 @@ pub fn land_in<F: LogFile, D: LogFolder<F>>(
     }
 }
 
-/// Looks at an image through its log, as `view` does. Returns the image that the log gives, or None if there is no log.
+/// Looks at an image through its log, which was read. Returns the image that the log gives.
+fn view_read<V: ViewsImage>(
+    alloc: Global,
+    folder: &mut V,
+    log: &[u8],
+) -> Result<Vec<[u8; 256]>, LogFault>
+    ensures sized { IfOk result (λ shop. length shop.items ≡ 683) }
+    ensures ok { IfOk result (λ shop. (s t : Seen) → V.seen folder.old ≡ Some t → Goes s t → s.log ≡ Some log.now
+        → s.named ≡ true → IsLogViewed V.seen s folder.new shop.items) }
+    ensures refused { IfErr result (λ e. IsMisfit e → (s t : Seen) → V.seen folder.old ≡ Some t → Goes s t
+        → s.log ≡ Some log.now → s.named ≡ true → (given : Image) → SeenGives s given → ⊥) }
+{
+    let mut now = image_room(alloc)?;
+    let mut base = image_room(alloc)?;
+    let mut shop = image_room(alloc)?;
+    match view_log(
+        folder,
+        log,
+        now.as_mut_slice(),
+        base.as_mut_slice(),
+        shop.as_mut_slice(),
+    ) {
+        Ok(_) => Ok(shop),
+        Err(fault) => Err(fault),
+    }
+}
+
+/// Looks at an image through its log: first the log is read, then the image, and then it is asked whether the log was landed
+/// meanwhile. Returns the image that the log gives. If there is no log, it returns None; the image wasn't read, and no memory
+/// taken. Nothing is written. The log is refused only if it gave no image when the view began.
 pub fn view_in<V: ViewsImage>(
     alloc: Global,
     folder: &mut V,
@@ -66,17 +95,12 @@ pub fn view_in<V: ViewsImage>(
         → (given : Image) → SeenGives s given → ⊥) }
     ensures without { V.HasNoLog folder.old → IfOk result IsNone }
 {
-    let mut now = image_room(alloc)?;
-    let mut base = image_room(alloc)?;
-    let mut shop = image_room(alloc)?;
-    match view(
-        folder,
-        now.as_mut_slice(),
-        base.as_mut_slice(),
-        shop.as_mut_slice(),
-    ) {
-        Ok(true) => Ok(Some(shop)),
-        Ok(false) => Ok(None),
-        Err(fault) => Err(fault),
+    let log = folder.read_log()?;
+    match log {
+        Some(bytes) => match view_read(alloc, folder, bytes.as_slice()) {
+            Ok(shop) => Ok(Some(shop)),
+            Err(fault) => Err(fault),
+        },
+        None => Ok(None),
     }
 }

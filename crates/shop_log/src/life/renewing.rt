@@ -1,8 +1,8 @@
 //! A full log that is renewed.
-ghost use Rattle.std.specs.Prelude.{◌≡◌, Bool, IfOk, OnErr, Some, false, length, true};
-ghost use Rattle.shop_log.specs.life.LiveLogs.{IsRenewing, Stands};
+ghost use Rattle.std.specs.Prelude.{◌≡◌, Bool, IfOk, IsErr, OnErr, Some, false, length, true};
+ghost use Rattle.shop_log.specs.life.LiveLogs.{IsLeftAlone, IsRenewing, Stands};
 ghost use Rattle.shop_log.specs.life.Serving.{Serves};
-ghost use Rattle.shop_log.specs.Logs.{takes_none};
+ghost use Rattle.shop_log.specs.Logs.{log_file, takes_none};
 
 use crate::life::bringing::bring;
 use crate::life::log_folder::LogFolder;
@@ -27,6 +27,8 @@ pub(crate) fn renew<F: LogFile, D: LogFolder<F>>(
     ensures ok { IfOk result (λ new. (used : Bool) → Stands D.history folder.old (Some log) used base.now now.now
         → Serves D.history folder.new new now.now) }
     ensures room { IfOk result (λ new. takes_none new ≡ false) }
+    // a log whose name has gone is left alone
+    ensures away { D.IsAway folder.old (log_file log) → IsErr result × IsLeftAlone D.history folder.old (Some log) folder.new }
     // an error is returned only after a failure of the folder, or of a log's file
     ensures cause { OnErr result (D.history.has_failed folder.new ≡ true) }
 {

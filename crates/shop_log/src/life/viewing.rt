@@ -43,7 +43,7 @@ pub trait ViewsImage {
 
 /// Reads the image, and checks the log beside it, unless a writer has landed it since: that writer checked it, and IMAGE
 /// may have bytes of later commits. True at Ok.
-fn view_log<V: ViewsImage>(
+pub(crate) fn view_log<V: ViewsImage>(
     folder: &mut V,
     log: &[u8],
     now: &mut [[u8; 256]],
@@ -58,6 +58,7 @@ fn view_log<V: ViewsImage>(
     ensures shop { length shop.new ≡ 683 }
     ensures ok { IfOk result (λ there. (s t : Seen) → V.seen folder.old ≡ Some t → Goes s t → s.log ≡ Some log.now
         → s.named ≡ true → IsViewed V.seen s folder.new there shop.new) }
+    ensures there { IfOk result (λ there. there ≡ true) }
     ensures refused { IfErr result (λ e. IsMisfit e → (s t : Seen) → V.seen folder.old ≡ Some t → Goes s t
         → s.log ≡ Some log.now → s.named ≡ true → (given : Image) → SeenGives s given → ⊥) }
 {
@@ -68,33 +69,4 @@ fn view_log<V: ViewsImage>(
         judge(log, now, base, shop)?;
     }
     Ok(true)
-}
-
-/// Looks at an image through its log: first the log is read, then the image, and then it is asked
-/// whether the log was landed meanwhile. `shop` is the image
-/// that the log gives, and it returns true. If there is no log, it returns false; the image wasn't read. Nothing is
-/// written. The log is refused only if it gave no image when the view began. `base` is room for the log's base.
-pub fn view<V: ViewsImage>(
-    folder: &mut V,
-    now: &mut [[u8; 256]],
-    base: &mut [[u8; 256]],
-    shop: &mut [[u8; 256]],
-) -> Result<bool, LogFault>
-    requires now { length now.old ≡ 683 }
-    requires base { length base.old ≡ 683 }
-    requires shop { length shop.old ≡ 683 }
-    ensures now { length now.new ≡ 683 }
-    ensures base { length base.new ≡ 683 }
-    ensures shop { length shop.new ≡ 683 }
-    ensures ok { IfOk result (λ there. (s : Seen) → V.seen folder.old ≡ Some s
-        → IsViewed V.seen s folder.new there shop.new) }
-    ensures refused { IfErr result (λ e. IsMisfit e → (s : Seen) → V.seen folder.old ≡ Some s
-        → (given : Image) → SeenGives s given → ⊥) }
-    ensures without { V.HasNoLog folder.old → IfOk result (λ there. there ≡ false) }
-{
-    let log = folder.read_log()?;
-    match log {
-        Some(bytes) => view_log(folder, bytes.as_slice(), now, base, shop),
-        None => Ok(false),
-    }
 }

@@ -15,6 +15,7 @@ enum Found {
     /// Another image, or a log.
     Other,
     NoBase,
+    Damaged,
     Foreign,
     Failed,
 }
@@ -97,6 +98,7 @@ fn landed(rt: &(impl Abort + AllocGlobal), image: &[[u8; 256]], log: &[u8]) -> F
     ) {
         Ok(()) => held(rt, &mut folder),
         Err(LogFault::Unfit(Misfit::NoBase)) => Found::NoBase,
+        Err(LogFault::Unfit(Misfit::Damaged)) => Found::Damaged,
         Err(LogFault::Unfit(Misfit::Foreign)) => Found::Foreign,
         Err(LogFault::File(_)) => Found::Failed,
     }
@@ -180,4 +182,39 @@ fn logs_that_give_no_image(rt: HostRuntime) {
         landed(&rt, old.as_slice(), short.as_slice()),
         Found::NoBase,
     );
+}
+
+/// The bytes of a log that began with the numbered image, and has three commits of one block each: the changed image, the
+/// numbered one, and the changed one.
+fn logged_thrice(rt: &(impl Abort + AllocGlobal)) -> Vec<u8> {
+    let mut log = begun(rt, numbered(rt).as_slice()).expect(rt, "a log");
+    for image in [changed(rt), numbered(rt), changed(rt)] {
+        let done = commit(&mut log, image.as_slice(), &two_touched());
+        same(rt, done, true);
+    }
+    Vec::from_slice(rt.alloc(), log.file().bytes()).expect(rt, "there is memory")
+}
+
+/// A byte is lost in the base, and in the first of three commits: the log is refused. In one of the last two: these are
+/// taken for a torn end. A block of other bytes 47 blocks after the end, and 46.
+#[test]
+fn damaged_logs(rt: HostRuntime) {
+    let old = numbered(&rt);
+    let log = logged_thrice(&rt);
+    for (at, found) in [
+        (320, Found::NoBase),
+        (188_480, Found::Damaged),
+        (192_576, Found::After),
+        (196_672, Found::Before),
+    ] {
+        let lost = without(&rt, log.as_slice(), at);
+        same(&rt, landed(&rt, old.as_slice(), lost.as_slice()), found);
+    }
+    for (at, found) in [(389_119, Found::After), (389_120, Found::Damaged)] {
+        let mut other = logged_thrice(&rt);
+        if let Some(byte) = other.get_mut(at) {
+            *byte = 9;
+        }
+        same(&rt, landed(&rt, old.as_slice(), other.as_slice()), found);
+    }
 }

@@ -1,7 +1,7 @@
 -- A log that was closed and left alone.
 use Rattle.std.proofs.Common.{◌≡◌, ◌⊎◌, ◌∙◌, Bool, Err, Ok, Option, Result, Some, ap, false, inl, inr, subst, sym, true, ⊎_elim}
 use Rattle.std.proofs.lemmas.Bool.{false≢true}
-use Rattle.std.specs.Prelude.{IsTrue, OnErr, OnOk}
+use Rattle.std.specs.Prelude.{IfSome, IsTrue, OnErr, OnOk}
 use Rattle.shop_log.specs.life.Folders.{FolderHistory, IsReturned}
 use Rattle.shop_log.specs.life.LiveLogs.{IsLeftAlone, is_shut}
 use Rattle.shop_log.specs.Logs.{is_closed, log_file}
@@ -21,6 +21,12 @@ module _ {F D : Type 0} {G : Ghosts F} (h : FolderHistory D) where
         held = λ s f was is. ⊎_elim (λ failed. inl failed) (λ held. inr (held s f was is))
             (ok_or _ (h.has_failed a ≡ true) r back.held back.failures.failed);
       })
+
+  -- what is said of the log that is open, under its name
+  pub away_under : (o : Option (Log F G)) (log : Log F G) → o ≡ Some log → (Away : F → Type 0) (P : Type 0)
+      → (Away (log_file log) → P) → IfSome o (λ l. Away (log_file l) → P)
+  away_under o log is Away P all =
+      subst (λ (x : Option (Log F G)). IfSome x (λ l. Away (log_file l) → P)) (sym is) all
 
   -- one that isn't closed isn't shut
   pub was_open : (o : Option (Log F G)) (log : Log F G) → o ≡ Some log → (closed : Bool) → (is_closed log → IsTrue closed)

@@ -17,7 +17,7 @@ use Rattle.shop_log.proofs.lemmas.life.Steps.{goes_on, started}
 pub mark_gives : (d c : List ℕ) (image given : Image) → MarkTorn d c → LogGives d image given → LogGives c image given
 mark_gives d c image given torn gives =
     let mixed : Mixed 4194304 (1 ∷ []) d c = torn (omega (arith, gives.size)) in
-    let left = mark_left d gives.size c mixed gives.based in
+    let left = mark_left d gives.size c mixed gives.based gives.ends in
     record {
       size = mixed.size ∙ gives.size;
       based = left.based;
@@ -32,6 +32,7 @@ mark_gives d c image given torn gives =
           ))
           gives.own;
       is = same_recovered d gives.size c mixed ∙ gives.is;
+      ends = left.ends;
     }
 
 -- with its mark it gives the same beside each mix of its base and that
@@ -39,12 +40,13 @@ pub marked_gives : (f : List ℕ) (image other given : Image) → LogGives f ima
     → LogGives (marked_log f) other given
 marked_gives f image other given gives mix =
     let mixed : Mixed 4194304 (1 ∷ []) f (marked_log f) = new_mixed f 4194304 (1 ∷ []) (omega (arith, gives.size)) in
-    let left = mark_left f gives.size (marked_log f) mixed gives.based in
+    let left = mark_left f gives.size (marked_log f) mixed gives.based gives.ends in
     record {
       size = mixed.size ∙ gives.size;
       based = left.based;
       own = inr (is_there f gives.size, subst (λ (b : Image). IsMixOf b given other) (sym left.base) mix);
       is = same_recovered f gives.size (marked_log f) mixed ∙ gives.is;
+      ends = left.ends;
     }
 
 pub always : {T E : Type 0} {P : Type 0} (r : Result T E) → P → OnOk r P

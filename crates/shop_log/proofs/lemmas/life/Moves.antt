@@ -39,8 +39,8 @@ module _ {F D : Type 0} {G : Ghosts F} (h : FolderHistory D) where
     left_gives : (image : Image) (c : List ℕ) → image ≡ base → IsLeft base before now c
         → LogGives c image before ⊎ LogGives c image now
     left_gives image c is left = ⊎_elim
-        (λ old. inl record { size = left.size; based = left.based; own = inl (is ∙ sym left.base); is = old })
-        (λ new. inr record { size = left.size; based = left.based; own = inl (is ∙ sym left.base); is = new })
+        (λ old. inl record { size = left.size; based = left.based; own = inl (is ∙ sym left.base); is = old; ends = left.ends })
+        (λ new. inr record { size = left.size; based = left.based; own = inl (is ∙ sym left.base); is = new; ends = left.ends })
         left.image
 
     -- What a power loss leaves while a commit is made: what it might have left before, or a folder that gives one of two

@@ -2,12 +2,12 @@
 use Rattle.std.proofs.Common.{◌≡◌, ◌<◌, ◌∙◌, ℕ, Bool, List, Option, Some, ap, false, inr, length, refl, subst, sym, true, ⊎_elim}
 use Rattle.std.proofs.lemmas.Bool.{false≢true}
 use Rattle.std.proofs.lemmas.Option.{same_Some}
-use Rattle.std.specs.Prelude.{Err, IfErr, IfOk, Ok, Result}
+use Rattle.std.specs.Prelude.{Err, IfErr, Ok, Result}
 use Rattle.d64_image.specs.Images.{Image}
-use Rattle.shop_log.specs.Recovered.{base_end, base_of, is_marked, recovered}
+use Rattle.shop_log.specs.Recovered.{EndsTorn, base_end, base_of, commits_end, is_marked, recovered}
 use Rattle.shop_log.specs.life.Mixes.{IsMixOf}
 use Rattle.shop_log.specs.life.Shops.{LogGives, given_by}
-use Rattle.shop_log.specs.life.Views.{Goes, GoesTo, HasLanded, HasMark, IsLogViewed, IsViewed, Lands, Seen, SeenGives}
+use Rattle.shop_log.specs.life.Views.{Goes, GoesTo, HasLanded, HasMark, IsLogViewed, Lands, Seen, SeenGives}
 use Rattle.shop_log.proofs.lemmas.life.Mixed.{mix_back, mix_gives, mix_more}
 
 pub if_err : {T E : Type 0} (Q : E → Type 0) (P : Type 0) (r : Result T E) → P → IfErr r (λ e. Q e → P)
@@ -50,6 +50,7 @@ module _ (s t u : Seen) (l : Bool) (f : List ℕ) (log : s.log ≡ Some f) (name
               (subst (λ (x : Image). IsMixOf s.image x t.image) gives.is first),
         );
         is = gives.is;
+        ends = gives.ends;
       }
 
       marked_back : (v : Seen) → Goes u v → v ≡ s → (shop : Image) → LogGives f t.image shop → LogGives f s.image shop
@@ -69,6 +70,7 @@ module _ (s t u : Seen) (l : Bool) (f : List ℕ) (log : s.log ≡ Some f) (name
                   (ap (λ (x : Seen). x.image) same) (mix_gives f t.image shop gives),
             );
             is = gives.is;
+            ends = gives.ends;
           }
 
     -- it has no mark in the end
@@ -138,8 +140,8 @@ module _ {V : Type 0} (seen : V → Option Seen) (v0 v1 v2 : V) (m l : Bool) (f 
         }
 
   -- it was only read
-  pub none_read : (length f ≡ 4198400 → 0 < base_end f → ⊥) → (given : Image) → SeenGives s given → ⊥
-  none_read never given gives = let is = is_given given gives in never is.size is.based
+  pub none_read : (length f ≡ 4198400 → 0 < base_end f → EndsTorn f (commits_end f) → ⊥) → (given : Image) → SeenGives s given → ⊥
+  none_read never given gives = let is = is_given given gives in never is.size is.based is.ends
 
   pub landed_viewed : l ≡ true → (shop : Image) → shop ≡ recovered f → IsLogViewed seen s v2 shop
   landed_viewed landed shop is =
@@ -148,19 +150,3 @@ module _ {V : Type 0} (seen : V → Option Seen) (v0 v1 v2 : V) (m l : Bool) (f 
         given = λ given was. is ∙ (is_given given was).is;
         still = λ same. was_changed s t u.0 l f log name one u.2 look landed w.0 w.2 (same_Some w.0 s (sym w.1 ∙ same));
       }
-
--- the log was read, and then viewed
-module _ {V E : Type 0} (seen : V → Option Seen) (v0 v1 v2 : V) (f : List ℕ) (shop : Image)
-    (goes : (s : Seen) → seen v0 ≡ Some s → GoesTo seen s v1) (log : (s : Seen) → seen v0 ≡ Some s → s.log ≡ Some f)
-    (name : (s : Seen) → seen v0 ≡ Some s → s.named ≡ true) where
-  pub some_viewed : (r : Result Bool E)
-      → IfOk r (λ there. (s t : Seen) → seen v1 ≡ Some t → Goes s t → s.log ≡ Some f → s.named ≡ true → IsViewed seen s v2 there shop)
-      → IfOk r (λ there. (s : Seen) → seen v0 ≡ Some s → IsViewed seen s v2 there shop)
-  some_viewed (Ok there) is = λ s at. let t = goes s at in is s t.0 t.1 t.2 (log s at) (name s at)
-  some_viewed (Err e) is = tt
-
-  pub some_refused : (Q : E → Type 0) (r : Result Bool E)
-      → IfErr r (λ e. Q e → (s t : Seen) → seen v1 ≡ Some t → Goes s t → s.log ≡ Some f → s.named ≡ true → (given : Image) → SeenGives s given → ⊥)
-      → IfErr r (λ e. Q e → (s : Seen) → seen v0 ≡ Some s → (given : Image) → SeenGives s given → ⊥)
-  some_refused Q (Ok there) is = tt
-  some_refused Q (Err e) is = λ q s at. let t = goes s at in is q s t.0 t.1 t.2 (log s at) (name s at)

@@ -1,17 +1,21 @@
--- The image is the one that `view` wrote.
-use Rattle.std.proofs.Common.{◌∙◌, subst, sym}
-use Rattle.std.proofs.lemmas.List.{with_items_is}
-use Rattle.shop_log.specs.life.Views.{IsLogViewed, IsViewed}
+-- The log is read, and then viewed.
+use Rattle.std.proofs.Common.{◌∙◌, Some, ap, refl, subst, sym}
+use Rattle.std.specs.Prelude.{IsSome}
+use Rattle.shop_log.proofs.lemmas.life.Landed.{log_of}
 use Rattle.shop_log.proofs.life.memory.view_in.Goals as goal
 
-pub returns-in-Ok-true-clause-some : goal.returns-in-Ok-true-clause-some
-returns-in-Ok-true-clause-some g c s at =
-    subst (λ i. IsLogViewed g.V.ViewsImage.seen s c.view.new.folder i)
-    (sym (with_items_is c.in_ok-shop.shop c.view.new.shop (c.view.auto.shop ∙ c.as_mut_slice-3.ensures.len)))
-    (subst (λ b. IsViewed g.V.ViewsImage.seen s c.view.new.folder b c.view.new.shop) c.in-Ok-true.field-0-test
-    (c.in-Ok-true.ensures.ok s at))
+pub returns-in-Ok-clause-some : goal.returns-in-Ok-clause-some
+returns-in-Ok-clause-some g c s at =
+    let t = c.read_log.ensures.goes s at in
+    c.in-Ok.ensures.ok s t.0 t.1 t.2
+    (sym (log_of c.in_ok-log.log c.in-Some.bytes s.log c.in-Some.is (c.in_ok-log.ensures.log s at))
+    ∙ ap Some (sym c.as_slice.ensures.value))
+    (c.in_ok-log.ensures.named s at (subst IsSome (sym c.in-Some.is) refl))
 
-pub returns-in-Ok-false-clause-none : goal.returns-in-Ok-false-clause-none
-returns-in-Ok-false-clause-none g c none s at =
-    subst (λ b. IsViewed g.V.ViewsImage.seen s c.view.new.folder b c.view.new.shop) c.in-Ok-false.field-0-test
-    (c.in-Ok-false.ensures.ok s at)
+pub returns-in-Some-clause-refused : goal.returns-in-Some-clause-refused
+returns-in-Some-clause-refused g c misfit s at =
+    let t = c.read_log.ensures.goes s at in
+    c.in-Err.ensures.refused misfit s t.0 t.1 t.2
+    (sym (log_of c.in_ok-log.log c.in-Some.bytes s.log c.in-Some.is (c.in_ok-log.ensures.log s at))
+    ∙ ap Some (sym c.as_slice.ensures.value))
+    (c.in_ok-log.ensures.named s at (subst IsSome (sym c.in-Some.is) refl))

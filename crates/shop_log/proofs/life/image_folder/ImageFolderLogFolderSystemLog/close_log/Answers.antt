@@ -2,5 +2,5 @@
 use Rattle.shop_log.proofs.lemmas.life.Unknown.{returned}
 use Rattle.shop_log.proofs.life.image_folder.ImageFolderLogFolderSystemLog.close_log.Goals as goal
 
-pub returns : goal.returns
-returns g c = returned _ _ _ _
+pub returns-clause-returned : goal.returns-clause-returned
+returns-clause-returned g c = returned _ _ _ _

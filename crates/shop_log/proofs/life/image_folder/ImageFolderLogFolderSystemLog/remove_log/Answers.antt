@@ -4,5 +4,8 @@ use Rattle.shop_log.specs.life.Folders.{IsRemoving, unlogged}
 use Rattle.shop_log.proofs.lemmas.life.Unknown.{acts}
 use Rattle.shop_log.proofs.life.image_folder.ImageFolderLogFolderSystemLog.remove_log.Goals as goal
 
+pub returns-in_err-see_log : goal.returns-in_err-see_log
+returns-in_err-see_log g c = acts _ _ unlogged IsRemoving _ (λ s. inl refl)
+
 pub returns : goal.returns
 returns g c = acts _ _ unlogged IsRemoving _ (λ s. inl refl)
