@@ -113,7 +113,7 @@ where
     ensures { IfErr result IsUnbegun }
 {
     let image = told(opened_to_change(rt, path))?;
-    let mut folder = told(ImageFolder::new(rt, rt.alloc(), names, image, true))?;
+    let mut folder = told(ImageFolder::new(rt, rt.alloc(), names, image))?;
     match land_in(rt.alloc(), &mut folder) {
         Ok(_) => Ok(()),
         Err(fault) => Err(log_refusal(&fault)),

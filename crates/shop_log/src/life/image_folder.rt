@@ -28,7 +28,6 @@ pub struct ImageFolder<'a, R: HostFiles> {
     image: R::File,
     // the file that is the log
     log: Option<Identity>,
-    synced: bool,
     // the log may be kept
     ghost keeps: { MayKeepLogOf R.rights rt.now (string_bytes names.now.image) } by { Prim.hlevel props },
 }
@@ -64,15 +63,13 @@ impl<'a, R: HostFiles> ImageFolder<'a, R>
 where
     R::File: EndedFile + OpenFile,
 {
-    /// The folder of the image whose file this is, open to be read and written. `synced` says whether each commit is
-    /// synced; everything else always is. `InvalidInput` if it isn't a regular file, or has a second name, by which it
-    /// would have another log.
+    /// The folder of the image whose file this is, open to be read and written. `InvalidInput` if it isn't a regular file, or
+    /// has a second name, by which it would have another log.
     pub fn new(
         rt: &'a R,
         alloc: Global,
         names: &'a LogNames,
         image: R::File,
-        synced: bool,
     ) -> io::Result<ImageFolder<'a, R>>
         requires { MayKeepLogOf R.rights rt.now (string_bytes names.now.image) }
     {
@@ -85,25 +82,17 @@ where
             names,
             image,
             log: None,
-            synced,
         })
     }
 
     /// An open file as the log, or as one in the making that hasn't its name yet.
-    fn log_of(
-        &self,
-        file: R::File,
-        identity: Identity,
-        named: bool,
-        synced: bool,
-    ) -> SystemLog<'a, R> {
+    fn log_of(&self, file: R::File, identity: Identity, named: bool) -> SystemLog<'a, R> {
         SystemLog {
             rt: self.rt,
             name: self.names.log(),
             file,
             identity,
             named: Cell::new(named),
-            synced,
         }
     }
 
@@ -163,7 +152,7 @@ where
         let file = opened_to_change(self.rt, self.names.log())?;
         let identity = identity_of(&file)?;
         self.know(identity)?;
-        Ok(self.log_of(file, identity, true, true))
+        Ok(self.log_of(file, identity, true))
     }
 
     fn close_log(&mut self, file: SystemLog<'a, R>) -> io::Result<()> {
@@ -174,7 +163,7 @@ where
         forget_making(self.rt, self.names)?;
         let file = self.rt.make_file(self.names.making())?;
         let identity = identity_of(&file)?;
-        Ok(self.log_of(file, identity, false, self.synced))
+        Ok(self.log_of(file, identity, false))
     }
 
     fn leave_making(&mut self, file: SystemLog<'a, R>) {
