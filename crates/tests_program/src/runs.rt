@@ -30,7 +30,7 @@ fn inputs_of(memory: &Memory, job: &Job<'_>) -> (Vec<u8>, Vec<u8>) {
         _ => bytes_at(memory.alloc, &memory.image),
     };
     let text = match job {
-        Job::Play { .. } | Job::Store { .. } | Job::Dry { .. } => bytes_at(
+        Job::Play { .. } | Job::PlayLogged { .. } | Job::Store { .. } | Job::Dry { .. } => bytes_at(
             memory.alloc,
             &memory.script,
         ),
