@@ -18,6 +18,7 @@ struct NoDisk;
 
 impl<L: ImageLog> PowerLoss<L> for NoDisk {
     ghost moment = { λ _. 0 };
+
     ghost leaving = { λ _ _ image. image ≡ None };
 
     fn leaves(self, _log: &L) -> Result<MemDisk, ImageFault> {
