@@ -41,7 +41,6 @@ STEPS = {
     'wins': 'IMAGE is taken though a log is there',
     'mark again': 'a reader doesn\'t look for the mark again after it read IMAGE',
     'name again': 'a reader of a marked log doesn\'t look for its name after it read IMAGE',
-    'mark first': 'a reader takes the mark that it finds behind the log\'s blocks',
     'log first': 'a reader reads IMAGE before the log',
     'lock': 'a reader may look before the log stands',
     'backwards': 'a reader reads the first block of the log first',
@@ -242,8 +241,7 @@ class World:
                     at = to
                     yield
             # commits may have come while it was read, and then the mark
-            if self.without != 'mark first':
-                data[-1:] = mark
+            data[-1:] = mark
             if image is None:
                 image = yield from self.read_image()
             found = read_log(data)
