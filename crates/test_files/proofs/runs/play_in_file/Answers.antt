@@ -17,9 +17,10 @@ use Rattle.test_files.proofs.Ends.{held_sized, known_in, on_ok_by}
 use Rattle.test_files.proofs.Lasts.{lasts_done, lasts_each, play_failed}
 use Rattle.test_files.proofs.runs.play_in_file.Goals as goal
 
-pub play_durably-requires-clause-image : goal.play_durably-requires-clause-image
-play_durably-requires-clause-image g c =
-    c.requires.image ∙ sym (take_all 174849 (whole_held c.args.file) (omega (arith, c.args.file.file.held.size)))
+pub play_durably-requires : goal.play_durably-requires
+play_durably-requires g c = record {
+  image = c.requires.image ∙ sym (take_all 174849 (whole_held c.args.file) (omega (arith, c.args.file.file.held.size)));
+}
 
 pub returns : goal.returns
 returns g c =
