@@ -191,6 +191,10 @@ class Logs:
                 want(self.files() == held, f"{command.name} has changed a file beside a log that is refused")
             said = run(self.program, "show", self.image, "--explain")[2]
             want("docs/LOG.md" in said, f"LOG is explained so: {said}")
+            if harm == self.cut_log:
+                got = run(self.program, "format", self.image, "--tills", 4)
+                want((got, self.files()) == ((3, [], "FILE"), held), f"format beside a file that isn't as long as a log: {got}")
+                self.log.unlink()
             sure(self.program, "format", self.image, "--tills", 4)
             want(LOG not in self.files(), "format has left a log")
 
@@ -286,7 +290,7 @@ class Logs:
             self.ask(served, lines)
         want(served.finish() == (0, [], ""), "the end isn't quiet")
         steps = list(steps_of(calls.read_text(), self.folder))
-        wanted = ["lock image", "sync image", "sync folder", "make new", "write new", "sync new", "write new", "sync new", "sync folder",
+        wanted = ["lock image", "sync image", "sync folder", "make new", "sync new", "write new", "sync new", "write new", "sync new", "sync folder",
                   "rename", "sync folder", "share image", "write log", "sync log", "reply", "write log", "sync log", *["reply"] * 4,
                   "sync image", "sync folder", "write log", "sync log", "write image", "sync image", "remove log", "sync folder"]
         want(steps == wanted, f"the calls are {steps}")
