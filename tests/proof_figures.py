@@ -2,7 +2,8 @@
 """Prints the table of docs/PROOF.md: lines of code, contracts, definitions and proofs, without blank lines and comments, and how many
 functions, tests and mutants there are.  tests/proof_figures.py
 
-A line of a contract is one of a clause (`ensures`, `requires`) or of another ghost item; tests are code."""
+A line of a contract is one of a clause (`ensures`, `requires`) or of another ghost item; tests are code. With `--without` it prints
+each function of the product that has no `ensures` of its own and doesn't implement a trait's."""
 
 import re
 import sys
@@ -11,6 +12,7 @@ from pathlib import Path
 sys.dont_write_bytecode = True
 sys.path.insert(0, str(Path(__file__).resolve().parent))
 from outline import TOP, groups  # noqa: E402
+from spec_files import ends_head  # noqa: E402
 
 # the rows of the table, by the headings of crates.txt
 KINDS = {"Product": "the product", "Tests": "tests", "Tools": "tools, examples", "Example": "tools, examples"}
@@ -36,6 +38,30 @@ def lines_of(crate, folder):
     return sum(1 for lines in texts for it in lines if it.strip() and not it.strip().startswith("--"))
 
 
+def without_clause(text):
+    """The functions of a source whose heads have no `ensures`: the line of each, and whether it implements a trait's function."""
+    lines, implements = text.split("\n"), False
+    for at, line in enumerate(lines):
+        if re.match(r"\w", line) and not line.startswith(("where", "ghost")):
+            implements = bool(re.match(r"impl\b.* for [^{]*", line))
+        if re.match(r"\s*(pub(\([a-z]+\))? )?fn ", line):
+            end = next(it for it in range(at, len(lines)) if ends_head(lines[it], it == at))
+            if not any(re.search(r"\bensures\b", it) for it in lines[at : end + 1]):
+                yield at + 1, implements
+
+
+def functions_without(shows):
+    """How many functions of the product have no `ensures` of their own, and how many of these implement a trait's."""
+    found = []
+    for file in sorted(it for crate in groups()["Product"] for it in TOP.glob(f"crates/{crate}/src/**/*.rt")):
+        text = file.read_text()
+        for number, implements in without_clause(text):
+            found.append(implements)
+            if shows and not implements:
+                print(f"{file.relative_to(TOP)}:{number}: {text.split(chr(10))[number - 1].strip()}")
+    return len(found), sum(found)
+
+
 def main():
     rows, kinds = {}, {crate: KINDS[group] for group, crates in groups().items() for crate in crates}
     for crate in sorted(it.parent for it in TOP.glob("crates/*/src")):
@@ -49,10 +75,12 @@ def main():
     print("| | Crates | Code | Contracts | Definitions | Proofs | Functions | Tests |\n|---|---|---|---|---|---|---|---|")
     for kind, row in sorted(rows.items(), key=lambda it: -it[1][4]):
         print(f"| {kind} | {' | '.join(f'{it:,}' for it in row)} |")
+    bare, of_trait = functions_without("--without" in sys.argv)
+    print(f"\nOf the product's functions {bare} have no postcondition of their own; {of_trait} of these implement a trait's.")
     edits = [len(list(TOP.glob(it))) for it in ("crates/*/must-fail/*.edit", "wrong_bodies/*/*.edit", "crates/*/wrong_bodies/*.edit")]
     verdicts, seen = ((TOP / "wrong_bodies" / name).read_text().splitlines() for name in ("VERDICTS", "SEEN"))
     refused = sum(": refused" in it for it in verdicts)
-    print(f"\nMutants: {sum(edits)}; {edits[0]} of them in the gate, and {edits[2]} that a test is to see.")
+    print(f"Mutants: {sum(edits)}; {edits[0]} of them in the gate, and {edits[2]} that a test is to see.")
     print(f"Verdicts: {len(verdicts)}, of which {refused} are refused; {len(seen)} were seen by a test.")
 
 

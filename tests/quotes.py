@@ -2,8 +2,9 @@
 """Sees that what documents quote whole stands so in the sources.
 
 In README.md and docs/*.md a line `<!-- FILE: NAME -->` stands before a block of code that quotes the definition NAME of FILE, with
-the comment over it. Both have to be the same, line by line. `--write` puts the definition into the block. Without words nothing is
-written, and the status is 1 where a block isn't up to date, where NAME isn't there, or where nothing is quoted."""
+the comment over it. Of a FILE of Rust NAME is a trait, and the block has a line for each function of its implementation there: name
+and body. Both have to be the same, line by line. `--write` puts the definition into the block. Without words nothing is written, and
+the status is 1 where a block isn't up to date, where NAME isn't there, or where nothing is quoted."""
 
 import re
 import sys
@@ -13,9 +14,21 @@ TOP = Path(__file__).resolve().parent.parent
 QUOTE = re.compile(r"(<!-- (\S+): (\w+) -->\n+```\w*\n)(.*?)(```\n)", re.S)
 
 
+def bodies(lines, trait):
+    """The functions of the one implementation of a trait among these lines: the name and the body of each; None where it isn't there."""
+    heads = [at for at, line in enumerate(lines) if re.match(rf"impl\b.*\b{trait}\b.* for ", line)]
+    if len(heads) != 1:
+        return None
+    said = [re.sub(r"^\s*(//|#\[|ghost ).*", "", it) for it in lines[heads[0] : lines.index("}", heads[0])]]
+    found = re.findall(r"(?ms)^    fn (\w+)\b[^{]*\{\n(.*?)^    \}$", "\n".join(said))
+    return "".join(f"{name}: {' '.join(body.split()).replace(' .', '.')}\n" for name, body in found)
+
+
 def definition(file, name):
     """A definition with the comment over it, from its file; None where it isn't there."""
     lines = (TOP / file).read_text(encoding="utf-8").split("\n")
+    if file.endswith(".rt"):
+        return bodies(lines, name)
     heads = [at for at, line in enumerate(lines) if re.match(rf"(unfoldable |abbrev )?pub (record |data )?{name}\b", line)]
     if len(heads) != 1:
         return None
