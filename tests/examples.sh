@@ -17,7 +17,7 @@ sed -n '/^TOP /,/^```/p' "$top/README.md" | sed '$d' | diff - "$work/shown"
 [ "$("$program" check "$work/shop.d64")" = OK ]
 
 # the line of the guide, as it stands, in a folder of disks, with the program under the name that it calls
-line=$(sed -n 's/^    \(ledger check .*\[dD\]64\)$/\1/p' "$top/docs/KEEPERS.md")
+line=$(sed -n 's/^| .*`\(ledger check .*\[dD\]64\)`.*/\1/p' "$top/docs/KEEPERS.md")
 mkdir "$work/shelf" "$work/bin"
 printf '#!/bin/sh\nexec "%s" "$@"\n' "$(readlink -f "$program")" >"$work/bin/ledger"
 chmod +x "$work/bin/ledger"
