@@ -14,7 +14,7 @@ import sys
 from pathlib import Path
 
 TOP = Path(__file__).resolve().parent.parent
-PAGES = ("KEEPERS", "SHOP_OWNER", "OPERATIONS", "TRUST", "LOG", "MESSAGES", "CARDS", "DISK", "DRIVE", "SHOP", "FAQ", "GLOSSARY")
+PAGES = ("KEEPERS", "SHOP_OWNER", "OPERATIONS", "TRUST", "LOG", "MESSAGES", "CARDS", "DISK", "DRIVE", "POWER_CUTS", "FAQ", "GLOSSARY")
 LINK = re.compile(r"(!?)\[([^\]]*)\]\(([^)\s]+)\)")
 
 

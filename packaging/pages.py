@@ -25,8 +25,9 @@ STATUSES = (
 )
 
 DESCRIPTION = """A stock ledger on a Commodore 1541 disk, kept as a D64 image of 35 tracks. A till sends requests, and repeats a request
-if it didn't get the answer: a repeat gets the kept answer and has no second effect. Power may fail between any two sector writes; the
-next opening puts everything right. The commands for keepers of disks take any image of 35 tracks without error bytes."""
+if it didn't get the answer: a repeat gets the kept answer and has no second effect. If power fails, the next opening puts everything
+right; but play without --sync may then have lost answered requests. The commands for keepers of disks take any image of 35 tracks
+without error bytes."""
 
 # a command, what it does, and what it prints
 EXAMPLES = (
@@ -138,7 +139,7 @@ def explained_words():
         if refusal:
             lines += [".TP", f".B {escaped(plain(refusal[1]))}", escaped(plain(refusal[2]))]
         elif line.startswith("Status "):
-            lines += [".PP", escaped(line)]
+            lines += [".PP", escaped(plain(line))]
     return lines
 
 

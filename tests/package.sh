@@ -59,7 +59,7 @@ diff - "$work/pages" <<END
 ./CHANGELOG.md
 ./README.md
 ./SECURITY.md
-$(printf './docs/%s.md\n' CARDS DISK DRIVE FAQ GLOSSARY KEEPERS LOG MESSAGES OPERATIONS SHOP SHOP_OWNER TRUST)
+$(printf './docs/%s.md\n' CARDS DISK DRIVE FAQ GLOSSARY KEEPERS LOG MESSAGES OPERATIONS POWER_CUTS SHOP_OWNER TRUST)
 ./examples/operator/QUICK_START.md
 ./examples/tills/README.md
 ./examples/tills/SECURITY.md
