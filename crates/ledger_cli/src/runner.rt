@@ -62,7 +62,7 @@ fn refuse<E: Write>(err: &mut E, error: &io::Error) -> u8 {
     end(Err(Refusal::Fault(CommandFault::of_io(error))), err).status
 }
 
-/// Prints for a person what the words may be. What `clap` refuses it explains itself.
+/// Prints what the words may be. What `clap` refuses it explains itself.
 fn explain_words<E: Write>(fault: &JobFault, err: &mut E) {
     let _ = match fault {
         JobFault::Words(_) => Ok(()),
@@ -94,12 +94,7 @@ fn explain_words<E: Write>(fault: &JobFault, err: &mut E) {
 }
 
 /// Reports why the words ask for nothing, or prints the help that they ask for, and returns the exit status.
-fn refuse_words<R: Print + Eprint, E: Write>(
-    rt: &R,
-    fault: &JobFault,
-    told: Audience,
-    err: &mut E,
-) -> u8 {
+fn refuse_words<R: Print + Eprint, E: Write>(rt: &R, fault: &JobFault, err: &mut E) -> u8 {
     let status = fault.status();
     let ended = match fault {
         // If memory ran out, there may be no text.
@@ -109,9 +104,7 @@ fn refuse_words<R: Print + Eprint, E: Write>(
         JobFault::Words(error) => error.print(rt),
         _ => writeln!(err, "{fault}"),
     };
-    if told != Audience::Program {
-        explain_words(fault, err);
-    }
+    explain_words(fault, err);
     match ended {
         // Help that can't be printed is an output that failed.
         Err(error) if status == 0 => refuse(err, &error),
@@ -235,7 +228,7 @@ where
     };
     match line.job {
         Ok(job) => obey_job(rt, &job, told, err),
-        Err(fault) => refuse_words(rt, &fault, told, err),
+        Err(fault) => refuse_words(rt, &fault, err),
     }
 }
 
