@@ -5,7 +5,7 @@
 Documents are README.md, CHANGELOG.md, SECURITY.md, releases/README.md, docs/*.md, crates/*/README.md and each page under examples/;
 FILE names some of them. Of each it checks
   - sentences of more than 35 words, outside tables, code and pictures;
-  - the words of WORDS and PAGE_WORDS below, outside code and quotation marks;
+  - the words of WORDS below, outside code and quotation marks;
   - links: the file is there, and so is the heading that an anchor, or the name in italics after a link, refers to;
   - file names in backticks that begin with a folder of this repository;
   - that README.md has at most README_LIMIT words, and that each subcommand of the program has a line in tests/commands.py. (The man
@@ -29,7 +29,7 @@ sys.path.insert(0, str(Path(__file__).resolve().parent))
 from commands import COMMANDS  # noqa: E402
 
 TOP = Path(__file__).resolve().parent.parent
-LIMIT = 28_300
+LIMIT = 28_700
 README_LIMIT = 700
 LONGEST = 35
 FOLDERS = ("bench", "crates", "docs", "examples", "packaging", "tests", "tools", "wrong_bodies")
@@ -48,13 +48,6 @@ WORDS = {
     "..": (r"(?<![.\w/])\.\.(?![.\w/])", "..."),
     "wrong body": (r"\b[Ww]rong bod(?:y|ies)\b", "mutant"),
     "rooms": (r"\b[Rr]ooms\b", "folders"),
-}
-# what a document doesn't say, though comments may
-PAGE_WORDS = {
-    "without a word": (r"\b[Ww]ithout a word\b", "silently, or without a warning"),
-    "the greatest": (r"\b[Tt]he greatest\b", "the highest"),
-    "by then": (r"\bby then\b", "when"),
-    "comes there": (r"\bcomes there\b", "say what happens"),
 }
 
 
@@ -96,7 +89,7 @@ def sentences(text):
     return re.split(r"(?<=[.!?])(?:\)|\*)* +(?=[A-Z0-9`(*\"]|--)", text)
 
 
-def findings(text, words=WORDS):
+def findings(text):
     """What the prose of a document has: its line, which check, and the words."""
     for line, block in blocks(text):
         plain = prose(block)
@@ -104,7 +97,7 @@ def findings(text, words=WORDS):
             length = len(re.findall(r"[\w][\w'.,/-]*", it))
             if length > LONGEST:
                 yield line, f"{length} words", it[:90]
-        for name, (form, better) in words.items():
+        for name, (form, better) in WORDS.items():
             for it in re.finditer(form, plain):
                 yield line, f"'{name}' ({better})", plain[max(0, it.start() - 30) : it.end() + 30]
 
@@ -182,7 +175,7 @@ def check(file, shows):
     """Prints what is found of a document, or a line with its counts; gives the number of its findings and of its words."""
     text = file.read_text()
     name = str(file.relative_to(TOP))
-    found = [] if name in GENERATED else [*findings(text, {**WORDS, **PAGE_WORDS}), *broken_links(file, text)]
+    found = [] if name in GENERATED else [*findings(text), *broken_links(file, text)]
     found += [*untried_commands(), *readme_length(text)] if name == "README.md" else []
     if name in QUOTING:
         found += unknown_code(text, source_lines())
