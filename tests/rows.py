@@ -25,7 +25,7 @@ TABLES = Path(__file__).resolve().parent / "rows"
 # Whether the output and standard error are terminals.
 RUNS = {b"$": (False, False), b"watched": (False, False), b"full": (False, False), b"person": (True, True), b"waiting": (False, True)}
 NOTHING = {b"prints": b"", b"tells": b"", b"ends": b"0", b"makes": b"0", b"logged": b"no log", b"written": b"as it was", b"others": b""}
-LEFT = {*NOTHING, b"size", b"leaves", b"has", b"sums", b"syncs", b"folder-syncs", b"reads-behind"} - {b"others"}
+LEFT = {*NOTHING, b"found", b"size", b"leaves", b"has", b"sums", b"syncs", b"folder-syncs", b"reads-behind"} - {b"others"}
 PATHS = {b"image": "a.d64", b"script": "s.txt", b"log": "a.d64-log", b"input": "../input"}
 SHOWN = 300  # bytes of an output that differs
 DROP_OF_BOUNDS, RIGHT_TO_ANY_FILE = 24, 1  # prctl(2), capabilities(7)
@@ -125,6 +125,10 @@ class Part:
             place, _, rest = rest.partition(b" ")
             word = b"has " + place
             self.came[word] = (self.folder / PATHS[b"image"]).read_bytes()[place_of(place):][: len(text_of(rest))]
+        if word == b"found":
+            name, _, rest = rest.partition(b" ")
+            word, path = b"found " + rest, self.folder / "out" / name.decode()
+            self.came[word] = path.read_bytes() if path.exists() else b"no file"
         self.wanted[word] = text_of(rest)
         if word == b"sums":
             self.came[word] = b"%d %d" % (len(self.came[b"prints"]), zlib.adler32(self.came[b"prints"]))
