@@ -57,7 +57,7 @@ fn new_output(rt: &impl AllocGlobal, first: First, hands_on: bool) -> Noted {
     }
 }
 
-/// The status of a job over a fresh shop with this script, and what it told.
+/// The status of a job over a fresh shop with this script, and what it reported.
 fn ran(
     rt: &(impl AllocGlobal + Abort),
     words: &[&str],
@@ -82,7 +82,7 @@ fn ran(
     (status, err)
 }
 
-/// The words of a job, its script, the status, what it prints and what it tells.
+/// The words of a job, its script, the status, what it prints and what it reports.
 type Row = (
     &'static [&'static str],
     &'static [u8],
