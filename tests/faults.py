@@ -13,8 +13,8 @@ A FAULT is one of these; files are told by their names:
 - `gone N`, `cut N`: before the Nth look at the name of *.d64 the file goes to *.d64-elsewhere, or half of its bytes go; `unseen N`: that
   look finds nothing (ENOENT)
 
-The file COUNTS gets a word for each call that syncs or that reads *.d64: `sync`, `folder-sync`, `log-sync`, `read`. The status is the
-program's."""
+The file COUNTS gets a word for each call that syncs, or reads or writes *.d64: `sync`, `folder-sync`, `log-sync`, `read`, `write`. The
+status is the program's."""
 
 import ctypes
 import errno
@@ -110,6 +110,8 @@ class Faults:
         return errno.EINTR if "input-in" in self.at else errno.ETIMEDOUT if "input-fails" in self.at and at_end else None
 
     def write(self, number, call, given, room):
+        if room == "disk-takes":
+            self.done.append("write")
         if room == "output-takes" and "output-interrupted" in self.at and self.is_due("first-output"):
             return errno.EINTR
         if given[2] <= self.at.get(room, ENDLESS):

@@ -25,7 +25,7 @@ TABLES = Path(__file__).resolve().parent / "rows"
 # Whether the output and standard error are terminals.
 RUNS = {b"$": (False, False), b"watched": (False, False), b"full": (False, False), b"person": (True, True), b"waiting": (False, True)}
 NOTHING = {b"prints": b"", b"tells": b"", b"ends": b"0", b"makes": b"0", b"logged": b"no log", b"written": b"as it was", b"others": b""}
-LEFT = {*NOTHING, b"found", b"size", b"leaves", b"has", b"sums", b"syncs", b"folder-syncs", b"reads-behind"} - {b"others"}
+LEFT = {*NOTHING, b"found", b"size", b"leaves", b"has", b"sums", b"writes", b"syncs", b"folder-syncs", b"reads-behind"} - {b"others"}
 PATHS = {b"image": "a.d64", b"script": "s.txt", b"log": "a.d64-log", b"input": "../input"}
 SHOWN = 300  # bytes of an output that differs
 DROP_OF_BOUNDS, RIGHT_TO_ANY_FILE = 24, 1  # prctl(2), capabilities(7)

@@ -52,7 +52,7 @@ def counted(path):
     """How many calls there were, of those that were watched."""
     done = path.read_text(encoding="ascii").split() if path.exists() else []
     behind = done[: done.index("read")] if "read" in done else []
-    counts = {b"syncs": done.count("sync"), b"folder-syncs": done.count("folder-sync"), b"reads-behind": behind.count("sync")}
+    counts = {b"writes": done.count("write"), b"syncs": done.count("sync"), b"folder-syncs": done.count("folder-sync"), b"reads-behind": behind.count("sync")}
     return {name: b"%d" % count for name, count in counts.items()}
 
 
