@@ -204,7 +204,7 @@ fn outputs_are_called_once_a_reply(rt: HostRuntime) {
 #[test]
 fn a_file_that_fails_leaves_the_replies(rt: HostRuntime) {
     let image = formatted(&rt);
-    let mut short = [0_u8; 86_600];
+    let mut short = vec![in rt.alloc(); 0; 86_600].expect(&rt, "there is memory");
     let mut out = new_output(&rt, First::TakesAll, true);
     let mut err = Vec::new(rt.alloc());
     let job = ledger_cli::Job::Play {
