@@ -12,6 +12,6 @@ mod whole_file;
 pub use disk::{Disk, IMAGE_BYTES};
 pub use disk_file::{DiskFile, Lock};
 pub use known::{Known, KnownFile};
-pub use noting::{NotedLines, NotedReplies};
+pub use noting::{NotedLines, NotedReplies, RecordedReply};
 pub use runs::play_in_file;
 pub use whole_file::WholeFile;
