@@ -4,7 +4,7 @@
     tests/faults.py COUNTS FAULT .. -- PROGRAM WORD ..
 
 A FAULT is one of these; files are told by their names:
-- `sync N`, `folder-sync N`, `log-sync N`: the Nth call that syncs *.d64, a folder or *.d64-log fails (EIO)
+- `sync N`, `folder-sync N`, `log-sync N`: the Nth call that syncs *.d64, its folder or *.d64-log fails (EIO)
 - `disk-takes N`, `output-takes N`: *.d64 or standard output takes so many bytes, and is full then (ENOSPC)
 - `output-interrupted`: the first call to the output is interrupted (EINTR)
 - `input-fails`: standard input fails behind its last byte (ETIMEDOUT); `input-in N`: it comes N bytes at a time, behind an interrupted
@@ -47,6 +47,11 @@ def watched():
     return listener
 
 
+def has_image(path):
+    """Whether it's a folder with an image."""
+    return os.path.isdir(path) and any(it.endswith(".d64") for it in os.listdir(path))
+
+
 class Faults:
     """What fails, and what was done."""
 
@@ -73,7 +78,7 @@ class Faults:
     def decide(self, number, call, given):
         """The error of a call, or what it returns, as a number that isn't positive; None where it goes on."""
         path = self.path_of(number, call, given)
-        kind = "image" if path.endswith(".d64") else "log" if ".d64-log" in path else "folder" if os.path.isdir(path) else ""
+        kind = "image" if path.endswith(".d64") else "log" if ".d64-log" in path else "folder" if has_image(path) else ""
         if call in (FSYNC, FDATASYNC) and kind:
             self.done.append(SYNCS[kind])
             return errno.EIO if self.is_due(SYNCS[kind]) else None
