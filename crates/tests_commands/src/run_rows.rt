@@ -60,7 +60,7 @@ fn new_output(rt: &impl AllocGlobal, first: First, hands_on: bool) -> Noted {
 /// The status of a job over a fresh shop with this script, and what it reported.
 fn ran(
     rt: &(impl AllocGlobal + Abort),
-    words: &[&str],
+    words: &'static [&'static str],
     script: &[u8],
     out: &mut Noted,
 ) -> (u8, Vec<u8>) {
@@ -154,7 +154,7 @@ fn jobs_are_run(rt: HostRuntime) {
 }
 
 /// Jobs that hand on what they print.
-static PRINTING: [&[&str]; 10] = [
+static PRINTING: [&'static [&'static str]; 10] = [
     &["ledger", "check", "a"],
     &["ledger", "show", "a"],
     &["ledger", "list", "a"],
@@ -169,7 +169,7 @@ static PRINTING: [&[&str]; 10] = [
 
 #[test]
 fn outputs_that_hand_nothing_on_are_told(rt: HostRuntime) {
-    for words in &PRINTING {
+    for &words in &PRINTING {
         let mut out = new_output(&rt, First::TakesAll, false);
         let (status, told) = ran(&rt, words, b"1,1,S,1,5\n", &mut out);
         same_at(&rt, status, 3, words);
