@@ -23,9 +23,9 @@ from run_left import fed, left_by
 
 TABLES = Path(__file__).resolve().parent / "rows"
 # Whether the output and standard error are terminals.
-RUNS = {b"$": (False, False), b"full": (False, False), b"person": (True, True), b"waiting": (False, True)}
+RUNS = {b"$": (False, False), b"watched": (False, False), b"full": (False, False), b"person": (True, True), b"waiting": (False, True)}
 NOTHING = {b"prints": b"", b"tells": b"", b"ends": b"0", b"makes": b"0", b"logged": b"no log", b"written": b"as it was", b"others": b""}
-LEFT = {*NOTHING, b"size", b"leaves", b"has", b"sums"} - {b"others"}
+LEFT = {*NOTHING, b"found", b"size", b"leaves", b"has", b"sums", b"writes", b"syncs", b"folder-syncs", b"reads-behind"} - {b"others"}
 PATHS = {b"image": "a.d64", b"script": "s.txt", b"log": "a.d64-log", b"input": "../input"}
 SHOWN = 300  # bytes of an output that differs
 DROP_OF_BOUNDS, RIGHT_TO_ANY_FILE = 24, 1  # prctl(2), capabilities(7)
@@ -61,7 +61,7 @@ class Part:
 
     def __init__(self, program, hurts, shop):
         self.program, self.hurts, self.shop, self.aside = program, hurts, shop, b""
-        self.wanted, self.passed, self.failed, self.lock = None, 0, [], None
+        self.wanted, self.passed, self.failed, self.lock, self.faults = None, 0, [], None, []
 
     def put(self, kind, what, text=b""):
         """Puts a text there, or another kind of file."""
@@ -111,6 +111,8 @@ class Part:
             self.put(b"", b"image", held[:at] + text + held[at + len(text):])
         elif word == b"resize":
             os.truncate(path, int(rest))
+        elif word == b"fails":
+            self.faults.append(rest)
         elif word == b"others":
             self.lock = path.open()
             fcntl.flock(self.lock, {b"alone": fcntl.LOCK_EX, b"reading": fcntl.LOCK_SH}[rest])
@@ -123,6 +125,10 @@ class Part:
             place, _, rest = rest.partition(b" ")
             word = b"has " + place
             self.came[word] = (self.folder / PATHS[b"image"]).read_bytes()[place_of(place):][: len(text_of(rest))]
+        if word == b"found":
+            name, _, rest = rest.partition(b" ")
+            word, path = b"found " + rest, self.folder / "out" / name.decode()
+            self.came[word] = path.read_bytes() if path.exists() else b"no file"
         self.wanted[word] = text_of(rest)
         if word == b"sums":
             self.came[word] = b"%d %d" % (len(self.came[b"prints"]), zlib.adler32(self.came[b"prints"]))
@@ -155,8 +161,9 @@ class Part:
         words, prints, printed = rest.partition(b" => ")
         words, tells, told = words.partition(b" -> ")
         given, folder = self.folder / PATHS[b"input"], self.folder
-        self.came = left_by(self.program, words_of(words), folder, given, RUNS[word], word == b"full")
-        self.wanted = {**NOTHING}
+        faults = self.faults if self.faults or word == b"watched" else None
+        self.came = left_by(self.program, words_of(words), folder, given, RUNS[word], word == b"full", faults)
+        self.wanted, self.faults = {**NOTHING}, []
         if prints:
             self.wanted[b"prints"] = text_of(printed if printed.endswith(b"..") else printed + b"|")
         if tells:

@@ -2,11 +2,14 @@
 
 import os
 import subprocess
+import sys
 import threading
 import tty
 from contextlib import suppress
+from pathlib import Path
 
 SECONDS = int(os.environ.get("ROW_SECONDS", "60"))
+FAULTS = Path(__file__).resolve().parent / "faults.py"
 
 
 class Stream:
@@ -45,18 +48,31 @@ def seen_in(folder):
     return {str(it.relative_to(folder)): it.read_bytes() if it.is_file() else b"" for it in folder.rglob("*")}
 
 
-def left_by(program, words, folder, given, terminals, is_full):
-    """What a run leaves, by the words of a row. `terminals` has whether the output and standard error are; or the output is full."""
-    before = seen_in(folder)
+def counted(path):
+    """How many calls there were, of those that were watched."""
+    done = path.read_text(encoding="ascii").split() if path.exists() else []
+    behind = done[: done.index("read")] if "read" in done else []
+    counts = {b"writes": done.count("write"), b"syncs": done.count("sync"), b"folder-syncs": done.count("folder-sync"), b"reads-behind": behind.count("sync")}
+    return {name: b"%d" % count for name, count in counts.items()}
+
+
+def left_by(program, words, folder, given, terminals, is_full, faults=None):
+    """What a run leaves, by the words of a row. `terminals` has whether the output and standard error are; or the output is full. With
+    faults, also with none of them, its calls are watched."""
+    before, counts = seen_in(folder), folder.parent / "counts"
     out, err = (Stream(it) for it in terminals)
     with open("/dev/full", "wb") as full, open(given, "rb") as given:
         how = {"stdin": given, "stdout": full if is_full else out.theirs, "stderr": err.theirs, "cwd": folder}
+        if faults is not None:
+            words, program = [sys.executable, FAULTS, counts, *faults, "--", program, *words], sys.executable
         with subprocess.Popen(words, executable=program, **how) as started:
             try:
                 status = b"%d" % started.wait(SECONDS)
             except subprocess.TimeoutExpired:
                 started.kill()
                 status = b"no end"
+    if (folder / "a.d64-elsewhere").exists():
+        (folder / "a.d64-elsewhere").rename(folder / "a.d64")
     after = seen_in(folder)
     made = {it for it in after.keys() - before.keys() if it.startswith("out/")}
     changed = {it for it in {*before, *after} - made if before.get(it) != after.get(it)}
@@ -69,4 +85,5 @@ def left_by(program, words, folder, given, terminals, is_full):
         b"logged": b"" if "a.d64-log" in after else b"no log",
         b"written": b"" if "a.d64" in changed else b"as it was",
         b"others": ", ".join(sorted(changed - own)).encode(),
+        **counted(counts),
     }

@@ -1,11 +1,11 @@
 #!/bin/sh
 # Reads relative files that another program made (Debian's package cbmconvert), record by record: each record holds its own
-# number, in as many digits as it has bytes, and `benchmarks records` has to print them all in their order. The files: one
+# number, in as many digits as it has bytes, and `ledger records` has to print them all in their order. The files: one
 # block; exactly one block; records that lie in two blocks; record lengths 1, 2 and 254; two side sectors, and six; a last
 # record that is cut, which is none. Not part of the gate. Run it from anywhere.
 . "$(dirname "$0")/common.sh"
 
-program="$("$top/tools/program" benchmarks)"
+program="$("$top/tools/program")"
 
 # numbers LENGTH COUNT: so many lines, each its own number, the last digits of it in LENGTH places
 numbers() {
@@ -24,7 +24,7 @@ same() {
     { tr -d '\n' <wanted; head -c "$3" /dev/zero; } >"$file"
     cbmconvert -v0 -n -D4o disk.d64 "$file"
     cp disk.d64 before.d64
-    "$program" records disk.d64 RECORDS >got
+    "$program" records disk.d64 RECORDS | sed 's/^[0-9]*,"//; s/"$//' >got
     cmp disk.d64 before.d64
     cmp got wanted || { echo "$2 records of $1 bytes are read otherwise"; exit 1; }
     echo "$2 records of $1 bytes: each is read as it was written"

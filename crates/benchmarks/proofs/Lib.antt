@@ -1,4 +1,3 @@
 pub mod Asked
-pub mod Printed
 pub mod Tallies
 pub mod Walks

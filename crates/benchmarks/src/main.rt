@@ -1,13 +1,11 @@
 //! Does one work so many times over, so that it can be timed: `benchmarks WORD ROUNDS IMAGE`. Each word prints one
-//! number, from which no round can be left out. `benchmarks records IMAGE NAME` times nothing: it prints the records of a
-//! relative file. If there is no word, each benchmark is run for a few rounds.
+//! number, from which no round can be left out. If there is no word, each benchmark is run for a few rounds.
 #![tactic(auto)]
 
 mod checks;
 mod disks;
 mod drives;
 mod found;
-mod printing;
 mod records;
 mod requests;
 mod sectors;
@@ -17,8 +15,6 @@ use d64_image::MemDisk;
 use disks::{blank, zeroed};
 use drive_channels::Drive;
 use found::{Found, or_say};
-use printing::put_file;
-use std::io::{BufWriter, Write};
 use std::process::ExitCode;
 use std::{env, fs, io};
 
@@ -29,9 +25,6 @@ const ROUNDS: u64 = 1000;
 const WORDS: [&str; 8] = [
     "sectors", "check", "growth", "reads", "writes", "drive", "requests", "openings",
 ];
-
-/// How many bytes of output are gathered before they are written.
-const OUTPUT_ROOM: usize = 65536;
 
 /// Rounds of a benchmark and the number that they give. Err is a text that says what failed.
 type Done = Found<u64>;
@@ -178,25 +171,6 @@ fn timed(rt: &HostRuntime, word: &str, rounds: u64, path: Option<String>) -> Don
     }
 }
 
-/// The records of a relative file of the disk, each on a line of its own.
-fn put_lines(rt: &HostRuntime, disk: &mut MemDisk, name: &str) -> Found<()> {
-    let Ok(mut out) = BufWriter::with_capacity(rt.alloc(), OUTPUT_ROOM, io::writer(rt)) else {
-        return Err("no memory");
-    };
-    match put_file(disk, name.as_bytes(), &mut out) {
-        Ok(()) => or_say(out.flush(), "the output failed"),
-        Err(what) => Err(what),
-    }
-}
-
-/// `records`: each record of a relative file of the image on a line of its own.
-fn print_records(rt: &HostRuntime, path: Option<String>, name: Option<String>) -> Found<()> {
-    match name {
-        Some(name) => put_lines(rt, &mut asked_disk(rt, path)?, name.as_str()),
-        None => Err("records asks for an image and a name"),
-    }
-}
-
 /// Reports what failed, and returns the exit status for it.
 fn refuse(rt: &HostRuntime, what: &str) -> io::Result<ExitCode> {
     eprintln!(rt; "benchmarks: {what}")?;
@@ -243,12 +217,6 @@ fn run_word(
     second: Option<String>,
     third: Option<String>,
 ) -> io::Result<ExitCode> {
-    if word == "records" {
-        return match print_records(rt, second, third) {
-            Ok(()) => Ok(ExitCode::SUCCESS),
-            Err(what) => refuse(rt, what),
-        };
-    }
     match asked_rounds(second) {
         Some(rounds) => tell(rt, timed(rt, word, rounds, third)),
         None => refuse_rounds(rt),

@@ -4,11 +4,10 @@ use Rattle.std.proofs.lemmas.List.{map-append}
 use Rattle.request_cards.specs.declared.reply.Reply.{Reply}
 use Rattle.host_session.specs.events.Instants.{Instant}
 use Rattle.host_session.specs.events.Telling.{BreaksOff, TellsOne}
-use Rattle.test_devices.specs.Recordings.{held_in}
 use Rattle.line_server.specs.Answering.{answered}
 use Rattle.line_server.specs.Giving.{AsksOne}
 use Rattle.line_server.proofs.Turns.{told_once, untold}
-use Rattle.test_files.specs.Noted.{asked_for, noted_lines, noted_output, noted_replies, replies_noted}
+use Rattle.test_files.specs.Noted.{asked_for, held_in, noted_lines, noted_output, noted_replies, replies_noted}
 use Rattle.test_files.specs.declared.noting.NotedLines.{NotedLines}
 use Rattle.test_files.specs.declared.noting.NotedReplies.{NotedReplies}
 

@@ -5,3 +5,4 @@ pub mod WholeFiles
 pub mod Shops
 pub mod WholeShops
 pub mod Noted
+pub mod Known

@@ -6,11 +6,12 @@ use Rattle.d64_image.specs.Images.{Image}
 use Rattle.d64_image.specs.Memory.{sectors_in}
 use Rattle.request_cards.specs.declared.reply.Reply.{Reply}
 use Rattle.host_session.specs.events.Telling.{Output}
-use Rattle.test_devices.specs.Recordings.{held_in, turn_of}
+use Rattle.host_session.specs.events.Instants.{Instant}
 use Rattle.line_server.specs.Answering.{Answering}
 use Rattle.line_server.specs.Giving.{Input}
 use Rattle.test_files.specs.declared.noting.NotedLines.{NotedLines}
 use Rattle.test_files.specs.declared.noting.NotedReplies.{NotedReplies}
+use Rattle.test_files.specs.declared.noting.RecordedReply.{RecordedReply}
 
 -- what the disk held when each line was asked for
 abbrev pub asked_for : NotedLines → List Image
@@ -24,6 +25,14 @@ noted_lines = record {
   has_failed = λ l. l.failed;
   none = λ l. sym (append-nil (asked_for l));
 }
+
+-- a reply that was kept, with what the disk held then
+abbrev pub turn_of : RecordedReply → Reply × Image
+turn_of t = (t.reply, sectors_in t.bytes.items)
+
+-- each reply with what the disk held
+abbrev pub held_in : List (Reply × Instant) → List (Reply × Image)
+held_in turns = map (λ x. (x.0, x.1.image)) turns
 
 -- the replies that were passed up to now, each with what the disk held
 abbrev pub replies_noted : NotedReplies → List (Reply × Image)

@@ -1,15 +1,17 @@
 //! A file in memory. It is known what it holds, what of that is on its disk, and all that was there before. Also a run
-//! of the program over it, whose contract says what it holds if the program dies at any moment.
+//! of the program over it, whose contract says what it holds if the program dies at any moment. And a host of one file.
 #![tactic(auto)]
 
 mod disk;
 mod disk_file;
+mod known;
 mod noting;
 mod runs;
 mod whole_file;
 
 pub use disk::{Disk, IMAGE_BYTES};
 pub use disk_file::{DiskFile, Lock};
-pub use noting::{NotedLines, NotedReplies};
+pub use known::{Known, KnownFile};
+pub use noting::{NotedLines, NotedReplies, RecordedReply};
 pub use runs::play_in_file;
 pub use whole_file::WholeFile;

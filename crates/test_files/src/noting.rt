@@ -9,7 +9,15 @@ use host_session::{Next, NotTaken};
 use line_server::{Answers, LineSource};
 use request_cards::Reply;
 use std::alloc::Global;
-use test_devices::RecordedReply;
+
+/// A reply, and the bytes of the image at that moment.
+#[derive(Drop)]
+pub struct RecordedReply {
+    /// The reply.
+    pub reply: Reply,
+    /// The 174,848 bytes of the disk that its message left.
+    pub bytes: Vec<u8>,
+}
 
 /// Lines in memory, of which only so many are given. It notes what the disk held when each was asked for. If it gives no
 /// more, or there is no memory for a copy, it has failed.

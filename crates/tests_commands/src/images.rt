@@ -1,22 +1,32 @@
 //! The images of the rows: those that `format` makes.
-use crate::comparing::same;
-use crate::files::new_tape;
-use shop_commands::format_image;
+use ledger_cli::{Job, run};
+use std::io::Cursor;
 use std::process::Abort;
 
-/// Where some sectors begin in an image.
-pub(crate) const S17_0: usize = 86016;
+/// The image that `format` makes for two tills.
+pub(crate) fn formatted(rt: &(impl AllocGlobal + Abort)) -> Vec<u8> {
+    let job = Job::Format {
+        image: "a.d64",
+        tills: 2,
+    };
+    let mut file = Cursor::new(Vec::new(rt.alloc()));
+    let (mut out, mut err) = (Vec::new(rt.alloc()), Vec::new(rt.alloc()));
+    let status = run(
+        rt.alloc(),
+        &job,
+        b"",
+        b"",
+        Some(&mut file),
+        &mut out,
+        &mut err,
+    );
+    assert!(rt; status == 0, "formatted");
+    file.into_inner()
+}
 
-pub(crate) const S18_1: usize = 91648;
-
-/// The image that `format` makes for so many tills; for two if the number isn't one of 1 to 64.
-pub(crate) fn formatted(rt: &(impl AllocGlobal + Abort), tills: u8) -> Vec<u8> {
-    let tills = if tills >= 1 && tills <= 64 { tills } else { 2 };
-    let mut file = new_tape(rt, b"", usize::MAX);
-    let mut out = Vec::new(rt.alloc());
-    let ended = format_image(rt.alloc(), tills, &mut file, &mut out);
-    same(rt, (ended, out.as_slice()), (Ok(()), b"FORMATTED\n"));
-    file.into_bytes()
+/// So many bytes of this value.
+pub(crate) fn filled(rt: &(impl AllocGlobal + Abort), byte: u8, size: usize) -> Vec<u8> {
+    vec![in rt.alloc(); byte; size].expect(rt, "there is memory")
 }
 
 /// Writes the bytes over the image from there on.

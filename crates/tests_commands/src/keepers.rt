@@ -1,9 +1,8 @@
-//! Rows of what keepers do with an image: bytes as text, records as lines, names, pictures, and what can be rescued.
+//! Rows of what keepers do with an image: bytes as text, records as lines, names, and what can be rescued.
 
 mod cut_rows;
 mod disks;
 mod line_rows;
 mod listed_rows;
-mod picture_rows;
 mod rescue;
 mod text_rows;

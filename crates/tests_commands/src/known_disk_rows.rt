@@ -16,7 +16,7 @@ pub(crate) static SHOPS: [&[u8]; 3] = [
 
 /// The image of a fresh shop.
 pub(crate) fn fresh(rt: &(impl AllocGlobal + Abort)) -> Vec<u8> {
-    formatted(rt, 2)
+    formatted(rt)
 }
 
 /// Which shop an image has.

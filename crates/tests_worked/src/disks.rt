@@ -140,15 +140,6 @@ pub(crate) type Change = (u8, u8, u8, usize, &'static [u8]);
 /// As many as a sector has.
 static ZEROS: [u8; 256] = [0; 256];
 
-/// An open intent of version 1, as it stands for till 1.
-pub(crate) const INTENT: Change = (
-    17,
-    2,
-    2,
-    127,
-    b"I,000000001,S,00001,000000005,0,000000005\r",
-);
-
 /// Puts these bytes onto a sector, from this one of its own on.
 pub(crate) fn put(disk: &mut MemDisk, (track, number, from): (u8, u8, u8), bytes: &[u8]) {
     let mut all = sector(disk, track, number);

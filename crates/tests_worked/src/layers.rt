@@ -1,8 +1,6 @@
 //! Rows of the disk's layers: devices, what lies on a disk and where, checks and repairs; and of the drive.
 
-mod blank_rows;
 mod chain_rows;
-mod check_rows;
 mod device_rows;
 pub(crate) mod disks;
 mod drive_rows;
@@ -11,5 +9,4 @@ mod far_rows;
 mod long_rows;
 mod map_rows;
 mod mirror_rows;
-mod repair_rows;
 mod table_rows;

@@ -1,12 +1,24 @@
 //! A till and a session: messages that are lost, repeated and late.
 use crate::comparing::{holds, same};
 use crate::disks::{clean, fresh};
-use crate::sessions::{open, says};
 use arrayvec::ArrayVec;
 use d64_image::MemDisk;
 use host_session::Session;
 use request_cards::{Answer, Kind, Reply, Till, Wish};
 use std::process::Abort;
+
+/// The session on a disk that is opened.
+fn open(rt: &impl Abort, disk: MemDisk) -> Session<MemDisk> {
+    match Session::open(disk) {
+        Ok(session) => session,
+        Err((fault, _)) => panic!(rt; "the disk isn't opened: {fault:?}"),
+    }
+}
+
+/// Whether a reply has this text.
+fn says(reply: Reply, text: &[u8]) -> bool {
+    reply.print().as_slice() == text
+}
 
 /// Opens a wish of item 42.
 fn wish(rt: &impl Abort, till: &mut Till, kind: Kind, quantity: u32) -> bool {

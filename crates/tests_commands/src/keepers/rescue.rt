@@ -2,12 +2,8 @@
 //! other sizes.
 
 mod column_rows;
-mod deleted_rows;
-mod extract_disks;
-mod extract_rows;
 mod piece_rows;
 mod quoted_rows;
 mod reaching_rows;
-mod scanned_rows;
 mod size_rows;
 mod text_rows;

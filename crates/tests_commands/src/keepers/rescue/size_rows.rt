@@ -1,7 +1,6 @@
 //! Images of other sizes: which are taken, their first 35 tracks, and the errors that their last bytes report.
 use crate::comparing::same_at;
-use crate::files::filled;
-use crate::images::put;
+use crate::images::{filled, put};
 use d64_image::Place;
 use disk_rescue::{error_at, first_tracks};
 use std::process::Abort;
