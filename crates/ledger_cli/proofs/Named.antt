@@ -11,7 +11,7 @@ use Rattle.ledger_cli.specs.Jobs.{AreRefusedColumns, IsJob, IsNoJob, IsRefusedNa
 use Rattle.ledger_cli.specs.Forms.{candidates_in}
 use Rattle.ledger_cli.specs.Positions.{HasNoColumns}
 use Rattle.ledger_jobs.specs.declared.jobs.Job.TheVariants as jobs
-use Rattle.ledger_jobs.specs.declared.jobs.Taking.TheVariants as takings
+use Rattle.ledger_jobs.specs.declared.jobs.Look.TheVariants as looks
 use Rattle.ledger_cli.specs.declared.faults.JobFault.TheVariants as faults
 use Rattle.ledger_cli.specs.Names.{HasNoName, IsMakingJob, IsNamedJob, IsNewDiskJob, IsPuttingJob, IsRecordsJob}
 use Rattle.ledger_cli.specs.Names.{IsRenamingJob, IsStoringJob}
@@ -61,10 +61,10 @@ pub records-met : (found : Option (Text × List Row)) (rows : List Row) (image :
     → found ≡ Some (codes "records", rows) → image.now ≡ value (codes "IMAGE") rows
     → IsRecordsJob rows image r → MatchResult r (IsJob found) (IsNoJob [] found) × IfOk r IsFit
 records-met found rows image r is by-image (inl (form, by-form, named)) =
-    named-met found rows (jobs.Take (takings.Records form (candidates_in rows)) image) r
-    (λ name at. record { rows = rows; is = is; holds = (by-image, at, (by-form, refl)) })
+    named-met found rows (λ name. jobs.Look (looks.Records form (candidates_in rows) name) image) r
+    (λ name at. record { rows = rows; is = is; holds = (by-image, tt, (at, by-form, refl)) })
     (λ name. tt)
-    (λ missing. inl (takings.Records form (candidates_in rows), record { rows = rows; is = is; holds = missing }))
+    (λ missing. inl (inl (record { rows = rows; is = is; holds = missing })))
     named
 records-met found rows image r is by-image (inr (fault, same, none)) =
     no-columns found rows r fault same (inl (record { rows = rows; is = is; holds = none })) none

@@ -18,7 +18,7 @@ use Rattle.ledger_cli.specs.Forms.{AreColumns, IsRecordForm, candidates_in, loss
 use Rattle.ledger_cli.specs.Positions.{HasNoColumns}
 use Rattle.keeper_commands.specs.declared.forms.RecordForm.{RecordForm}
 use Rattle.ledger_jobs.specs.declared.jobs.Columns.{Columns}
-use Rattle.ledger_jobs.specs.declared.jobs.Taking.TheVariants as takings
+use Rattle.ledger_jobs.specs.declared.jobs.Look.TheVariants as looks
 use Rattle.ledger_jobs.specs.declared.jobs.Job.TheVariants as jobs
 use Rattle.ledger_cli.specs.declared.faults.JobFault.TheVariants as faults
 
@@ -60,7 +60,7 @@ IsColumnFault rows result = (fault : JobFault) × (result ≡ Err fault) × HasN
 -- the job that takes records out of the file of that name; or there is no name, or no columns
 abbrev pub IsRecordsJob : List Row → Bor Text → Result Job JobFault → Type 0
 IsRecordsJob rows image result = ((form : RecordForm) × IsRecordForm rows form
-    × IsNamedJob rows (jobs.Take (takings.Records form (candidates_in rows)) image) result) ⊎ IsColumnFault rows result
+    × IsNamedJob rows (λ name. jobs.Look (looks.Records form (candidates_in rows) name) image) result) ⊎ IsColumnFault rows result
 
 -- the job that stores records in a file of that name; or there is no name, or no columns
 abbrev pub IsStoringJob : List Row → Bor Text → Result Job JobFault → Type 0

@@ -17,33 +17,17 @@ use Rattle.line_text.specs.Handed.{AppendsPart}
 use Rattle.command_faults.specs.declared.faults.CommandFault.{CommandFault}
 use Rattle.command_faults.specs.declared.faults.CommandFault.TheVariants as faults
 use Rattle.ledger_jobs.specs.Comparisons.{IsComparingRun}
-use Rattle.ledger_jobs.specs.Drawings.{IsDrawingRun}
 use Rattle.ledger_jobs.specs.Ends.{EndsAs, JobEnd, as_job, as_run, end_status, refusal_line}
-use Rattle.ledger_jobs.specs.Listings.{IsListingRun}
 use Rattle.ledger_jobs.specs.Jobs.{frees, shortened}
-use Rattle.ledger_jobs.specs.Losses.{IsTakingEnd}
 use Rattle.ledger_jobs.specs.Names.{name_bytes}
 use Rattle.ledger_jobs.specs.NewDisks.{IsNewImage}
 use Rattle.shop_commands.specs.Images.{AreFreshBytes}
-use Rattle.ledger_jobs.specs.Runs.{IsPlayRun, IsReadingEnd}
-use Rattle.disk_pictures.specs.Views.{IsViewRun}
+use Rattle.ledger_jobs.specs.Looks.{IsLook}
+use Rattle.ledger_jobs.specs.Runs.{IsDryRun, IsPlayRun}
 use Rattle.ledger_jobs.specs.declared.jobs.Job.{Job}
 use Rattle.ledger_jobs.specs.declared.jobs.Job.TheVariants as jobs
 use Rattle.ledger_jobs.specs.declared.jobs.Effect.TheVariants.{Written}
-use Rattle.ledger_jobs.specs.declared.jobs.Findings.{Findings}
-use Rattle.ledger_jobs.specs.declared.jobs.Findings.TheVariants as findings
-use Rattle.ledger_jobs.specs.declared.jobs.Reading.{Reading}
-use Rattle.ledger_jobs.specs.declared.jobs.Reading.TheVariants as readings
 use Rattle.ledger_jobs.specs.declared.refusals.Refusal.TheVariants as refusals
-
--- what was asked of these bytes ended so
-abbrev pub IsRead : {W : Type 0} → (W → Option (List ℕ)) → Reading → List ℕ → W → W → JobEnd → Type 0
-IsRead contents what bytes old new end = EndsAs as_job end (IsReadingEnd contents what bytes old new)
-
--- a check of these bytes, of the first fault or of all, ended so
-abbrev pub IsChecked : {W : Type 0} → (W → Option (List ℕ)) → Findings → List ℕ → W → W → JobEnd → Type 0
-IsChecked contents findings.First image old new end = IsRead contents readings.Check image old new end
-IsChecked contents findings.All image old new end = EndsAs as_job end (IsListingRun contents image old new)
 
 -- A job that writes an image wasn't begun: the file and the output are as they were.
 pub record IsUnbegun {F W : Type 0} (image : List ℕ) (file after : Option F) (old new : W) (end : JobEnd) : Type 0 where
@@ -105,14 +89,8 @@ module _ {F : Type 0} (position : F → Option ℕ) (bytes contents : F → Opti
       IsFormatted told tills file after old new end
   IsJobRun told (jobs.New path name id) image script file after old new end =
       IsNewMade told (name_bytes name) id file after old new end
-  IsJobRun told (jobs.List form path) image script file after old new end =
-      (after ≡ file) × IsRead told (readings.List form) image old new end
-  IsJobRun told (jobs.Check what path) image script file after old new end =
-      (after ≡ file) × IsChecked told what image old new end
-  IsJobRun told (jobs.Show path) image script file after old new end =
-      (after ≡ file) × IsRead told readings.Show image old new end
-  IsJobRun told (jobs.Dry path) image script file after old new end =
-      (after ≡ file) × IsRead told readings.Dry script old new end
+  IsJobRun told (jobs.Look what path) image script file after old new end = (after ≡ file) × IsLook told what image old new end
+  IsJobRun told (jobs.Dry path) image script file after old new end = (after ≡ file) × IsDryRun told script old new end
   IsJobRun told (jobs.Play path text) image script file after old new end =
       IsPlayed told image script file after old new end
   IsJobRun told (jobs.PlayLogged path text) image script file after old new end =
@@ -138,16 +116,10 @@ module _ {F : Type 0} (position : F → Option ℕ) (bytes contents : F → Opti
   IsJobRun told (jobs.Store path text c loss name) image script file after old new end = IsChangeJob position bytes contents told Written
       (IsStored image (name_bytes name) script (shortened loss))
       (IsStoreRefusal image (name_bytes name) script (shortened loss)) file after old new end
-  IsJobRun told (jobs.Take what path name) image script file after old new end =
-      (after ≡ file) × IsTakingEnd told what image (name_bytes name) old new end
-  IsJobRun told (jobs.Draw what path) image script file after old new end =
-      (after ≡ file) × EndsAs as_job end (IsDrawingRun told what image old new)
-  IsJobRun told (jobs.View what path) image script file after old new end =
-      (after ≡ file) × EndsAs as_run end (IsViewRun told what image old new)
   IsJobRun told (jobs.Trim path) image script file after old new end =
       (after ≡ file) × (new ≡ old) × (end ≡ Err (refusals.Fault faults.File))
   IsJobRun told (jobs.Compare before later) image script file after old new end =
-      (after ≡ file) × EndsAs as_job end (IsComparingRun told image script old new)
+      (after ≡ file) × IsComparingRun told image script old new end
   IsJobRun told (jobs.Several what paths) image script file after old new end =
       (after ≡ file) × (new ≡ old) × (end ≡ Err (refusals.Fault faults.File))
   IsJobRun told (jobs.Sheet paths) image script file after old new end =

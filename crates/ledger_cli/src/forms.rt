@@ -3,8 +3,9 @@ ghost use Rattle.std.specs.Prelude.{◌≡◌};
 ghost use Rattle.clap.specs.Words.{found_of, rows_of};
 ghost use Rattle.ledger_cli.specs.Forms.{record_form as of_set};
 ghost use Rattle.ledger_cli.specs.Forms.{effect_in, loss_in, repair_job, unowned_in};
-ghost use Rattle.ledger_cli.specs.Forms.{AreAskedColumns, IsAskedForm, byte_form_in, findings_in, name_form_in, set_in};
+ghost use Rattle.ledger_cli.specs.Forms.{AreAskedColumns, IsAskedForm, byte_form_in, name_form_in, set_in};
 ghost use Rattle.ledger_cli.specs.Forms.{candidates_in, choice_in};
+ghost use Rattle.ledger_cli.specs.Looks.{check_in};
 
 use crate::faults::JobFault;
 use crate::positions::columns_asked;
@@ -12,7 +13,7 @@ use crate::values::is_given;
 use clap::ArgMatches;
 use disk_reports::NameForm;
 use keeper_commands::{ByteForm, Candidates, Choice, RecordForm};
-use ledger_jobs::{Columns, Effect, Findings, Job, Loss, Unowned};
+use ledger_jobs::{Columns, Effect, Job, Look, Loss, Unowned};
 use line_text::CharacterSet;
 
 /// What is done if the disk has lost a part of a file.
@@ -147,13 +148,13 @@ pub(crate) fn choice<'a>(matches: &ArgMatches<'a>) -> Choice
 }
 
 /// Which faults of an image are printed.
-pub(crate) fn findings<'a>(matches: &ArgMatches<'a>) -> Findings
-    ensures { result ≡ findings_in (rows_of (found_of matches.now)) }
+pub(crate) fn checked<'a>(matches: &ArgMatches<'a>) -> Look
+    ensures { result ≡ check_in (rows_of (found_of matches.now)) }
 {
     if is_given(matches, "all") {
-        Findings::All
+        Look::Faults
     } else {
-        Findings::First
+        Look::Check
     }
 }
 

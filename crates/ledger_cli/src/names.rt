@@ -3,7 +3,7 @@ ghost use Rattle.std.specs.Prelude.{◌≡◌, ℕ, IfSome, IsNone, List, codes}
 ghost use Rattle.std.specs.Borrow.{Bor};
 ghost use Rattle.clap.specs.Words.{Text};
 ghost use Rattle.command_table.specs.Grammar.{value};
-ghost use Rattle.ledger_cli.specs.Forms.{loss_in};
+ghost use Rattle.ledger_cli.specs.Forms.{byte_form_in, candidates_in, loss_in};
 ghost use Rattle.clap.specs.Words.{found_of, rows_of};
 ghost use Rattle.line_text.specs.bytes.Texts.{AreBytes};
 ghost use Rattle.keeper_commands.specs.Makes.{IsNewName};
@@ -11,31 +11,58 @@ ghost use Rattle.ledger_jobs.specs.Names.{IsNameOf, name_bytes};
 ghost use Rattle.ledger_cli.specs.Names.{IsMakingJob, IsStoringJob, IsNamedJob, IsRecordsJob, IsRenamingJob, IsNewDiskJob, IsIdOf};
 ghost use Rattle.ledger_cli.specs.Names.{IsPuttingJob, type_named as named_type};
 ghost use Rattle.ledger_jobs.specs.declared.jobs.Job.TheVariants as jobs;
+ghost use Rattle.ledger_jobs.specs.declared.jobs.Look.TheVariants as looks;
 
 use crate::faults::JobFault;
-use crate::forms::{candidates, columns, loss, record_form};
+use crate::forms::{byte_form, candidates, columns, loss, record_form};
 use crate::numbers::length_of;
 use crate::values::value_of;
 use clap::ArgMatches;
 use file_changes::FileType;
-use ledger_jobs::{Columns, Job, Name, Taking};
+use keeper_commands::RecordForm;
+use ledger_jobs::{Columns, Job, Look, Name};
 use line_text::read_text;
 
-/// The job that takes this out of an image, of the file of a name.
-pub(crate) fn taking<'a>(
+/// The job that prints the bytes of the file of a name.
+pub(crate) fn taking_bytes<'a>(
     matches: &ArgMatches<'a>,
-    what: Taking,
     image: &'a str,
 ) -> Result<Job<'a>, JobFault>
-    ensures { IsNamedJob (rows_of (found_of matches.now)) (λ name. jobs.Take what image.entry name) result }
+    ensures { let rows = rows_of (found_of matches.now) in
+        IsNamedJob rows (λ name. jobs.Look (looks.Bytes (byte_form_in rows) (candidates_in rows) name) image.entry) result }
 {
-    match Name::read(value_of(matches, "NAME")) {
-        Some(name) => Ok(Job::Take { what, image, name }),
-        None => Err(JobFault::Name),
-    }
+    let Some(name) = Name::read(value_of(matches, "NAME")) else {
+        return Err(JobFault::Name);
+    };
+    let what = Look::Bytes {
+        form: byte_form(matches),
+        candidates: candidates(matches),
+        name,
+    };
+    Ok(Job::Look { what, image })
 }
 
-/// The job that takes records out of an image, of the file of a name.
+/// The job that prints the records of the file of a name in this form.
+fn records_in<'a>(
+    matches: &ArgMatches<'a>,
+    form: RecordForm,
+    image: &'a str,
+) -> Result<Job<'a>, JobFault>
+    ensures { let rows = rows_of (found_of matches.now) in
+        IsNamedJob rows (λ name. jobs.Look (looks.Records form (candidates_in rows) name) image.entry) result }
+{
+    let Some(name) = Name::read(value_of(matches, "NAME")) else {
+        return Err(JobFault::Name);
+    };
+    let what = Look::Records {
+        form,
+        candidates: candidates(matches),
+        name,
+    };
+    Ok(Job::Look { what, image })
+}
+
+/// The job that prints the records of the file of a name.
 pub(crate) fn taking_records<'a>(
     matches: &ArgMatches<'a>,
     image: &'a str,
@@ -43,7 +70,7 @@ pub(crate) fn taking_records<'a>(
     ensures { IsRecordsJob (rows_of (found_of matches.now)) image.entry result }
 {
     match record_form(matches) {
-        Ok(form) => taking(matches, Taking::Records(form, candidates(matches)), image),
+        Ok(form) => records_in(matches, form, image),
         Err(fault) => Err(fault),
     }
 }

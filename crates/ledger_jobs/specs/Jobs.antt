@@ -1,5 +1,5 @@
 -- What holds of each job. Our own.
-use Rattle.std.specs.Prelude.{◌≤◌, ⊤, ℕ, Bool, List, false, length, take, true}
+use Rattle.std.specs.Prelude.{◌≤◌, ⊤, Bool, false, length, true}
 use Rattle.keeper_commands.specs.Makes.{IsNewName}
 use Rattle.ledger_jobs.specs.Names.{name_bytes}
 use Rattle.ledger_jobs.specs.declared.jobs.Job.{Job}
@@ -8,8 +8,6 @@ use Rattle.damaged_files.specs.declared.sides.planning.Shortened.{Shortened}
 use Rattle.damaged_files.specs.declared.sides.planning.Shortened.TheVariants as cuts
 use Rattle.ledger_jobs.specs.declared.jobs.Loss.{Loss}
 use Rattle.ledger_jobs.specs.declared.jobs.Loss.TheVariants as losses
-use Rattle.ledger_jobs.specs.declared.jobs.Reading.{Reading}
-use Rattle.ledger_jobs.specs.declared.jobs.Reading.TheVariants as readings
 use Rattle.ledger_jobs.specs.declared.jobs.Unowned.{Unowned}
 use Rattle.ledger_jobs.specs.declared.jobs.Unowned.TheVariants.{Freed, Kept}
 use Rattle.rel_records.specs.File.{IsLength}
@@ -24,11 +22,6 @@ IsFit (jobs.Rename image from to) = IsNewName (name_bytes to)
 IsFit (jobs.Put image file kind name) = IsNewName (name_bytes name)
 IsFit (jobs.New image name id) = length (name_bytes name) ≤ 16
 IsFit _ = ⊤
-
--- what is read of a file: a script whole, and of an image one byte more than a disk has at most
-abbrev pub needed : Reading → List ℕ → List ℕ
-needed readings.Dry all = all
-needed _ all = take 174849 all
 
 -- a repair frees the sectors that are taken and no file's
 abbrev pub frees : Unowned → Bool

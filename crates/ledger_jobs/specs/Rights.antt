@@ -5,8 +5,6 @@ use Rattle.ledger_jobs.specs.declared.jobs.Effect.{Effect}
 use Rattle.ledger_jobs.specs.declared.jobs.Effect.TheVariants.{Printed, Written}
 use Rattle.ledger_jobs.specs.declared.jobs.Job.{Job}
 use Rattle.ledger_jobs.specs.declared.jobs.Job.TheVariants as jobs
-use Rattle.ledger_jobs.specs.declared.jobs.Reading.{Reading}
-use Rattle.ledger_jobs.specs.declared.jobs.Reading.TheVariants as readings
 use Rattle.shop_log.specs.life.LogRights.{MayForgetLog, MayKeepLog, MayReadLog}
 use Rattle.image_file.specs.paths.Rights.{Look, Make, May, MayRead, MayWrite, Read, Rights, Write}
 
@@ -23,9 +21,7 @@ abbrev pub first_file : Job → Option (List ℕ)
 first_file (jobs.Format image tills) = Some image.now
 first_file (jobs.FormatNew image tills) = Some image.now
 first_file (jobs.New image name id) = Some image.now
-first_file (jobs.List form image) = Some image.now
-first_file (jobs.Check findings image) = Some image.now
-first_file (jobs.Show image) = Some image.now
+first_file (jobs.Look what image) = Some image.now
 first_file (jobs.Play image script) = Some image.now
 first_file (jobs.PlayLogged image script) = Some image.now
 first_file (jobs.Dry script) = Some script.now
@@ -34,14 +30,11 @@ first_file (jobs.Copy image copy) = Some image.now
 first_file (jobs.Repair image loss unowned effect) = Some image.now
 first_file (jobs.RepairSides image loss unowned effect) = Some image.now
 first_file (jobs.Extract choice image folder) = Some image.now
-first_file (jobs.Take what image name) = Some image.now
 first_file (jobs.Make image size loss name) = Some image.now
 first_file (jobs.Rename image from to) = Some image.now
 first_file (jobs.Delete image name) = Some image.now
 first_file (jobs.Put image file kind name) = Some image.now
 first_file (jobs.Store image records columns loss name) = Some image.now
-first_file (jobs.Draw what image) = Some image.now
-first_file (jobs.View what image) = Some image.now
 first_file (jobs.Trim image) = Some image.now
 first_file (jobs.Compare before after) = Some before.now
 first_file _ = None
@@ -50,15 +43,6 @@ module _ {H : Type 0} (rights : Rights H) (host : H) where
   -- a file may be read, with the log beside it
   abbrev pub MayReadFile : List ℕ → Type 0
   MayReadFile path = MayRead rights host path × MayReadLog rights host path
-
-  -- a file may be read for this: an image with its log, a script alone
-  abbrev pub MayReadFileFor : Reading → List ℕ → Type 0
-  MayReadFileFor readings.Dry path = May rights host Read path
-  MayReadFileFor _ path = MayReadFile path
-
-  -- what may be read for this is a file, unless it is standard input
-  abbrev pub MayReadFor : Reading → List ℕ → Type 0
-  MayReadFor what path = path ≢ standard_input → MayReadFileFor what path
 
   -- an image may be read
   abbrev pub MayReadImage : List ℕ → Type 0
@@ -99,9 +83,7 @@ module _ {H : Type 0} (rights : Rights H) (host : H) where
   MayDo (jobs.Format image tills) = MayMakeImage image.now × MayOverwrite image.now
   MayDo (jobs.FormatNew image tills) = MayMakeImage image.now
   MayDo (jobs.New image name id) = MayMakeImage image.now
-  MayDo (jobs.List form image) = MayReadImage image.now
-  MayDo (jobs.Check findings image) = MayReadImage image.now
-  MayDo (jobs.Show image) = MayReadImage image.now
+  MayDo (jobs.Look what image) = MayReadImage image.now
   MayDo (jobs.Play image script) = MayChangeImage image.now × MayReadText script.now
   MayDo (jobs.PlayLogged image script) = MayChangeImage image.now × MayReadText script.now
   MayDo (jobs.Dry script) = MayReadText script.now
@@ -110,14 +92,11 @@ module _ {H : Type 0} (rights : Rights H) (host : H) where
   MayDo (jobs.Repair image loss unowned effect) = MayRepair effect image.now
   MayDo (jobs.RepairSides image loss unowned effect) = MayRepair effect image.now
   MayDo (jobs.Extract choice image folder) = MayReadImage image.now × MayFill folder.now
-  MayDo (jobs.Take what image name) = MayReadImage image.now
   MayDo (jobs.Make image size loss name) = MayChangeImage image.now
   MayDo (jobs.Rename image from to) = MayChangeImage image.now
   MayDo (jobs.Delete image name) = MayChangeImage image.now
   MayDo (jobs.Put image file kind name) = MayChangeImage image.now × MayReadText file.now
   MayDo (jobs.Store image records columns loss name) = MayChangeImage image.now × MayReadText records.now
-  MayDo (jobs.Draw what image) = MayReadImage image.now
-  MayDo (jobs.View what image) = MayReadImage image.now
   -- `do_trim` does that job
   MayDo (jobs.Trim image) = ⊤
   MayDo (jobs.Sheet images) = All (λ image. MayReadImage image.now) images.items

@@ -16,18 +16,14 @@ pub(crate) fn first_file<'a>(job: &Job<'a>) -> Option<&'a str>
         Job::Format { image, .. } | Job::FormatNew { image, .. } | Job::New { image, .. } => Some(
             image,
         ),
-        Job::List { image, .. } | Job::Check { image, .. } | Job::Show { image } => Some(image),
+        Job::Look { image, .. } | Job::RepairSides { image, .. } => Some(image),
         Job::Play { image, .. } | Job::PlayLogged { image, .. } | Job::Serve { image, .. } => Some(
             image,
         ),
-        Job::Repair { image, .. } | Job::Take { image, .. } | Job::Draw { image, .. } => Some(
-            image,
-        ),
-        Job::RepairSides { image, .. } => Some(image),
         Job::Extract { image, .. } | Job::Rename { image, .. } | Job::Delete { image, .. } => Some(
             image,
         ),
-        Job::View { image, .. } | Job::Trim { image } | Job::Put { image, .. } => Some(image),
+        Job::Repair { image, .. } | Job::Trim { image } | Job::Put { image, .. } => Some(image),
         Job::Make { image, .. } | Job::Store { image, .. } | Job::Copy { image, .. } => Some(image),
         Job::Several { .. } | Job::Sheet { .. } | Job::Describe { .. } => None,
         Job::Compare { before, .. } => Some(before),

@@ -3,32 +3,51 @@ ghost use Rattle.std.specs.Prelude.{◌≡◌};
 ghost use Rattle.ledger_jobs.specs.Jobs.{frees, shortened as shortened_of};
 
 use crate::names::Name;
+use d64_image::Place;
 use damaged_files::Shortened;
-use disk_pictures::View;
 use disk_reports::NameForm;
 use file_changes::FileType;
 use keeper_commands::{ByteForm, Candidates, Choice, ColumnForm, RecordForm};
 
-/// What is asked of the bytes of one file, which isn't written.
-#[derive(Clone, Copy, Debug, PartialEq, Eq)]
-pub enum Reading {
-    /// The directory of an image, with its names in this form.
+/// What is printed of one image, which isn't written.
+#[derive(Drop)]
+pub enum Look {
+    /// Its directory, with the names in this form.
     List(NameForm),
-    /// Whether the layout of an image is clean, and if not, what is wrong with it.
+    /// Whether its layout is clean, and otherwise the first fault that a check finds.
     Check,
-    /// What an image holds of a shop: how far new cards may go, the cards, and the last two requests of each till.
+    /// All faults that hold, that one first, each with the files that it concerns.
+    Faults,
+    /// What it holds of a shop: how far new cards may go, the cards, and the last two requests of each till.
     Show,
-    /// The replies to the messages of a script, from no cards on and without a disk.
-    Dry,
-}
-
-/// What is taken out of an image, of the first file of a name.
-#[derive(Clone, Copy, Debug, PartialEq, Eq)]
-pub enum Taking {
-    /// The records of a relative file among the candidates, a line each, in this form.
-    Records(RecordForm, Candidates),
-    /// The bytes of a file of any type among them, in this form.
-    Bytes(ByteForm, Candidates),
+    /// Which sector is whose, and what a check reports: a line for each track, for a terminal.
+    Map,
+    /// The same as an HTML page with a drawing of the disk.
+    Picture,
+    /// The same as a poster: an SVG file of its own with the same drawing, title, legend and directory.
+    Poster,
+    /// How many sectors of each track its map calls free. Nothing is checked.
+    Free,
+    /// A sector, whose it is, and where its link leads. Nothing is checked.
+    Sector(Place),
+    /// The records of a relative file, a line each.
+    Records {
+        /// How they are printed.
+        form: RecordForm,
+        /// Among which files it is looked for.
+        candidates: Candidates,
+        /// The name of the file, of which the first is taken.
+        name: Name,
+    },
+    /// The bytes of a file of any type.
+    Bytes {
+        /// How they are printed.
+        form: ByteForm,
+        /// Among which files it is looked for.
+        candidates: Candidates,
+        /// The name of the file, of which the first is taken.
+        name: Name,
+    },
 }
 
 /// How the records of a text stand in its lines.
@@ -38,37 +57,6 @@ pub enum Columns {
     One,
     /// Several for each record, in this form.
     Several(ColumnForm),
-}
-
-/// How an image is drawn: which sector is whose, and what a check of it reports.
-#[derive(Clone, Copy, Debug, PartialEq, Eq)]
-pub enum Drawing {
-    /// A line for each track, for a terminal.
-    Map,
-    /// An HTML page with a drawing of the disk.
-    Picture,
-    /// A poster: an SVG file of its own with the same drawing, title, legend and directory.
-    Poster,
-}
-
-/// Which of the faults of an image are printed.
-#[derive(Clone, Copy, Debug, PartialEq, Eq)]
-pub enum Findings {
-    /// The first one that a check finds.
-    First,
-    /// All that hold, that one first, each with the files that it concerns.
-    All,
-}
-
-/// What is printed of each of several images.
-#[derive(Clone, Copy, Debug, PartialEq, Eq)]
-pub enum Overview {
-    /// Its directory, with its names in this form.
-    List(NameForm),
-    /// Whether its layout is clean, and otherwise what is wrong with it.
-    Check(Findings),
-    /// A line for each track.
-    Map,
 }
 
 /// What a job does on a disk that has lost a part of a file.
@@ -148,22 +136,10 @@ pub enum Job<'a> {
         /// The two bytes of the disk's ID.
         id: [u8; 2],
     },
-    /// The directory of an image.
-    List {
-        /// How its names are printed.
-        form: NameForm,
-        /// The image's path.
-        image: &'a str,
-    },
-    /// Whether the layout of an image is clean, and otherwise what is wrong with it.
-    Check {
-        /// What is printed of that.
-        findings: Findings,
-        /// The image's path.
-        image: &'a str,
-    },
-    /// What an image holds of a shop: how far new cards may go, the cards, and the last two requests of each till.
-    Show {
+    /// What is printed of an image that is read.
+    Look {
+        /// What is printed.
+        what: Look,
         /// The image's path.
         image: &'a str,
     },
@@ -233,15 +209,6 @@ pub enum Job<'a> {
         /// The folder's path.
         folder: &'a str,
     },
-    /// What is taken out of an image that is read.
-    Take {
-        /// What is taken.
-        what: Taking,
-        /// The image's path.
-        image: &'a str,
-        /// The name of the file.
-        name: Name,
-    },
     /// A relative file, made on the disk of an image.
     Make {
         /// The image's path.
@@ -293,20 +260,6 @@ pub enum Job<'a> {
         /// The name of the file.
         name: Name,
     },
-    /// An image that is read, drawn.
-    Draw {
-        /// How it is drawn.
-        what: Drawing,
-        /// The image's path.
-        image: &'a str,
-    },
-    /// What is printed of an image that is read and not checked.
-    View {
-        /// What is printed.
-        what: View,
-        /// The image's path.
-        image: &'a str,
-    },
     /// Tracks 1 to 35 of an image that may have more, or error bytes.
     Trim {
         /// The image's path.
@@ -333,7 +286,7 @@ pub enum Job<'a> {
     /// name.
     Several {
         /// What is printed of each.
-        what: Overview,
+        what: Look,
         /// The images' paths.
         images: Vec<&'a str>,
     },

@@ -2,7 +2,7 @@
 use crate::runs::bytes_at;
 use crate::scenes::first_scene;
 use image_file::HostFiles;
-use ledger_jobs::{Findings, Job, do_job};
+use ledger_jobs::{Job, Look, do_job};
 use test_runtime::{Kind, Known, Runtime};
 
 #[test]
@@ -13,8 +13,8 @@ fn an_image_is_checked_whose_bytes_are_said(rt: HostRuntime) {
         alloc: rt.alloc(),
         bytes: image.as_slice(),
     };
-    let job = Job::Check {
-        findings: Findings::First,
+    let job = Job::Look {
+        what: Look::Check,
         image: "a.d64",
     };
     let mut out = Vec::new(rt.alloc());

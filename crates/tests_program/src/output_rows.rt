@@ -3,7 +3,7 @@ ghost use Rattle.ledger_jobs.specs.Jobs.{IsFit};
 
 use crate::scenes::{Rows, first_scene, hold};
 use disk_reports::NameForm;
-use ledger_jobs::{Drawing, Effect, Findings, Job, Loss, Unowned, do_job, end};
+use ledger_jobs::{Effect, Job, Look, Loss, Unowned, do_job, end};
 use std::io::{self, Write};
 use std::process::Abort;
 use test_runtime::Runtime;
@@ -81,13 +81,13 @@ fn hands_on(rt: &(impl AllocGlobal + Abort), job: &Job<'static>, printed: usize)
     assert_eq!(rt; left, (3, Ok(()), b"FILE\n".as_slice(), printed));
 }
 
-const LIST_JOB: Job<'static> = Job::List {
-    form: NameForm::Ascii,
+const LIST_JOB: Job<'static> = Job::Look {
+    what: Look::List(NameForm::Ascii),
     image: "a.d64",
 };
 
-const CHECK_JOB: Job<'static> = Job::Check {
-    findings: Findings::First,
+const CHECK_JOB: Job<'static> = Job::Look {
+    what: Look::Check,
     image: "a.d64",
 };
 
@@ -100,13 +100,13 @@ const REPAIR_JOB: Job<'static> = Job::Repair {
     effect: Effect::Written,
 };
 
-const MAP_JOB: Job<'static> = Job::Draw {
-    what: Drawing::Map,
+const MAP_JOB: Job<'static> = Job::Look {
+    what: Look::Map,
     image: "a.d64",
 };
 
-const PICTURE_JOB: Job<'static> = Job::Draw {
-    what: Drawing::Picture,
+const PICTURE_JOB: Job<'static> = Job::Look {
+    what: Look::Picture,
     image: "a.d64",
 };
 

@@ -1,7 +1,7 @@
 //! Jobs over a host that gives no right to write a file: the check refuses a row here whose job writes one.
 use crate::scenes::first_scene;
 use disk_reports::NameForm;
-use ledger_jobs::{Findings, Job, do_job};
+use ledger_jobs::{Job, Look, do_job};
 use test_runtime::{ReadOnly, Runtime};
 
 #[test]
@@ -12,8 +12,8 @@ fn an_image_is_checked_where_nothing_may_be_written(rt: HostRuntime) {
         words: b"",
         input: b"",
     });
-    let job = Job::Check {
-        findings: Findings::First,
+    let job = Job::Look {
+        what: Look::Check,
         image: "a.d64",
     };
     let mut out = Vec::new(rt.alloc());
@@ -29,8 +29,8 @@ fn an_image_is_listed_where_nothing_may_be_written(rt: HostRuntime) {
         words: b"",
         input: b"",
     });
-    let job = Job::List {
-        form: NameForm::Ascii,
+    let job = Job::Look {
+        what: Look::List(NameForm::Ascii),
         image: "a.d64",
     };
     let mut out = Vec::new(rt.alloc());

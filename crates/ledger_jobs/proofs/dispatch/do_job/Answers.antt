@@ -1,36 +1,19 @@
 -- What is said of what was done with the files is said of the job.
-use Rattle.std.proofs.Common.{List, ap, map, subst, sym, ◌∙◌, ℕ}
+use Rattle.std.proofs.Common.{List, map, subst, sym, ℕ}
 use Rattle.std.specs.Borrow.{Bor}
 use Rattle.ledger_jobs.specs.JobRuns.{AreDescribed, AreDrawnOnSheet, AreOverviewed, IsJobOver}
-use Rattle.ledger_jobs.specs.declared.jobs.Findings.{Findings}
 use Rattle.ledger_jobs.specs.declared.jobs.Job.{Job}
-use Rattle.ledger_jobs.specs.declared.jobs.Job.TheVariants as jobs
 use Rattle.ledger_jobs.proofs.dispatch.do_job.Goals as goal
 
-pub returns-in-List : goal.returns-in-List
-returns-in-List g c =
+pub returns-in-Look : goal.returns-in-Look
+returns-in-Look g c =
     subst (λ (job : Job). IsJobOver g.R.HostFiles.rights g.R.HostFiles.stands g.W.Write.contents c.args.rt.now job
-    c.args.out.now c.do_reading.new.out c.do_reading.result) (sym c.in-List.is) c.do_reading.ensures
+    c.args.out.now c.do_look.new.out c.do_look.result) (sym c.in-Look.is) c.do_look.ensures
 
-pub returns-in-First : goal.returns-in-First
-returns-in-First g c =
+pub returns-in-Dry : goal.returns-in-Dry
+returns-in-Dry g c =
     subst (λ (job : Job). IsJobOver g.R.HostFiles.rights g.R.HostFiles.stands g.W.Write.contents c.args.rt.now job
-    c.args.out.now c.do_reading-in-First.new.out c.do_reading-in-First.result) (sym (c.in-Check.is ∙ ap (λ (f : Findings). jobs.Check f c.in-Check.image) c.in-First.is)) c.do_reading-in-First.ensures
-
-pub returns-in-All : goal.returns-in-All
-returns-in-All g c =
-    subst (λ (job : Job). IsJobOver g.R.HostFiles.rights g.R.HostFiles.stands g.W.Write.contents c.args.rt.now job
-    c.args.out.now c.do_listing.new.out c.do_listing.result) (sym (c.in-Check.is ∙ ap (λ (f : Findings). jobs.Check f c.in-Check.image) c.in-All.is)) c.do_listing.ensures
-
-pub returns-in-Draw : goal.returns-in-Draw
-returns-in-Draw g c =
-    subst (λ (job : Job). IsJobOver g.R.HostFiles.rights g.R.HostFiles.stands g.W.Write.contents c.args.rt.now job
-    c.args.out.now c.do_drawing.new.out c.do_drawing.result) (sym c.in-Draw.is) c.do_drawing.ensures
-
-pub returns-in-View : goal.returns-in-View
-returns-in-View g c =
-    subst (λ (job : Job). IsJobOver g.R.HostFiles.rights g.R.HostFiles.stands g.W.Write.contents c.args.rt.now job
-    c.args.out.now c.do_viewing.new.out c.do_viewing.result) (sym c.in-View.is) c.do_viewing.ensures
+    c.args.out.now c.do_dry.new.out c.do_dry.result) (sym c.in-Dry.is) c.do_dry.ensures
 
 pub returns-in-New : goal.returns-in-New
 returns-in-New g c =
