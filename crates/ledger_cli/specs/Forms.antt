@@ -17,6 +17,7 @@ use Rattle.disk_reports.specs.declared.texts.NameForm.{NameForm}
 use Rattle.ledger_cli.specs.Flags.{is_given}
 use Rattle.ledger_cli.specs.Positions.{AsksForColumns, AsksForNone, HasNoColumns}
 use Rattle.ledger_cli.specs.declared.faults.JobFault.{JobFault}
+use Rattle.ledger_jobs.specs.declared.jobs.Edit.TheVariants as edits
 use Rattle.ledger_jobs.specs.declared.jobs.Effect.TheVariants as effects
 use Rattle.ledger_jobs.specs.declared.jobs.Job.TheVariants as jobs
 use Rattle.ledger_jobs.specs.declared.jobs.Loss.TheVariants as losses
@@ -99,5 +100,5 @@ effect_in rows = if is_given (codes "dry-run") rows then effects.Printed else ef
 -- the job that repairs an image: with --sides its side sectors are built anew first
 abbrev pub repair_job : List Row → Bor Text → Job
 repair_job rows image =
-    if is_given (codes "sides") rows then jobs.RepairSides image (loss_in rows) (unowned_in rows) (effect_in rows)
-    else jobs.Repair image (loss_in rows) (unowned_in rows) (effect_in rows)
+    jobs.Change image (if is_given (codes "sides") rows then edits.RepairSides (loss_in rows) (unowned_in rows)
+    else edits.Repair (loss_in rows) (unowned_in rows)) (effect_in rows)

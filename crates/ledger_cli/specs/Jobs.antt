@@ -5,6 +5,8 @@ use Rattle.std.specs.Option.{option_map_or}
 use Rattle.clap.specs.Words.{HasKind, Kinds, Row, Text, found_of, rows_of, subcommand_rows_of}
 use Rattle.clap.specs.declared.parser.matches.ArgMatches.{ArgMatches}
 use Rattle.command_table.specs.Grammar.{value}
+use Rattle.ledger_jobs.specs.declared.jobs.Edit.{Edit}
+use Rattle.ledger_jobs.specs.declared.jobs.Edit.TheVariants as edits
 use Rattle.ledger_jobs.specs.declared.jobs.Job.{Job}
 use Rattle.ledger_jobs.specs.Names.{IsNameOf, name_bytes}
 use Rattle.ledger_cli.specs.declared.faults.JobFault.{JobFault}
@@ -31,6 +33,32 @@ pub record IsParse (kinds : Kinds) (top : List Row) (found : Option (Text × Lis
     pub fine : kinds ≡ []
     pub before : rows_of (found_of matches) ≡ top
     pub is : subcommand_rows_of matches ≡ found
+
+-- the subcommand that changes an image so
+abbrev pub word_of_edit : Edit → Text
+word_of_edit (edits.Repair loss unowned) = codes "repair"
+word_of_edit (edits.RepairSides loss unowned) = codes "repair"
+word_of_edit (edits.Make length loss name) = codes "make"
+word_of_edit (edits.Rename from to) = codes "rename"
+word_of_edit (edits.Delete name) = codes "delete"
+word_of_edit (edits.Put file kind name) = codes "put"
+word_of_edit (edits.Store records columns loss name) = codes "store"
+
+-- the values and the flags ask for this change
+abbrev pub IsEditIn : Edit → List Row → Type 0
+IsEditIn (edits.Repair loss unowned) rows = (loss ≡ loss_in rows) × (unowned ≡ unowned_in rows)
+    × (is_given (codes "sides") rows ≡ false)
+IsEditIn (edits.RepairSides loss unowned) rows = (loss ≡ loss_in rows) × (unowned ≡ unowned_in rows)
+    × (is_given (codes "sides") rows ≡ true)
+IsEditIn (edits.Make length loss name) rows = IsNameOf (value (codes "NAME") rows) (name_bytes name)
+    × (length_in rows ≡ Some length) × (loss ≡ loss_in rows)
+IsEditIn (edits.Rename from to) rows = IsNameOf (value (codes "OLD") rows) (name_bytes from)
+    × IsNameOf (value (codes "NEW") rows) (name_bytes to)
+IsEditIn (edits.Delete name) rows = IsNameOf (value (codes "NAME") rows) (name_bytes name)
+IsEditIn (edits.Put file kind name) rows = IsNameOf (value (codes "NAME") rows) (name_bytes name)
+    × (file.now ≡ value (codes "FILE") rows) × (type_in rows ≡ Some kind)
+IsEditIn (edits.Store records columns loss name) rows = IsNameOf (value (codes "NAME") rows) (name_bytes name)
+    × (records.now ≡ value (codes "RECORDS") rows) × AreColumns rows columns × (loss ≡ loss_in rows)
 
 -- the words ask for more lines if the job isn't done, before the subcommand or after it
 abbrev pub is_explained : List Row → Option (Text × List Row) → Bool
@@ -72,26 +100,8 @@ IsJob found (jobs.Copy image copy) = Has found (codes "copy")
 IsJob found (jobs.Extract choice image folder) = Has found (codes "extract")
     (λ rows. (image.now ≡ value (codes "IMAGE") rows) × (folder.now ≡ value (codes "FOLDER") rows)
     × (choice ≡ choice_in rows))
-IsJob found (jobs.Repair image loss unowned effect) = Has found (codes "repair")
-    (λ rows. (image.now ≡ value (codes "IMAGE") rows) × (loss ≡ loss_in rows) × (unowned ≡ unowned_in rows)
-    × (effect ≡ effect_in rows) × (is_given (codes "sides") rows ≡ false))
-IsJob found (jobs.RepairSides image loss unowned effect) = Has found (codes "repair")
-    (λ rows. (image.now ≡ value (codes "IMAGE") rows) × (loss ≡ loss_in rows) × (unowned ≡ unowned_in rows)
-    × (effect ≡ effect_in rows) × (is_given (codes "sides") rows ≡ true))
-IsJob found (jobs.Make image length loss name) = Has found (codes "make")
-    (λ rows. (image.now ≡ value (codes "IMAGE") rows) × IsNameOf (value (codes "NAME") rows) (name_bytes name)
-    × (length_in rows ≡ Some length) × (loss ≡ loss_in rows))
-IsJob found (jobs.Store image records columns loss name) = Has found (codes "store")
-    (λ rows. (image.now ≡ value (codes "IMAGE") rows) × IsNameOf (value (codes "NAME") rows) (name_bytes name)
-    × (records.now ≡ value (codes "RECORDS") rows) × AreColumns rows columns × (loss ≡ loss_in rows))
-IsJob found (jobs.Rename image from to) = Has found (codes "rename")
-    (λ rows. (image.now ≡ value (codes "IMAGE") rows) × IsNameOf (value (codes "OLD") rows) (name_bytes from)
-    × IsNameOf (value (codes "NEW") rows) (name_bytes to))
-IsJob found (jobs.Delete image name) = Has found (codes "delete")
-    (λ rows. (image.now ≡ value (codes "IMAGE") rows) × IsNameOf (value (codes "NAME") rows) (name_bytes name))
-IsJob found (jobs.Put image file kind name) = Has found (codes "put")
-    (λ rows. (image.now ≡ value (codes "IMAGE") rows) × IsNameOf (value (codes "NAME") rows) (name_bytes name)
-    × (file.now ≡ value (codes "FILE") rows) × (type_in rows ≡ Some kind))
+IsJob found (jobs.Change image edit effect) = Has found (word_of_edit edit)
+    (λ rows. (image.now ≡ value (codes "IMAGE") rows) × IsEditIn edit rows × (effect ≡ effect_in rows))
 IsJob found (jobs.New image name id) = Has found (codes "new")
     (λ rows. (image.now ≡ value (codes "IMAGE") rows) × IsNameOf (value (codes "N") rows) (name_bytes name)
     × IsIdOf (value (codes "I") rows) id)

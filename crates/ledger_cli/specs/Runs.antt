@@ -1,12 +1,5 @@
 -- What comes of a job that is run over the bytes of its files. All of it is our own.
 use Rattle.ledger_cli.specs.Changed.{IsChangeJob}
-use Rattle.disk_changes.specs.Deletes.{IsDeleteRefusal, IsDeleted}
-use Rattle.disk_changes.specs.Makes.{IsMade, IsMakeRefusal}
-use Rattle.disk_changes.specs.Puts.{IsPut, IsPutRefusal}
-use Rattle.disk_changes.specs.Rebuilds.{IsRebuildRefusal, IsRebuilt}
-use Rattle.disk_changes.specs.Renames.{IsRenameRefusal, IsRenamed}
-use Rattle.disk_changes.specs.Repairs.{IsRepairRefusal, IsRepaired}
-use Rattle.disk_changes.specs.Stores.{IsStoreRefusal, IsStored}
 use Rattle.std.specs.Prelude.{◌≡◌, ◌⊎◌, ℕ, List, Option, None, Some, Result, Ok, Err, length}
 use Rattle.d64_image.specs.declared.device_as_file.DeviceAsFile.{DeviceAsFile}
 use Rattle.d64_image.specs.declared.mirror.Mirror.{Mirror}
@@ -18,7 +11,7 @@ use Rattle.command_faults.specs.declared.faults.CommandFault.{CommandFault}
 use Rattle.command_faults.specs.declared.faults.CommandFault.TheVariants as faults
 use Rattle.ledger_jobs.specs.Comparisons.{IsComparingRun}
 use Rattle.ledger_jobs.specs.Ends.{EndsAs, JobEnd, as_job, as_run, end_status, refusal_line}
-use Rattle.ledger_jobs.specs.Jobs.{frees, shortened}
+use Rattle.ledger_jobs.specs.Edits.{IsEdited, IsUnedited}
 use Rattle.ledger_jobs.specs.Names.{name_bytes}
 use Rattle.ledger_jobs.specs.NewDisks.{IsNewImage}
 use Rattle.shop_commands.specs.Images.{AreFreshBytes}
@@ -26,7 +19,6 @@ use Rattle.ledger_jobs.specs.Looks.{IsLook}
 use Rattle.ledger_jobs.specs.Runs.{IsDryRun, IsPlayRun}
 use Rattle.ledger_jobs.specs.declared.jobs.Job.{Job}
 use Rattle.ledger_jobs.specs.declared.jobs.Job.TheVariants as jobs
-use Rattle.ledger_jobs.specs.declared.jobs.Effect.TheVariants.{Written}
 use Rattle.ledger_jobs.specs.declared.refusals.Refusal.TheVariants as refusals
 
 -- A job that writes an image wasn't begun: the file and the output are as they were.
@@ -98,24 +90,8 @@ module _ {F : Type 0} (position : F → Option ℕ) (bytes contents : F → Opti
   IsJobRun told (jobs.Serve path loss) image script file after old new end =
       (after ≡ file) × (new ≡ old) × (end ≡ Err (refusals.Fault faults.File))
   IsJobRun told (jobs.Copy path copy) image script file after old new end = IsCopyJob told image file after old new end
-  IsJobRun told (jobs.Repair path loss u effect) image script file after old new end =
-      IsChangeJob position bytes contents told effect (IsRepaired image (frees u) (shortened loss)) (IsRepairRefusal image) file after old new end
-  IsJobRun told (jobs.RepairSides path loss u effect) image script file after old new end =
-      IsChangeJob position bytes contents told effect (IsRebuilt image (frees u) (shortened loss)) (IsRebuildRefusal image) file after old new end
-  IsJobRun told (jobs.Make path L loss name) image script file after old new end = IsChangeJob position bytes contents told Written
-      (IsMade image (name_bytes name) L (shortened loss)) (IsMakeRefusal image (name_bytes name) (shortened loss))
-      file after old new end
-  IsJobRun told (jobs.Rename path from to) image script file after old new end = IsChangeJob position bytes contents told Written
-      (IsRenamed image (name_bytes from) (name_bytes to)) (IsRenameRefusal image (name_bytes from) (name_bytes to))
-      file after old new end
-  IsJobRun told (jobs.Delete path name) image script file after old new end = IsChangeJob position bytes contents told Written
-      (IsDeleted image (name_bytes name)) (IsDeleteRefusal image (name_bytes name)) file after old new end
-  IsJobRun told (jobs.Put path source kind name) image script file after old new end = IsChangeJob position bytes contents told Written
-      (IsPut image (name_bytes name) kind script) (IsPutRefusal image (name_bytes name) kind script)
-      file after old new end
-  IsJobRun told (jobs.Store path text c loss name) image script file after old new end = IsChangeJob position bytes contents told Written
-      (IsStored image (name_bytes name) script (shortened loss))
-      (IsStoreRefusal image (name_bytes name) script (shortened loss)) file after old new end
+  IsJobRun told (jobs.Change path edit effect) image script file after old new end = IsChangeJob position bytes contents told effect
+      (IsEdited edit script image) (IsUnedited edit script image) file after old new end
   IsJobRun told (jobs.Trim path) image script file after old new end =
       (after ≡ file) × (new ≡ old) × (end ≡ Err (refusals.Fault faults.File))
   IsJobRun told (jobs.Compare before later) image script file after old new end =

@@ -13,7 +13,7 @@ use crate::values::is_given;
 use clap::ArgMatches;
 use disk_reports::NameForm;
 use keeper_commands::{ByteForm, Candidates, Choice, RecordForm};
-use ledger_jobs::{Columns, Effect, Job, Look, Loss, Unowned};
+use ledger_jobs::{Columns, Edit, Effect, Job, Look, Loss, Unowned};
 use line_text::CharacterSet;
 
 /// What is done if the disk has lost a part of a file.
@@ -38,8 +38,8 @@ fn unowned<'a>(matches: &ArgMatches<'a>) -> Unowned
     }
 }
 
-/// Whether a repair writes the image.
-fn effect<'a>(matches: &ArgMatches<'a>) -> Effect
+/// Whether a change writes the image.
+pub(crate) fn effect<'a>(matches: &ArgMatches<'a>) -> Effect
     ensures { result ≡ effect_in (rows_of (found_of matches.now)) }
 {
     if is_given(matches, "dry-run") {
@@ -54,20 +54,15 @@ pub(crate) fn repairing<'a>(matches: &ArgMatches<'a>, image: &'a str) -> Job<'a>
     ensures { result ≡ repair_job (rows_of (found_of matches.now)) image.entry }
 {
     let (loss, unowned, effect) = (loss(matches), unowned(matches), effect(matches));
-    if is_given(matches, "sides") {
-        Job::RepairSides {
-            image,
-            loss,
-            unowned,
-            effect,
-        }
+    let edit = if is_given(matches, "sides") {
+        Edit::RepairSides { loss, unowned }
     } else {
-        Job::Repair {
-            image,
-            loss,
-            unowned,
-            effect,
-        }
+        Edit::Repair { loss, unowned }
+    };
+    Job::Change {
+        image,
+        edit,
+        effect,
     }
 }
 

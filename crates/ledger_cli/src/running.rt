@@ -4,7 +4,7 @@ ghost use Rattle.ledger_cli.specs.Runs.{IsJobRun, IsRun};
 ghost use Rattle.ledger_jobs.specs.Jobs.{IsFit};
 
 use crate::changing::{Ended, begin_disk, copy, format, play};
-use crate::editing::{delete, make, put, rebuild, rename, repair, store};
+use crate::editing::edited;
 use command_faults::CommandFault;
 use ledger_jobs::{Job, Refusal, comparing_run, dry_run, end, look};
 use std::alloc::Global;
@@ -30,32 +30,11 @@ fn obey<F: Write + Seek + Drop, W: Write>(
         Job::Dry { .. } => (file, dry_run(script, out)),
         Job::Play { .. } | Job::PlayLogged { .. } => play(alloc, image, script, file, out),
         Job::Copy { .. } => copy(image, file, out),
-        Job::Repair {
-            loss,
-            unowned,
+        Job::Change {
+            ref edit,
             effect,
             ..
-        } => repair(alloc, image, unowned, effect, loss, file, out),
-        Job::RepairSides {
-            loss,
-            unowned,
-            effect,
-            ..
-        } => rebuild(alloc, image, unowned, effect, loss, file, out),
-        Job::Make {
-            length,
-            loss,
-            ref name,
-            ..
-        } => make(alloc, image, name, length, loss, file, out),
-        Job::Rename {
-            ref from,
-            ref to,
-            ..
-        } => rename(alloc, image, from, to, file, out),
-        Job::Delete { ref name, .. } => delete(alloc, image, name, file, out),
-        Job::Put { kind, ref name, .. } => put(alloc, image, name, kind, script, file, out),
-        Job::Store { ref name, loss, .. } => store(alloc, image, name, script, loss, file, out),
+        } => edited(alloc, image, edit, script, effect, file, out),
         Job::Compare { .. } => (file, comparing_run(alloc, image, script, out)),
         // it needs the bytes of each image, or standard error too, or a folder
         Job::Serve { .. }

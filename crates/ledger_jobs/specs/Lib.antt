@@ -5,6 +5,7 @@ pub mod Copies
 pub mod Descriptions
 pub mod DurableRuns
 pub mod EachImage
+pub mod Edits
 pub mod Ends
 pub mod Extracts
 pub mod HostFiles

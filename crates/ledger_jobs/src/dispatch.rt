@@ -10,7 +10,7 @@ use crate::comparisons::do_comparing;
 use crate::copying::do_copying;
 use crate::descriptions::do_describing;
 use crate::durable_runs::play_durably;
-use crate::editing::{do_delete, do_make, do_rebuild, do_rename, do_repair};
+use crate::edits::do_edit;
 use crate::extracting::do_extracting;
 use crate::files::{AtPath, Older, script_to_play};
 use crate::image_logs::opened_and_landed;
@@ -21,7 +21,6 @@ use crate::new_disks::do_new;
 use crate::outcomes::{job_end, over_end};
 use crate::overviews::do_several;
 use crate::playing_logs::do_logged_playing;
-use crate::putting::{do_put, do_store};
 use crate::refusals::Refusal;
 use crate::reply_lines::ReplyLines;
 use crate::serving_logs::do_logged_serving;
@@ -136,43 +135,11 @@ where
             image,
             folder,
         } => do_extracting(rt, choice, image, folder, out),
-        Job::Repair {
+        Job::Change {
             image,
-            loss,
-            unowned,
+            ref edit,
             effect,
-        } => do_repair(rt, image, unowned, effect, loss, out),
-        Job::RepairSides {
-            image,
-            loss,
-            unowned,
-            effect,
-        } => do_rebuild(rt, image, unowned, effect, loss, out),
-        Job::Make {
-            image,
-            length,
-            loss,
-            ref name,
-        } => do_make(rt, image, name, length, loss, out),
-        Job::Rename {
-            image,
-            ref from,
-            ref to,
-        } => do_rename(rt, image, from, to, out),
-        Job::Delete { image, ref name } => do_delete(rt, image, name, out),
-        Job::Put {
-            image,
-            file,
-            kind,
-            ref name,
-        } => do_put(rt, image, name, file, kind, out),
-        Job::Store {
-            image,
-            records,
-            columns,
-            loss,
-            ref name,
-        } => do_store(rt, image, name, records, columns, loss, out),
+        } => do_edit(rt, image, edit, effect, out),
         Job::Trim { .. } => Err(Refusal::Fault(CommandFault::File)),
         Job::Compare { before, after } => do_comparing(rt, before, after, out),
         Job::Sheet { ref images } => do_sheet(rt, images.as_slice(), out),

@@ -1,6 +1,6 @@
 //! What the program can be asked to do.
 ghost use Rattle.std.specs.Prelude.{◌≡◌};
-ghost use Rattle.ledger_jobs.specs.Jobs.{frees, shortened as shortened_of};
+ghost use Rattle.ledger_jobs.specs.Edits.{frees, shortened as shortened_of};
 
 use crate::names::Name;
 use d64_image::Place;
@@ -101,13 +101,74 @@ impl Unowned {
     }
 }
 
-/// What a repair does with the sectors that it makes right.
+/// What a change does with the image that comes of it.
 #[derive(Clone, Copy, Debug, PartialEq, Eq)]
 pub enum Effect {
-    /// It writes them.
+    /// It is kept in the place of the other.
     Written,
-    /// Only the lines are printed, and the image stays as it is.
+    /// Only the change's lines are printed, and the image stays as it is.
     Printed,
+}
+
+/// A change of the files of an image. A new file can have each name that a file gets, and a record 1 to 254 bytes; the caller
+/// that makes a job ensures that.
+#[derive(Drop)]
+pub enum Edit<'a> {
+    /// The map, the side sectors and the block counts are made right.
+    Repair {
+        /// What is done if the disk has lost a part of a file.
+        loss: Loss,
+        /// What is done with sectors that are taken and no file's.
+        unowned: Unowned,
+    },
+    /// The same, once the side sectors are built anew from the chains of their files.
+    RepairSides {
+        /// What is done if the disk has lost a part of a file.
+        loss: Loss,
+        /// What is done with sectors that are taken and no file's.
+        unowned: Unowned,
+    },
+    /// A relative file is made.
+    Make {
+        /// How many bytes a record has.
+        length: u8,
+        /// What is done if the disk has lost a part of a file.
+        loss: Loss,
+        /// The name of the file.
+        name: Name,
+    },
+    /// The first file of a name gets another name.
+    Rename {
+        /// The name that the file has.
+        from: Name,
+        /// The name that the file gets.
+        to: Name,
+    },
+    /// The first file of a name is deleted.
+    Delete {
+        /// The name of the file.
+        name: Name,
+    },
+    /// A new file is made, with the bytes of a file of the host.
+    Put {
+        /// The path of the file whose bytes it gets.
+        file: &'a str,
+        /// The type of the new file.
+        kind: FileType,
+        /// The name of the new file.
+        name: Name,
+    },
+    /// Records from the lines of a text are stored in a relative file.
+    Store {
+        /// The text's path.
+        records: &'a str,
+        /// How its lines have the records.
+        columns: Columns,
+        /// What is done if the disk has lost a part of a file.
+        loss: Loss,
+        /// The name of the file.
+        name: Name,
+    },
 }
 
 /// What the words of a command line ask for.
@@ -178,28 +239,6 @@ pub enum Job<'a> {
         /// The copy's path.
         copy: &'a str,
     },
-    /// The map, the side sectors and the block counts of an image, made right.
-    Repair {
-        /// The image's path.
-        image: &'a str,
-        /// What is done if the disk has lost a part of a file.
-        loss: Loss,
-        /// What is done with sectors that are taken and no file's.
-        unowned: Unowned,
-        /// Whether the image is written.
-        effect: Effect,
-    },
-    /// The same of an image whose side sectors are built anew first, from the chains of their files.
-    RepairSides {
-        /// The image's path.
-        image: &'a str,
-        /// What is done if the disk has lost a part of a file.
-        loss: Loss,
-        /// What is done with sectors that are taken and no file's.
-        unowned: Unowned,
-        /// Whether the image is written.
-        effect: Effect,
-    },
     /// All files of an image that is read, made in a folder that isn't there yet.
     Extract {
         /// Which entries are taken out.
@@ -209,56 +248,14 @@ pub enum Job<'a> {
         /// The folder's path.
         folder: &'a str,
     },
-    /// A relative file, made on the disk of an image.
-    Make {
+    /// The files of an image, changed.
+    Change {
         /// The image's path.
         image: &'a str,
-        /// How many bytes a record has, 1 to 254. The caller that makes a job ensures that.
-        length: u8,
-        /// What is done if the disk has lost a part of a file.
-        loss: Loss,
-        /// The name of the file, which a new file can have. The caller that makes a job ensures that.
-        name: Name,
-    },
-    /// The first file of a name, which gets another name on the disk of an image.
-    Rename {
-        /// The image's path.
-        image: &'a str,
-        /// The name that the file has.
-        from: Name,
-        /// The name that the file gets, which a new file can have. The caller that makes a job ensures that.
-        to: Name,
-    },
-    /// The first file of a name, deleted from the disk of an image.
-    Delete {
-        /// The image's path.
-        image: &'a str,
-        /// The name of the file.
-        name: Name,
-    },
-    /// A new file on the disk of an image, with the bytes of a file of the host.
-    Put {
-        /// The image's path.
-        image: &'a str,
-        /// The path of the file whose bytes it gets.
-        file: &'a str,
-        /// The type of the new file.
-        kind: FileType,
-        /// The name of the new file, which a new file can have. The caller that makes a job ensures that.
-        name: Name,
-    },
-    /// Records from the lines of a text, stored in a relative file of an image.
-    Store {
-        /// The image's path.
-        image: &'a str,
-        /// The text's path.
-        records: &'a str,
-        /// How its lines have the records.
-        columns: Columns,
-        /// What is done if the disk has lost a part of a file.
-        loss: Loss,
-        /// The name of the file.
-        name: Name,
+        /// How they are changed.
+        edit: Edit<'a>,
+        /// Whether the image is written.
+        effect: Effect,
     },
     /// Tracks 1 to 35 of an image that may have more, or error bytes.
     Trim {

@@ -2,7 +2,7 @@
 ghost use Rattle.ledger_jobs.specs.Rights.{MayReadImage};
 
 use crate::files::STANDARD_INPUT;
-use crate::jobs::{Job, Look};
+use crate::jobs::{Edit, Job, Look};
 use crate::names::Name;
 use crate::readings::image_of_file;
 use disk_reports::print_near_names;
@@ -20,8 +20,12 @@ fn name_of<'j>(job: &'j Job<'_>) -> Option<&'j Name> {
             what: Look::Records { name, .. } | Look::Bytes { name, .. },
             ..
         } => Some(name),
-        Job::Store { name, .. } | Job::Delete { name, .. } => Some(name),
-        Job::Rename { from, .. } => Some(from),
+        Job::Change {
+            edit: Edit::Store { name, .. }
+            | Edit::Delete { name }
+            | Edit::Rename { from: name, .. },
+            ..
+        } => Some(name),
         _ => None,
     }
 }

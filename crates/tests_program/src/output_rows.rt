@@ -3,7 +3,7 @@ ghost use Rattle.ledger_jobs.specs.Jobs.{IsFit};
 
 use crate::scenes::{Rows, first_scene, hold};
 use disk_reports::NameForm;
-use ledger_jobs::{Effect, Job, Look, Loss, Unowned, do_job, end};
+use ledger_jobs::{Edit, Effect, Job, Look, Loss, Unowned, do_job, end};
 use std::io::{self, Write};
 use std::process::Abort;
 use test_runtime::Runtime;
@@ -93,10 +93,12 @@ const CHECK_JOB: Job<'static> = Job::Look {
 
 const DRY_JOB: Job<'static> = Job::Dry { script: "s.txt" };
 
-const REPAIR_JOB: Job<'static> = Job::Repair {
+const REPAIR_JOB: Job<'static> = Job::Change {
     image: "a.d64",
-    loss: Loss::Refused,
-    unowned: Unowned::Kept,
+    edit: Edit::Repair {
+        loss: Loss::Refused,
+        unowned: Unowned::Kept,
+    },
     effect: Effect::Written,
 };
 

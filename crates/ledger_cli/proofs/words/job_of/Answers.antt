@@ -3,12 +3,13 @@ use Rattle.std.proofs.Common.{[], ap, inl, inr, refl, subst, sym, ◌∙◌}
 use Rattle.std.specs.Prelude.{IfOk, MatchResult, codes}
 use Rattle.clap.specs.Words.{found_of, rows_of, subcommand_rows_of}
 use Rattle.line_text.specs.Numbers.{number_in}
+use Rattle.ledger_jobs.specs.declared.jobs.Edit.TheVariants as edits
 use Rattle.ledger_jobs.specs.declared.jobs.Job.TheVariants as jobs
 use Rattle.ledger_jobs.specs.declared.jobs.Look.TheVariants as looks
 use Rattle.ledger_jobs.specs.Jobs.{IsFit}
 use Rattle.ledger_cli.specs.Jobs.{IsJob, IsNoJob}
 use Rattle.ledger_cli.specs.Flags.{is_given}
-use Rattle.ledger_cli.specs.Forms.{byte_form_in, candidates_in}
+use Rattle.ledger_cli.specs.Forms.{byte_form_in, candidates_in, effect_in}
 use Rattle.ledger_cli.specs.Numbers.{spelled_place}
 use Rattle.ledger_cli.proofs.Pictures.{picturing-met}
 use Rattle.ledger_cli.proofs.Named.{making-met, named-met, new-met, putting-met, records-met, renaming-met}
@@ -168,8 +169,8 @@ pub returns-in-delete : goal.returns-in-delete
 returns-in-delete c =
     let rows = rows_of (found_of c.in-Some.found.now) in
     let is = met-is c.parsed_subcommand.result _ c.in-Some.name c.in-Some.found _ c.parsed_subcommand.ensures c.in-Some.is c.in-delete.is in
-    let met = named-met _ rows (jobs.Delete c.value_of-image.result) c.deleting.result
-    (λ name at. record { rows = rows; is = is; holds = (c.value_of-image.ensures, at) }) (λ name. tt)
+    let met = named-met _ rows (λ name. jobs.Change c.value_of-image.result (edits.Delete name) (effect_in rows)) c.deleting.result
+    (λ name at. record { rows = rows; is = is; holds = (c.value_of-image.ensures, at, refl) }) (λ name. tt)
     (λ missing. inr (inr (inr (inl (record { rows = rows; is = is; holds = missing }))))) c.deleting.ensures in
     record { job = met.0; fit = met.1 }
 

@@ -36,40 +36,10 @@ returns-in-Extract g c =
     subst (λ (job : Job). IsJobOver g.R.HostFiles.rights g.R.HostFiles.stands g.W.Write.contents c.args.rt.now job
     c.args.out.now c.do_extracting.new.out c.do_extracting.result) (sym c.in-Extract.is) c.do_extracting.ensures
 
-pub returns-in-Repair : goal.returns-in-Repair
-returns-in-Repair g c =
+pub returns-in-Change : goal.returns-in-Change
+returns-in-Change g c =
     subst (λ (job : Job). IsJobOver g.R.HostFiles.rights g.R.HostFiles.stands g.W.Write.contents c.args.rt.now job
-    c.args.out.now c.do_repair.new.out c.do_repair.result) (sym c.in-Repair.is) c.do_repair.ensures
-
-pub returns-in-RepairSides : goal.returns-in-RepairSides
-returns-in-RepairSides g c =
-    subst (λ (job : Job). IsJobOver g.R.HostFiles.rights g.R.HostFiles.stands g.W.Write.contents c.args.rt.now job
-    c.args.out.now c.do_rebuild.new.out c.do_rebuild.result) (sym c.in-RepairSides.is) c.do_rebuild.ensures
-
-pub returns-in-Make : goal.returns-in-Make
-returns-in-Make g c =
-    subst (λ (job : Job). IsJobOver g.R.HostFiles.rights g.R.HostFiles.stands g.W.Write.contents c.args.rt.now job
-    c.args.out.now c.do_make.new.out c.do_make.result) (sym c.in-Make.is) c.do_make.ensures
-
-pub returns-in-Rename : goal.returns-in-Rename
-returns-in-Rename g c =
-    subst (λ (job : Job). IsJobOver g.R.HostFiles.rights g.R.HostFiles.stands g.W.Write.contents c.args.rt.now job
-    c.args.out.now c.do_rename.new.out c.do_rename.result) (sym c.in-Rename.is) c.do_rename.ensures
-
-pub returns-in-Delete : goal.returns-in-Delete
-returns-in-Delete g c =
-    subst (λ (job : Job). IsJobOver g.R.HostFiles.rights g.R.HostFiles.stands g.W.Write.contents c.args.rt.now job
-    c.args.out.now c.do_delete.new.out c.do_delete.result) (sym c.in-Delete.is) c.do_delete.ensures
-
-pub returns-in-Put : goal.returns-in-Put
-returns-in-Put g c =
-    subst (λ (job : Job). IsJobOver g.R.HostFiles.rights g.R.HostFiles.stands g.W.Write.contents c.args.rt.now job
-    c.args.out.now c.do_put.new.out c.do_put.result) (sym c.in-Put.is) c.do_put.ensures
-
-pub returns-in-Store : goal.returns-in-Store
-returns-in-Store g c =
-    subst (λ (job : Job). IsJobOver g.R.HostFiles.rights g.R.HostFiles.stands g.W.Write.contents c.args.rt.now job
-    c.args.out.now c.do_store.new.out c.do_store.result) (sym c.in-Store.is) c.do_store.ensures
+    c.args.out.now c.do_edit.new.out c.do_edit.result) (sym c.in-Change.is) c.do_edit.ensures
 
 pub returns-in-Compare : goal.returns-in-Compare
 returns-in-Compare g c =
