@@ -80,10 +80,14 @@ abbrev pub extract : App
 extract = with_rule (with_rule (with_rule (over_image (codes "extract")) (required (codes "FOLDER")))
     (flag (codes "deleted"))) (flag (codes "scan"))
 
+-- a subcommand that changes the files of a disk, or only prints what that would print, if --dry-run is given
+abbrev pub may_run_dry : App → App
+may_run_dry a = with_rule a (flag (codes "dry-run"))
+
 -- repair IMAGE [--accept-loss] [--free] [--dry-run] [--sides]
 abbrev pub repair : App
-repair = with_rule (with_rule (with_rule (may_accept_loss (over_image (codes "repair"))) (flag (codes "free")))
-    (flag (codes "dry-run"))) (flag (codes "sides"))
+repair = with_rule (may_run_dry (with_rule (may_accept_loss (over_image (codes "repair"))) (flag (codes "free"))))
+    (flag (codes "sides"))
 
 -- a subcommand that takes a file that isn't closed too, if --unclosed is given
 abbrev pub may_be_unclosed : App → App
@@ -97,28 +101,28 @@ records = may_be_unclosed (may_have_columns (may_be_text (with_rule (over_image 
 abbrev pub bytes : App
 bytes = may_be_unclosed (may_be_text (with_rule (over_image (codes "bytes")) (required (codes "NAME"))))
 
--- make IMAGE NAME --length L [--accept-loss]
+-- make IMAGE NAME --length L [--accept-loss] [--dry-run]
 abbrev pub make : App
-make = may_accept_loss (with_rule (with_rule (over_image (codes "make")) (required (codes "NAME")))
-    (required_behind (codes "length") (codes "L")))
+make = may_run_dry (may_accept_loss (with_rule (with_rule (over_image (codes "make")) (required (codes "NAME")))
+    (required_behind (codes "length") (codes "L"))))
 
--- store IMAGE NAME RECORDS [--accept-loss] [--fields] [--at P]
+-- store IMAGE NAME RECORDS [--accept-loss] [--fields] [--at P] [--dry-run]
 abbrev pub store : App
-store = may_have_columns (may_accept_loss (with_rule (with_rule (over_image (codes "store"))
-    (required (codes "NAME"))) (required (codes "RECORDS"))))
+store = may_run_dry (may_have_columns (may_accept_loss (with_rule (with_rule (over_image (codes "store"))
+    (required (codes "NAME"))) (required (codes "RECORDS")))))
 
--- put IMAGE NAME FILE --type TYPE
+-- put IMAGE NAME FILE --type TYPE [--dry-run]
 abbrev pub put : App
-put = with_rule (with_rule (with_rule (over_image (codes "put")) (required (codes "NAME"))) (required (codes "FILE")))
-    (required_behind (codes "type") (codes "TYPE"))
+put = may_run_dry (with_rule (with_rule (with_rule (over_image (codes "put")) (required (codes "NAME")))
+    (required (codes "FILE"))) (required_behind (codes "type") (codes "TYPE")))
 
--- rename IMAGE OLD NEW
+-- rename IMAGE OLD NEW [--dry-run]
 abbrev pub rename : App
-rename = with_rule (with_rule (over_image (codes "rename")) (required (codes "OLD"))) (required (codes "NEW"))
+rename = may_run_dry (with_rule (with_rule (over_image (codes "rename")) (required (codes "OLD"))) (required (codes "NEW")))
 
--- delete IMAGE NAME
+-- delete IMAGE NAME [--dry-run]
 abbrev pub delete : App
-delete = with_rule (over_image (codes "delete")) (required (codes "NAME"))
+delete = may_run_dry (with_rule (over_image (codes "delete")) (required (codes "NAME")))
 
 -- new IMAGE --name N --id I
 abbrev pub new : App

@@ -1,6 +1,6 @@
 //! The subcommands that change the files of a disk: the words of each, and what help says of it, at most 80 columns wide.
 use crate::subcommands::Subcommand;
-use crate::values::{ACCEPT_LOSS, Count, FIELDS, IMAGE, NAME, POSITIONS, Value};
+use crate::values::{ACCEPT_LOSS, Count, DRY_RUN, FIELDS, IMAGE, NAME, POSITIONS, Value};
 
 /// The subcommands that change the files of a disk, in the order in which help lists them.
 pub(crate) const CHANGES: &[Subcommand] = &[NEW, MAKE, STORE, PUT, RENAME, DELETE];
@@ -46,7 +46,7 @@ const LENGTH: Value = Value {
     help: "How many bytes a record has, 1 to 254",
 };
 
-/// `make IMAGE NAME --length L [--accept-loss]`
+/// `make IMAGE NAME --length L [--accept-loss] [--dry-run]`
 const MAKE: Subcommand = Subcommand {
     name: "make",
     about: "Makes a relative file with a block of empty records",
@@ -62,7 +62,7 @@ Exit status:
   3  FILE, NO MEMORY, IN USE, DEVICE
 
 Example: ledger make new.d64 ADDRESS --length 40",
-    values: &[IMAGE, NAME, LENGTH, ACCEPT_LOSS],
+    values: &[IMAGE, NAME, LENGTH, ACCEPT_LOSS, DRY_RUN],
 };
 
 /// The text of records of a subcommand.
@@ -73,7 +73,7 @@ const RECORD_LINES: Value = Value {
     help: "The records as `records` prints them, or /dev/stdin",
 };
 
-/// `store IMAGE NAME RECORDS [--accept-loss] [--fields] [--at P]`
+/// `store IMAGE NAME RECORDS [--accept-loss] [--fields] [--at P] [--dry-run]`
 const STORE: Subcommand = Subcommand {
     name: "store",
     about: "Stores records in a relative file, and prints those that changed",
@@ -93,7 +93,15 @@ Exit status:
   3  FILE, NO MEMORY, IN USE, DEVICE
 
 Example: ledger store new.d64 ADDRESS address.csv",
-    values: &[IMAGE, NAME, RECORD_LINES, ACCEPT_LOSS, FIELDS, POSITIONS],
+    values: &[
+        IMAGE,
+        NAME,
+        RECORD_LINES,
+        ACCEPT_LOSS,
+        FIELDS,
+        POSITIONS,
+        DRY_RUN,
+    ],
 };
 
 /// The file of the host whose bytes a new file gets.
@@ -112,7 +120,7 @@ const FILE_TYPE: Value = Value {
     help: "The file's type: prg, seq or usr",
 };
 
-/// `put IMAGE NAME FILE --type TYPE`
+/// `put IMAGE NAME FILE --type TYPE [--dry-run]`
 const PUT: Subcommand = Subcommand {
     name: "put",
     about: "Puts a file of the host on the disk",
@@ -128,7 +136,7 @@ Exit status:
   3  FILE, NO MEMORY, IN USE, DEVICE
 
 Example: ledger put new.d64 GAME game.prg --type prg",
-    values: &[IMAGE, NAME, FILE, FILE_TYPE],
+    values: &[IMAGE, NAME, FILE, FILE_TYPE, DRY_RUN],
 };
 
 /// The name of a file that gets another.
@@ -147,7 +155,7 @@ const NEW_NAME: Value = Value {
     help: "The name that it gets, which no other file may have",
 };
 
-/// `rename IMAGE OLD NEW`
+/// `rename IMAGE OLD NEW [--dry-run]`
 const RENAME: Subcommand = Subcommand {
     name: "rename",
     about: "Gives a file another name",
@@ -163,10 +171,10 @@ Exit status:
   3  FILE, NO MEMORY, IN USE, DEVICE
 
 Example: ledger rename old.d64 LETTER 'LETTER 1'",
-    values: &[IMAGE, OLD_NAME, NEW_NAME],
+    values: &[IMAGE, OLD_NAME, NEW_NAME, DRY_RUN],
 };
 
-/// `delete IMAGE NAME`
+/// `delete IMAGE NAME [--dry-run]`
 const DELETE: Subcommand = Subcommand {
     name: "delete",
     about: "Deletes a file, and frees its sectors",
@@ -182,5 +190,5 @@ Exit status:
   3  FILE, NO MEMORY, IN USE, DEVICE
 
 Example: ledger delete old.d64 LETTER",
-    values: &[IMAGE, NAME],
+    values: &[IMAGE, NAME, DRY_RUN],
 };

@@ -1,6 +1,8 @@
 //! The subcommands that rescue files and disks: the words of each, and what help says of it, at most 80 columns wide.
 use crate::subcommands::Subcommand;
-use crate::values::{ACCEPT_LOSS, Count, FIELDS, IMAGE, MIXED, NAME, POSITIONS, TEXT, Value};
+use crate::values::{
+    ACCEPT_LOSS, Count, DRY_RUN, FIELDS, IMAGE, MIXED, NAME, POSITIONS, TEXT, Value,
+};
 
 /// The subcommands that rescue files and disks, in the order in which help lists them.
 pub(crate) const RESCUES: &[Subcommand] = &[RECORDS, BYTES, EXTRACT, REPAIR, TRIM];
@@ -111,14 +113,6 @@ const FREE_SECTORS: Value = Value {
     word: Some("free"),
     count: Count::Flag,
     help: "Frees the sectors that are taken and belong to no file",
-};
-
-/// The flag that writes nothing.
-const DRY_RUN: Value = Value {
-    name: "dry-run",
-    word: Some("dry-run"),
-    count: Count::Flag,
-    help: "Prints the same lines, and writes nothing",
 };
 
 /// The flag that builds side sectors anew.

@@ -57,6 +57,14 @@ pub(crate) const EXPLAIN: Value = Value {
     help: "Prints a second line on standard error if the command fails",
 };
 
+/// The flag of those that change the files of a disk: nothing is written.
+pub(crate) const DRY_RUN: Value = Value {
+    name: "dry-run",
+    word: Some("dry-run"),
+    count: Count::Flag,
+    help: "Prints the same lines, and writes nothing",
+};
+
 /// The flag of those that print records or store them.
 pub(crate) const FIELDS: Value = Value {
     name: "fields",

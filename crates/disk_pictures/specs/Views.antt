@@ -23,8 +23,6 @@ use Rattle.command_faults.specs.declared.faults.CommandFault.{CommandFault}
 use Rattle.command_faults.specs.declared.faults.CommandFault.TheVariants as faults
 use Rattle.disk_pictures.specs.declared.owners.Owner.{Owner}
 use Rattle.disk_pictures.specs.declared.owners.Owner.TheVariants as owner
-use Rattle.disk_pictures.specs.declared.views.View.{View}
-use Rattle.disk_pictures.specs.declared.views.View.TheVariants as views
 
 -- the line of a track: TRACK 17 FREE 21
 abbrev pub free_line : ℕ → ℕ → List ℕ
@@ -119,17 +117,3 @@ IsViewFault image faults.ImageSize = length image ≢ 174848
 IsViewFault image faults.NoMemory = length image ≡ 174848
 IsViewFault image faults.File = length image ≡ 174848
 IsViewFault image _ = ⊥
-
--- what was asked for was printed
-abbrev pub IsViewed : {W : Type 0} → (W → Option (List ℕ)) → View → List ℕ → W → W → Type 0
-IsViewed contents views.Free image old new = AreFreePrinted contents image old new
-IsViewed contents (views.Sector p) image old new = IsSectorPrinted contents image p old new
-
--- what was to be printed ended so
-pub record IsViewRun {W : Type 0} (contents : W → Option (List ℕ)) (what : View) (image : List ℕ) (old new : W)
-    (ended : Result Unit CommandFault) : Type 0 where
-  -- it was printed
-  pub done : OnOk ended (IsViewed contents what image old new)
-  -- otherwise the reported fault holds, and nothing was printed, unless the output failed
-  pub fault : IfErr ended (IsViewFault image)
-  pub untouched : IfErr ended (λ fault. fault ≢ faults.File → new ≡ old)

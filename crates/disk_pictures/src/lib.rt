@@ -39,7 +39,6 @@ mod tiles;
 mod trimming;
 mod verdicts;
 mod versions;
-mod views;
 mod white_lines;
 
 pub use comparing::compare_images;
@@ -55,4 +54,3 @@ pub use poster_printing::poster_image;
 pub use sector_printing::sector_image;
 pub use sheet_printing::{MOST_TILES, sheet_begin, sheet_finish, sheet_refusal, sheet_tile};
 pub use trimming::trim_image;
-pub use views::{View, view_image};

@@ -11,7 +11,7 @@ use Rattle.ledger_cli.specs.Jobs.{AreRefusedColumns, IsJob, IsNoJob, IsRefusedNa
 use Rattle.ledger_cli.specs.Forms.{candidates_in}
 use Rattle.ledger_cli.specs.Positions.{HasNoColumns}
 use Rattle.ledger_jobs.specs.declared.jobs.Job.TheVariants as jobs
-use Rattle.ledger_jobs.specs.declared.jobs.Taking.TheVariants as takings
+use Rattle.ledger_jobs.specs.declared.jobs.Look.TheVariants as looks
 use Rattle.ledger_cli.specs.declared.faults.JobFault.TheVariants as faults
 use Rattle.ledger_cli.specs.Names.{HasNoName, IsMakingJob, IsNamedJob, IsNewDiskJob, IsPuttingJob, IsRecordsJob}
 use Rattle.ledger_cli.specs.Names.{IsRenamingJob, IsStoringJob}
@@ -49,7 +49,7 @@ pub storing-met : (found : Option (Text × List Row)) (rows : List Row) (image :
     → IsStoringJob rows image r → MatchResult r (IsJob found) (IsNoJob [] found) × IfOk r IsFit
 storing-met found rows image r is by-image (inl (records, columns, by-records, by-columns, named)) =
     named-met found rows _ r
-    (λ name at. record { rows = rows; is = is; holds = (by-image, at, by-records, by-columns, refl) })
+    (λ name at. record { rows = rows; is = is; holds = (by-image, (at, by-records, by-columns, refl), refl) })
     (λ name. tt)
     (λ missing. inr (inl (record { rows = rows; is = is; holds = missing })))
     named
@@ -61,10 +61,10 @@ pub records-met : (found : Option (Text × List Row)) (rows : List Row) (image :
     → found ≡ Some (codes "records", rows) → image.now ≡ value (codes "IMAGE") rows
     → IsRecordsJob rows image r → MatchResult r (IsJob found) (IsNoJob [] found) × IfOk r IsFit
 records-met found rows image r is by-image (inl (form, by-form, named)) =
-    named-met found rows (jobs.Take (takings.Records form (candidates_in rows)) image) r
-    (λ name at. record { rows = rows; is = is; holds = (by-image, at, (by-form, refl)) })
+    named-met found rows (λ name. jobs.Look (looks.Records form (candidates_in rows) name) image) r
+    (λ name at. record { rows = rows; is = is; holds = (by-image, tt, (at, by-form, refl)) })
     (λ name. tt)
-    (λ missing. inl (takings.Records form (candidates_in rows), record { rows = rows; is = is; holds = missing }))
+    (λ missing. inl (inl (record { rows = rows; is = is; holds = missing })))
     named
 records-met found rows image r is by-image (inr (fault, same, none)) =
     no-columns found rows r fault same (inl (record { rows = rows; is = is; holds = none })) none
@@ -75,7 +75,7 @@ pub making-met : (found : Option (Text × List Row)) (rows : List Row) (image : 
     → IsMakingJob rows image r → MatchResult r (IsJob found) (IsNoJob [] found) × IfOk r IsFit
 making-met found rows image r is by-image (inl (name, size, same, at, new, by-size, fit)) =
     let P : Result Job JobFault → Type 0 = λ j. MatchResult j (IsJob found) (IsNoJob [] found) × IfOk j IsFit in
-    subst P (sym same) (record { rows = rows; is = is; holds = (by-image, at, by-size, refl) }, (new, fit))
+    subst P (sym same) (record { rows = rows; is = is; holds = (by-image, (at, by-size, refl), refl) }, (new, fit))
 making-met found rows image r is by-image (inr (inl (same, missing))) =
     let P : Result Job JobFault → Type 0 = λ j. MatchResult j (IsJob found) (IsNoJob [] found) × IfOk j IsFit in
     subst P (sym same) ((refl, inr (inr (inl (record { rows = rows; is = is; holds = missing })))), tt)
@@ -89,7 +89,7 @@ pub renaming-met : (found : Option (Text × List Row)) (rows : List Row) (image 
     → IsRenamingJob rows image r → MatchResult r (IsJob found) (IsNoJob [] found) × IfOk r IsFit
 renaming-met found rows image r is by-image (inl (from, to, same, old, new, fit)) =
     let P : Result Job JobFault → Type 0 = λ j. MatchResult j (IsJob found) (IsNoJob [] found) × IfOk j IsFit in
-    subst P (sym same) (record { rows = rows; is = is; holds = (by-image, old, new) }, fit)
+    subst P (sym same) (record { rows = rows; is = is; holds = (by-image, (old, new), refl) }, fit)
 renaming-met found rows image r is by-image (inr (same, missing)) =
     let P : Result Job JobFault → Type 0 = λ j. MatchResult j (IsJob found) (IsNoJob [] found) × IfOk j IsFit in
     subst P (sym same) ((refl, inr (inr (inr (inr (inl (record { rows = rows; is = is; holds = missing })))))), tt)
@@ -114,7 +114,7 @@ pub putting-met : (found : Option (Text × List Row)) (rows : List Row) (image :
     → IsPuttingJob rows image r → MatchResult r (IsJob found) (IsNoJob [] found) × IfOk r IsFit
 putting-met found rows image r is by-image (inl (name, file, kind, same, at, new, by-file, by-type)) =
     let P : Result Job JobFault → Type 0 = λ j. MatchResult j (IsJob found) (IsNoJob [] found) × IfOk j IsFit in
-    subst P (sym same) (record { rows = rows; is = is; holds = (by-image, at, by-file, by-type) }, new)
+    subst P (sym same) (record { rows = rows; is = is; holds = (by-image, (at, by-file, by-type), refl) }, new)
 putting-met found rows image r is by-image (inr (inl (same, missing))) =
     let P : Result Job JobFault → Type 0 = λ j. MatchResult j (IsJob found) (IsNoJob [] found) × IfOk j IsFit in
     subst P (sym same) ((refl, inr (inr (inr (inr (inr (inr (record { rows = rows; is = is; holds = missing }))))))), tt)

@@ -12,6 +12,7 @@ use Rattle.ledger_cli.specs.Flags.{is_given}
 use Rattle.ledger_cli.specs.Forms.{effect_in, loss_in, unowned_in}
 use Rattle.ledger_cli.specs.Numbers.{tills_in}
 use Rattle.ledger_jobs.specs.Jobs.{IsFit}
+use Rattle.ledger_jobs.specs.declared.jobs.Edit.TheVariants as edits
 use Rattle.ledger_jobs.specs.declared.jobs.Job.{Job}
 use Rattle.ledger_jobs.specs.declared.jobs.Job.TheVariants as jobs
 use Rattle.ledger_cli.specs.declared.faults.JobFault.{JobFault}
@@ -96,16 +97,16 @@ format-fit image tills false fit = fit
 -- that of `repair`: with --sides the side sectors are built anew first
 pub repair-met : (found : Option (Text × List Row)) (rows : List Row) (image : Bor Text) (sides : Bool)
     → is_given (codes "sides") rows ≡ sides → found ≡ Some (codes "repair", rows) → image.now ≡ value (codes "IMAGE") rows
-    → IsJob found (if sides then jobs.RepairSides image (loss_in rows) (unowned_in rows) (effect_in rows)
-    else jobs.Repair image (loss_in rows) (unowned_in rows) (effect_in rows))
+    → IsJob found (jobs.Change image (if sides then edits.RepairSides (loss_in rows) (unowned_in rows)
+    else edits.Repair (loss_in rows) (unowned_in rows)) (effect_in rows))
 repair-met found rows image true given is by-image =
-    record { rows = rows; is = is; holds = (by-image, refl, refl, refl, given) }
+    record { rows = rows; is = is; holds = (by-image, (refl, refl, given), refl) }
 repair-met found rows image false given is by-image =
-    record { rows = rows; is = is; holds = (by-image, refl, refl, refl, given) }
+    record { rows = rows; is = is; holds = (by-image, (refl, refl, given), refl) }
 
 pub repair-fit : (rows : List Row) (image : Bor Text) (sides : Bool)
-    → IsFit (if sides then jobs.RepairSides image (loss_in rows) (unowned_in rows) (effect_in rows)
-    else jobs.Repair image (loss_in rows) (unowned_in rows) (effect_in rows))
+    → IsFit (jobs.Change image (if sides then edits.RepairSides (loss_in rows) (unowned_in rows)
+    else edits.Repair (loss_in rows) (unowned_in rows)) (effect_in rows))
 repair-fit rows image true = tt
 repair-fit rows image false = tt
 

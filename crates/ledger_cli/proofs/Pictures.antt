@@ -5,10 +5,11 @@ use Rattle.clap.specs.Words.{Row, Text, found_of, rows_of}
 use Rattle.clap.specs.declared.parser.matches.ArgMatches.{ArgMatches}
 use Rattle.command_table.specs.Grammar.{value}
 use Rattle.ledger_jobs.specs.Jobs.{IsFit}
-use Rattle.ledger_jobs.specs.declared.jobs.Drawing.TheVariants as drawings
+use Rattle.ledger_jobs.specs.declared.jobs.Look.TheVariants as looks
 use Rattle.ledger_jobs.specs.declared.jobs.Job.{Job}
 use Rattle.ledger_jobs.specs.declared.jobs.Job.TheVariants as jobs
-use Rattle.ledger_cli.specs.Images.{IsForOne, IsNoPicture, IsPictureJob}
+use Rattle.ledger_cli.specs.Images.{IsNoPicture, IsPictureJob}
+use Rattle.ledger_cli.specs.Looks.{IsForOne}
 use Rattle.ledger_cli.specs.Jobs.{IsJob, IsNoJob}
 use Rattle.ledger_cli.specs.Flags.{is_given}
 use Rattle.ledger_cli.specs.declared.faults.JobFault.{JobFault}
@@ -18,14 +19,14 @@ use Rattle.ledger_cli.proofs.Parses.{met-has, met-is}
 picture-met : (found : Option (Text × List Row)) (rows : List Row) (image : Bor Text) (svg : Bool)
     → is_given (codes "svg") rows ≡ svg → found ≡ Some (codes "picture", rows)
     → image.now ≡ value (codes "IMAGE") rows → IsForOne rows
-    → IsJob found (if svg then jobs.Draw drawings.Poster image else jobs.Draw drawings.Picture image)
+    → IsJob found (if svg then jobs.Look looks.Poster image else jobs.Look looks.Picture image)
 picture-met found rows image true given is by-image one =
-    record { rows = rows; is = is; holds = (by-image, (given, one)) }
+    record { rows = rows; is = is; holds = (by-image, one, given) }
 picture-met found rows image false given is by-image one =
-    record { rows = rows; is = is; holds = (by-image, (given, one)) }
+    record { rows = rows; is = is; holds = (by-image, one, given) }
 
 picture-fit : (image : Bor Text) (svg : Bool)
-    → IsFit (if svg then jobs.Draw drawings.Poster image else jobs.Draw drawings.Picture image)
+    → IsFit (if svg then jobs.Look looks.Poster image else jobs.Look looks.Picture image)
 picture-fit image true = tt
 picture-fit image false = tt
 

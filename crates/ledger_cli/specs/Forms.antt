@@ -1,36 +1,31 @@
 -- The forms that the words ask for. Our own.
-use Rattle.std.specs.Prelude.{◌≡◌, false, List, Option, Some, None, Result, Ok, Err, codes, if◌then◌else◌, ⊤}
+use Rattle.std.specs.Prelude.{◌≡◌, List, Option, Some, None, Result, Ok, Err, codes, if◌then◌else◌}
 use Rattle.std.specs.Borrow.{Bor}
 use Rattle.clap.specs.Words.{Row, Text}
 use Rattle.ledger_jobs.specs.declared.jobs.Effect.{Effect}
 use Rattle.ledger_jobs.specs.declared.jobs.Job.{Job}
-use Rattle.ledger_jobs.specs.declared.jobs.Overview.{Overview}
 use Rattle.ledger_jobs.specs.declared.jobs.Loss.{Loss}
-use Rattle.ledger_jobs.specs.declared.jobs.Taking.{Taking}
 use Rattle.ledger_jobs.specs.declared.jobs.Unowned.{Unowned}
 use Rattle.keeper_commands.specs.declared.rescue.choices.Choice.{Choice}
 use Rattle.keeper_commands.specs.declared.finding.Candidates.{Candidates}
 use Rattle.keeper_commands.specs.declared.forms.ByteForm.{ByteForm}
 use Rattle.keeper_commands.specs.declared.forms.RecordForm.{RecordForm}
 use Rattle.ledger_jobs.specs.declared.jobs.Columns.{Columns}
-use Rattle.ledger_jobs.specs.declared.jobs.Findings.{Findings}
 use Rattle.line_text.specs.declared.petscii.characters.CharacterSet.{CharacterSet}
 use Rattle.line_text.specs.declared.petscii.characters.CharacterSet.TheVariants.{Graphics, Mixed}
 use Rattle.disk_reports.specs.declared.texts.NameForm.{NameForm}
 use Rattle.ledger_cli.specs.Flags.{is_given}
 use Rattle.ledger_cli.specs.Positions.{AsksForColumns, AsksForNone, HasNoColumns}
 use Rattle.ledger_cli.specs.declared.faults.JobFault.{JobFault}
+use Rattle.ledger_jobs.specs.declared.jobs.Edit.TheVariants as edits
 use Rattle.ledger_jobs.specs.declared.jobs.Effect.TheVariants as effects
 use Rattle.ledger_jobs.specs.declared.jobs.Job.TheVariants as jobs
-use Rattle.ledger_jobs.specs.declared.jobs.Overview.TheVariants as overviews
 use Rattle.ledger_jobs.specs.declared.jobs.Loss.TheVariants as losses
-use Rattle.ledger_jobs.specs.declared.jobs.Taking.TheVariants as takings
 use Rattle.ledger_jobs.specs.declared.jobs.Unowned.TheVariants as unowneds
 use Rattle.keeper_commands.specs.declared.finding.Candidates.TheVariants.{All, Closed}
 use Rattle.keeper_commands.specs.declared.forms.ByteForm.TheVariants as bytes
 use Rattle.keeper_commands.specs.declared.forms.RecordForm.TheVariants as records
 use Rattle.ledger_jobs.specs.declared.jobs.Columns.TheVariants as columns
-use Rattle.ledger_jobs.specs.declared.jobs.Findings.TheVariants as findings
 use Rattle.disk_reports.specs.declared.texts.NameForm.TheVariants as names
 
 -- the set of the text that is asked for: with --mixed the one with small letters, with only --text the other
@@ -90,10 +85,6 @@ choice_in rows = record { scanned = is_given (codes "scan") rows; deleted = is_g
 abbrev pub name_form_in : List Row → NameForm
 name_form_in rows = name_form (set_in rows)
 
--- which faults the flags ask for: the first, but with --all all of them
-abbrev pub findings_in : List Row → Findings
-findings_in rows = if is_given (codes "all") rows then findings.All else findings.First
-
 -- what is done if a disk has lost a part of a file: the job is refused, but with --accept-loss it goes on
 abbrev pub loss_in : List Row → Loss
 loss_in rows = if is_given (codes "accept-loss") rows then losses.Accepted else losses.Refused
@@ -109,16 +100,5 @@ effect_in rows = if is_given (codes "dry-run") rows then effects.Printed else ef
 -- the job that repairs an image: with --sides its side sectors are built anew first
 abbrev pub repair_job : List Row → Bor Text → Job
 repair_job rows image =
-    if is_given (codes "sides") rows then jobs.RepairSides image (loss_in rows) (unowned_in rows) (effect_in rows)
-    else jobs.Repair image (loss_in rows) (unowned_in rows) (effect_in rows)
-
--- the flags ask for what is taken in this form, and of these files
-abbrev pub IsTakenBy : Taking → List Row → Type 0
-IsTakenBy (takings.Records form candidates) rows = IsRecordForm rows form × (candidates ≡ candidates_in rows)
-IsTakenBy (takings.Bytes form candidates) rows = (form ≡ byte_form_in rows) × (candidates ≡ candidates_in rows)
-
--- the flags ask for this overview; with --json `check` describes images in place of it
-abbrev pub IsViewedBy : Overview → List Row → Type 0
-IsViewedBy (overviews.List form) rows = form ≡ name_form_in rows
-IsViewedBy (overviews.Check what) rows = (is_given (codes "json") rows ≡ false) × (what ≡ findings_in rows)
-IsViewedBy _ rows = ⊤
+    jobs.Change image (if is_given (codes "sides") rows then edits.RepairSides (loss_in rows) (unowned_in rows)
+    else edits.Repair (loss_in rows) (unowned_in rows)) (effect_in rows)

@@ -6,32 +6,19 @@ use Rattle.std.specs.declared.alloc.Global.{Global}
 use Rattle.clap.specs.declared.error.Error.{Error}
 use Rattle.clap.specs.Words.{HasKind, Row, Text}
 use Rattle.command_table.specs.Grammar.{value, values}
-use Rattle.ledger_jobs.specs.declared.jobs.Drawing.{Drawing}
 use Rattle.ledger_jobs.specs.declared.jobs.Job.{Job}
-use Rattle.ledger_jobs.specs.declared.jobs.Overview.{Overview}
+use Rattle.ledger_jobs.specs.declared.jobs.Look.{Look}
+use Rattle.ledger_jobs.specs.declared.jobs.Look.TheVariants as looks
 use Rattle.ledger_cli.specs.declared.faults.JobFault.{JobFault}
-use Rattle.ledger_cli.specs.Forms.{findings_in}
+use Rattle.ledger_cli.specs.Looks.{IsForOne, IsOne, check_in}
 use Rattle.ledger_cli.specs.Flags.{is_given}
-use Rattle.ledger_jobs.specs.declared.jobs.Drawing.TheVariants as drawings
 use Rattle.ledger_jobs.specs.declared.jobs.Job.TheVariants as jobs
-use Rattle.ledger_jobs.specs.declared.jobs.Overview.TheVariants as overviews
 use Rattle.ledger_cli.specs.declared.faults.JobFault.TheVariants as faults
-
--- the subcommand that draws an image so
-abbrev pub word_of_drawing : Drawing → Text
-word_of_drawing drawings.Map = codes "map"
-word_of_drawing drawings.Picture = codes "picture"
-word_of_drawing drawings.Poster = codes "picture"
 
 -- the job that draws an image for other eyes than a terminal's: with --svg as a poster
 abbrev pub picture_job : List Row → Bor Text → Job
 picture_job rows image =
-    if is_given (codes "svg") rows then jobs.Draw drawings.Poster image else jobs.Draw drawings.Picture image
-
--- neither a sheet nor a comparison is asked for, and there is one image
-abbrev pub IsForOne : List Row → Type 0
-IsForOne rows = (is_given (codes "sheet") rows ≡ false) × (is_given (codes "compare") rows ≡ false)
-    × (length (values (codes "IMAGE") rows) < 2)
+    if is_given (codes "svg") rows then jobs.Look looks.Poster image else jobs.Look looks.Picture image
 
 -- two of --svg, --sheet and --compare are given
 abbrev pub has_two_forms : List Row → Bool
@@ -59,28 +46,6 @@ IsNoPicture rows =
     ⊎ (((is_given (codes "compare") rows ≡ true) × (length (values (codes "IMAGE") rows) ≢ 2))
     ⊎ (has_two_forms rows ≡ true)))
 
--- the flags ask for this drawing; `map` has none, and draws one image so
-abbrev pub IsDrawnBy : Drawing → List Row → Type 0
-IsDrawnBy drawings.Map rows = length (values (codes "IMAGE") rows) < 2
-IsDrawnBy drawings.Picture rows = (is_given (codes "svg") rows ≡ false) × IsForOne rows
-IsDrawnBy drawings.Poster rows = (is_given (codes "svg") rows ≡ true) × IsForOne rows
-
--- the job that prints this of one image
-abbrev pub job_of_one : Overview → Bor Text → Job
-job_of_one (overviews.List form) image = jobs.List form image
-job_of_one (overviews.Check what) image = jobs.Check what image
-job_of_one overviews.Map image = jobs.Draw drawings.Map image
-
--- the subcommand that prints this
-abbrev pub word_of_overview : Overview → Text
-word_of_overview (overviews.List form) = codes "list"
-word_of_overview (overviews.Check what) = codes "check"
-word_of_overview overviews.Map = codes "map"
-
--- this is the only image
-abbrev pub IsOnlyImage : List Row → Text → Type 0
-IsOnlyImage rows image = (image ≡ value (codes "IMAGE") rows) × (length (values (codes "IMAGE") rows) < 2)
-
 -- these are the images, in their order, and there are several
 abbrev pub AreImages : List Row → List (Bor Text) → Type 0
 AreImages rows images = (map (λ image. image.now) images ≡ values (codes "IMAGE") rows) × (2 ≤ length images)
@@ -91,15 +56,15 @@ AreDescribed rows images = (is_given (codes "json") rows ≡ true)
     × (map (λ image. image.now) images ≡ values (codes "IMAGE") rows)
 
 -- the job that prints this of these images; or there was no memory for it
-abbrev pub IsSeveral : Overview → List (Bor Text) → Result Job JobFault → Type 0
+abbrev pub IsSeveral : Look → List (Bor Text) → Result Job JobFault → Type 0
 IsSeveral what images result =
     ((all : Vec (Bor Text) Global) × (result ≡ Ok (jobs.Several what all)) × (vec_items all ≡ images))
     ⊎ ((e : Error) × (result ≡ Err (faults.Words e)) × HasKind [] e)
 
 -- the job, or why there is none, of a subcommand that prints this of one image, or of several
-abbrev pub IsOverviewJob : List Row → Overview → Result Job JobFault → Type 0
-IsOverviewJob rows what result =
-    ((image : Bor Text) × (result ≡ Ok (job_of_one what image)) × IsOnlyImage rows image.now)
+abbrev pub IsLookJob : List Row → Look → Result Job JobFault → Type 0
+IsLookJob rows what result =
+    ((image : Bor Text) × (result ≡ Ok (jobs.Look what image)) × (image.now ≡ value (codes "IMAGE") rows) × IsOne rows)
     ⊎ (((images : Vec (Bor Text) Global) × (result ≡ Ok (jobs.Several what images)) × AreImages rows (vec_items images))
     ⊎ ((e : Error) × (result ≡ Err (faults.Words e)) × HasKind [] e))
 
@@ -112,7 +77,7 @@ IsDescribing images result =
 -- the job, or why there is none, of the subcommand that checks images, or describes each
 abbrev pub IsCheckJob : List Row → Result Job JobFault → Type 0
 IsCheckJob rows result =
-    ((is_given (codes "json") rows ≡ false) × IsOverviewJob rows (overviews.Check (findings_in rows)) result)
+    ((is_given (codes "json") rows ≡ false) × IsLookJob rows (check_in rows) result)
     ⊎ (((images : Vec (Bor Text) Global) × (result ≡ Ok (jobs.Describe images)) × AreDescribed rows (vec_items images))
     ⊎ ((e : Error) × (result ≡ Err (faults.Words e)) × HasKind [] e))
 

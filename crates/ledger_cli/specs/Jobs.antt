@@ -5,23 +5,19 @@ use Rattle.std.specs.Option.{option_map_or}
 use Rattle.clap.specs.Words.{HasKind, Kinds, Row, Text, found_of, rows_of, subcommand_rows_of}
 use Rattle.clap.specs.declared.parser.matches.ArgMatches.{ArgMatches}
 use Rattle.command_table.specs.Grammar.{value}
+use Rattle.ledger_jobs.specs.declared.jobs.Edit.{Edit}
+use Rattle.ledger_jobs.specs.declared.jobs.Edit.TheVariants as edits
 use Rattle.ledger_jobs.specs.declared.jobs.Job.{Job}
-use Rattle.ledger_jobs.specs.declared.jobs.Taking.{Taking}
-use Rattle.disk_pictures.specs.declared.views.View.{View}
 use Rattle.ledger_jobs.specs.Names.{IsNameOf, name_bytes}
 use Rattle.ledger_cli.specs.declared.faults.JobFault.{JobFault}
 use Rattle.ledger_cli.specs.Numbers.{tills_in, length_in, place_in}
-use Rattle.ledger_cli.specs.Forms.{AreColumns, loss_in, unowned_in, effect_in, IsTakenBy}
-use Rattle.ledger_cli.specs.Forms.{IsViewedBy, choice_in}
-use Rattle.ledger_cli.specs.Images.{word_of_drawing, AreCompared, AreOnSheet, IsNoPicture, IsDrawnBy}
-use Rattle.ledger_cli.specs.Images.{word_of_overview, IsOnlyImage, AreImages, AreDescribed}
+use Rattle.ledger_cli.specs.Forms.{AreColumns, choice_in, effect_in, loss_in, unowned_in}
+use Rattle.ledger_cli.specs.Images.{AreCompared, AreDescribed, AreImages, AreOnSheet, IsNoPicture}
+use Rattle.ledger_cli.specs.Looks.{IsAlone, IsAskedBy, word_of}
 use Rattle.ledger_cli.specs.Names.{HasNoName, HasNoNewName, HasName, HasNewName, IsIdOf, HasNoId, HasNoRenaming, type_in}
 use Rattle.ledger_cli.specs.Flags.{is_given}
 use Rattle.ledger_cli.specs.Positions.{HasNoColumns}
 use Rattle.ledger_jobs.specs.declared.jobs.Job.TheVariants as jobs
-use Rattle.ledger_jobs.specs.declared.jobs.Overview.TheVariants as overviews
-use Rattle.ledger_jobs.specs.declared.jobs.Taking.TheVariants as takings
-use Rattle.disk_pictures.specs.declared.views.View.TheVariants as views
 use Rattle.ledger_cli.specs.declared.faults.JobFault.TheVariants as faults
 
 -- the subcommand is this one, and of its values this holds
@@ -38,20 +34,31 @@ pub record IsParse (kinds : Kinds) (top : List Row) (found : Option (Text × Lis
     pub before : rows_of (found_of matches) ≡ top
     pub is : subcommand_rows_of matches ≡ found
 
--- the subcommand that prints this of an image that isn't checked
-abbrev pub word_of_view : View → Text
-word_of_view views.Free = codes "free"
-word_of_view (views.Sector place) = codes "sector"
+-- the subcommand that changes an image so
+abbrev pub word_of_edit : Edit → Text
+word_of_edit (edits.Repair loss unowned) = codes "repair"
+word_of_edit (edits.RepairSides loss unowned) = codes "repair"
+word_of_edit (edits.Make length loss name) = codes "make"
+word_of_edit (edits.Rename from to) = codes "rename"
+word_of_edit (edits.Delete name) = codes "delete"
+word_of_edit (edits.Put file kind name) = codes "put"
+word_of_edit (edits.Store records columns loss name) = codes "store"
 
--- and the sector, if there is one, is that which the words give
-abbrev pub IsViewIn : List Row → View → Type 0
-IsViewIn rows views.Free = Unit {0}
-IsViewIn rows (views.Sector place) = place_in rows ≡ Some place
-
--- the subcommand that takes this out of an image
-abbrev pub word_of_taking : Taking → Text
-word_of_taking (takings.Records form candidates) = codes "records"
-word_of_taking (takings.Bytes form candidates) = codes "bytes"
+-- the values and the flags ask for this change
+abbrev pub IsEditIn : Edit → List Row → Type 0
+IsEditIn (edits.Repair loss unowned) rows = (loss ≡ loss_in rows) × (unowned ≡ unowned_in rows)
+    × (is_given (codes "sides") rows ≡ false)
+IsEditIn (edits.RepairSides loss unowned) rows = (loss ≡ loss_in rows) × (unowned ≡ unowned_in rows)
+    × (is_given (codes "sides") rows ≡ true)
+IsEditIn (edits.Make length loss name) rows = IsNameOf (value (codes "NAME") rows) (name_bytes name)
+    × (length_in rows ≡ Some length) × (loss ≡ loss_in rows)
+IsEditIn (edits.Rename from to) rows = IsNameOf (value (codes "OLD") rows) (name_bytes from)
+    × IsNameOf (value (codes "NEW") rows) (name_bytes to)
+IsEditIn (edits.Delete name) rows = IsNameOf (value (codes "NAME") rows) (name_bytes name)
+IsEditIn (edits.Put file kind name) rows = IsNameOf (value (codes "NAME") rows) (name_bytes name)
+    × (file.now ≡ value (codes "FILE") rows) × (type_in rows ≡ Some kind)
+IsEditIn (edits.Store records columns loss name) rows = IsNameOf (value (codes "NAME") rows) (name_bytes name)
+    × (records.now ≡ value (codes "RECORDS") rows) × AreColumns rows columns × (loss ≡ loss_in rows)
 
 -- the words ask for more lines if the job isn't done, before the subcommand or after it
 abbrev pub is_explained : List Row → Option (Text × List Row) → Bool
@@ -71,19 +78,14 @@ IsJob found (jobs.Format image tills) = Has found (codes "format")
 IsJob found (jobs.FormatNew image tills) = Has found (codes "format")
     (λ rows. (image.now ≡ value (codes "IMAGE") rows) × (tills_in rows ≡ Some tills)
     × (is_given (codes "new") rows ≡ true))
-IsJob found (jobs.List form image) = Has found (codes "list")
-    (λ rows. IsOnlyImage rows image.now × IsViewedBy (overviews.List form) rows)
-IsJob found (jobs.Check what image) = Has found (codes "check")
-    (λ rows. IsOnlyImage rows image.now × IsViewedBy (overviews.Check what) rows)
+IsJob found (jobs.Look what image) = Has found (word_of what)
+    (λ rows. (image.now ≡ value (codes "IMAGE") rows) × IsAlone what rows × IsAskedBy what rows)
 IsJob found (jobs.Describe images) = Has found (codes "check") (λ rows. AreDescribed rows (vec_items images))
 IsJob found (jobs.Sheet images) = Has found (codes "picture") (λ rows. AreOnSheet rows (vec_items images))
 IsJob found (jobs.Compare before after) = Has found (codes "picture") (λ rows. AreCompared rows before.now after.now)
-IsJob found (jobs.View what image) = Has found (word_of_view what)
-    (λ rows. (image.now ≡ value (codes "IMAGE") rows) × IsViewIn rows what)
 IsJob found (jobs.Trim image) = Has found (codes "trim") (λ rows. image.now ≡ value (codes "IMAGE") rows)
-IsJob found (jobs.Several what images) = Has found (word_of_overview what)
-    (λ rows. AreImages rows (vec_items images) × IsViewedBy what rows)
-IsJob found (jobs.Show image) = Has found (codes "show") (λ rows. image.now ≡ value (codes "IMAGE") rows)
+IsJob found (jobs.Several what images) = Has found (word_of what)
+    (λ rows. AreImages rows (vec_items images) × IsAskedBy what rows)
 IsJob found (jobs.Play image script) = Has found (codes "play")
     (λ rows. (image.now ≡ value (codes "IMAGE") rows) × (script.now ≡ value (codes "SCRIPT") rows)
     × (is_given (codes "sync") rows ≡ false))
@@ -98,39 +100,16 @@ IsJob found (jobs.Copy image copy) = Has found (codes "copy")
 IsJob found (jobs.Extract choice image folder) = Has found (codes "extract")
     (λ rows. (image.now ≡ value (codes "IMAGE") rows) × (folder.now ≡ value (codes "FOLDER") rows)
     × (choice ≡ choice_in rows))
-IsJob found (jobs.Repair image loss unowned effect) = Has found (codes "repair")
-    (λ rows. (image.now ≡ value (codes "IMAGE") rows) × (loss ≡ loss_in rows) × (unowned ≡ unowned_in rows)
-    × (effect ≡ effect_in rows) × (is_given (codes "sides") rows ≡ false))
-IsJob found (jobs.RepairSides image loss unowned effect) = Has found (codes "repair")
-    (λ rows. (image.now ≡ value (codes "IMAGE") rows) × (loss ≡ loss_in rows) × (unowned ≡ unowned_in rows)
-    × (effect ≡ effect_in rows) × (is_given (codes "sides") rows ≡ true))
-IsJob found (jobs.Take what image name) = Has found (word_of_taking what)
-    (λ rows. (image.now ≡ value (codes "IMAGE") rows) × IsNameOf (value (codes "NAME") rows) (name_bytes name)
-    × IsTakenBy what rows)
-IsJob found (jobs.Make image length loss name) = Has found (codes "make")
-    (λ rows. (image.now ≡ value (codes "IMAGE") rows) × IsNameOf (value (codes "NAME") rows) (name_bytes name)
-    × (length_in rows ≡ Some length) × (loss ≡ loss_in rows))
-IsJob found (jobs.Store image records columns loss name) = Has found (codes "store")
-    (λ rows. (image.now ≡ value (codes "IMAGE") rows) × IsNameOf (value (codes "NAME") rows) (name_bytes name)
-    × (records.now ≡ value (codes "RECORDS") rows) × AreColumns rows columns × (loss ≡ loss_in rows))
-IsJob found (jobs.Rename image from to) = Has found (codes "rename")
-    (λ rows. (image.now ≡ value (codes "IMAGE") rows) × IsNameOf (value (codes "OLD") rows) (name_bytes from)
-    × IsNameOf (value (codes "NEW") rows) (name_bytes to))
-IsJob found (jobs.Delete image name) = Has found (codes "delete")
-    (λ rows. (image.now ≡ value (codes "IMAGE") rows) × IsNameOf (value (codes "NAME") rows) (name_bytes name))
-IsJob found (jobs.Put image file kind name) = Has found (codes "put")
-    (λ rows. (image.now ≡ value (codes "IMAGE") rows) × IsNameOf (value (codes "NAME") rows) (name_bytes name)
-    × (file.now ≡ value (codes "FILE") rows) × (type_in rows ≡ Some kind))
+IsJob found (jobs.Change image edit effect) = Has found (word_of_edit edit)
+    (λ rows. (image.now ≡ value (codes "IMAGE") rows) × IsEditIn edit rows × (effect ≡ effect_in rows))
 IsJob found (jobs.New image name id) = Has found (codes "new")
     (λ rows. (image.now ≡ value (codes "IMAGE") rows) × IsNameOf (value (codes "N") rows) (name_bytes name)
     × IsIdOf (value (codes "I") rows) id)
-IsJob found (jobs.Draw what image) = Has found (word_of_drawing what)
-    (λ rows. (image.now ≡ value (codes "IMAGE") rows) × IsDrawnBy what rows)
 
 -- the text of a name is none that the subcommand takes
 abbrev pub IsRefusedName : Option (Text × List Row) → Type 0
 IsRefusedName found =
-    ((what : Taking) × Has found (word_of_taking what) (HasNoName (codes "NAME")))
+    (Has found (codes "records") (HasNoName (codes "NAME")) ⊎ Has found (codes "bytes") (HasNoName (codes "NAME")))
     ⊎ (Has found (codes "store") (HasNoName (codes "NAME")) ⊎ (Has found (codes "make") (HasNoNewName (codes "NAME"))
     ⊎ (Has found (codes "delete") (HasNoName (codes "NAME")) ⊎ (Has found (codes "rename") HasNoRenaming
     ⊎ (Has found (codes "new") (HasNoName (codes "N")) ⊎ Has found (codes "put") (HasNoNewName (codes "NAME")))))))

@@ -1,12 +1,5 @@
 -- What comes of a job that is run over the bytes of its files. All of it is our own.
 use Rattle.ledger_cli.specs.Changed.{IsChangeJob}
-use Rattle.disk_changes.specs.Deletes.{IsDeleteRefusal, IsDeleted}
-use Rattle.disk_changes.specs.Makes.{IsMade, IsMakeRefusal}
-use Rattle.disk_changes.specs.Puts.{IsPut, IsPutRefusal}
-use Rattle.disk_changes.specs.Rebuilds.{IsRebuildRefusal, IsRebuilt}
-use Rattle.disk_changes.specs.Renames.{IsRenameRefusal, IsRenamed}
-use Rattle.disk_changes.specs.Repairs.{IsRepairRefusal, IsRepaired}
-use Rattle.disk_changes.specs.Stores.{IsStoreRefusal, IsStored}
 use Rattle.std.specs.Prelude.{◌≡◌, ◌⊎◌, ℕ, List, Option, None, Some, Result, Ok, Err, length}
 use Rattle.d64_image.specs.declared.device_as_file.DeviceAsFile.{DeviceAsFile}
 use Rattle.d64_image.specs.declared.mirror.Mirror.{Mirror}
@@ -17,33 +10,16 @@ use Rattle.line_text.specs.Handed.{AppendsPart}
 use Rattle.command_faults.specs.declared.faults.CommandFault.{CommandFault}
 use Rattle.command_faults.specs.declared.faults.CommandFault.TheVariants as faults
 use Rattle.ledger_jobs.specs.Comparisons.{IsComparingRun}
-use Rattle.ledger_jobs.specs.Drawings.{IsDrawingRun}
 use Rattle.ledger_jobs.specs.Ends.{EndsAs, JobEnd, as_job, as_run, end_status, refusal_line}
-use Rattle.ledger_jobs.specs.Listings.{IsListingRun}
-use Rattle.ledger_jobs.specs.Jobs.{frees, shortened}
-use Rattle.ledger_jobs.specs.Losses.{IsTakingEnd}
+use Rattle.ledger_jobs.specs.Edits.{IsEdited, IsUnedited}
 use Rattle.ledger_jobs.specs.Names.{name_bytes}
 use Rattle.ledger_jobs.specs.NewDisks.{IsNewImage}
 use Rattle.shop_commands.specs.Images.{AreFreshBytes}
-use Rattle.ledger_jobs.specs.Runs.{IsPlayRun, IsReadingEnd}
-use Rattle.disk_pictures.specs.Views.{IsViewRun}
+use Rattle.ledger_jobs.specs.Looks.{IsLook}
+use Rattle.ledger_jobs.specs.Runs.{IsDryRun, IsPlayRun}
 use Rattle.ledger_jobs.specs.declared.jobs.Job.{Job}
 use Rattle.ledger_jobs.specs.declared.jobs.Job.TheVariants as jobs
-use Rattle.ledger_jobs.specs.declared.jobs.Effect.TheVariants.{Written}
-use Rattle.ledger_jobs.specs.declared.jobs.Findings.{Findings}
-use Rattle.ledger_jobs.specs.declared.jobs.Findings.TheVariants as findings
-use Rattle.ledger_jobs.specs.declared.jobs.Reading.{Reading}
-use Rattle.ledger_jobs.specs.declared.jobs.Reading.TheVariants as readings
 use Rattle.ledger_jobs.specs.declared.refusals.Refusal.TheVariants as refusals
-
--- what was asked of these bytes ended so
-abbrev pub IsRead : {W : Type 0} → (W → Option (List ℕ)) → Reading → List ℕ → W → W → JobEnd → Type 0
-IsRead contents what bytes old new end = EndsAs as_job end (IsReadingEnd contents what bytes old new)
-
--- a check of these bytes, of the first fault or of all, ended so
-abbrev pub IsChecked : {W : Type 0} → (W → Option (List ℕ)) → Findings → List ℕ → W → W → JobEnd → Type 0
-IsChecked contents findings.First image old new end = IsRead contents readings.Check image old new end
-IsChecked contents findings.All image old new end = EndsAs as_job end (IsListingRun contents image old new)
 
 -- A job that writes an image wasn't begun: the file and the output are as they were.
 pub record IsUnbegun {F W : Type 0} (image : List ℕ) (file after : Option F) (old new : W) (end : JobEnd) : Type 0 where
@@ -105,14 +81,8 @@ module _ {F : Type 0} (position : F → Option ℕ) (bytes contents : F → Opti
       IsFormatted told tills file after old new end
   IsJobRun told (jobs.New path name id) image script file after old new end =
       IsNewMade told (name_bytes name) id file after old new end
-  IsJobRun told (jobs.List form path) image script file after old new end =
-      (after ≡ file) × IsRead told (readings.List form) image old new end
-  IsJobRun told (jobs.Check what path) image script file after old new end =
-      (after ≡ file) × IsChecked told what image old new end
-  IsJobRun told (jobs.Show path) image script file after old new end =
-      (after ≡ file) × IsRead told readings.Show image old new end
-  IsJobRun told (jobs.Dry path) image script file after old new end =
-      (after ≡ file) × IsRead told readings.Dry script old new end
+  IsJobRun told (jobs.Look what path) image script file after old new end = (after ≡ file) × IsLook told what image old new end
+  IsJobRun told (jobs.Dry path) image script file after old new end = (after ≡ file) × IsDryRun told script old new end
   IsJobRun told (jobs.Play path text) image script file after old new end =
       IsPlayed told image script file after old new end
   IsJobRun told (jobs.PlayLogged path text) image script file after old new end =
@@ -120,34 +90,12 @@ module _ {F : Type 0} (position : F → Option ℕ) (bytes contents : F → Opti
   IsJobRun told (jobs.Serve path loss) image script file after old new end =
       (after ≡ file) × (new ≡ old) × (end ≡ Err (refusals.Fault faults.File))
   IsJobRun told (jobs.Copy path copy) image script file after old new end = IsCopyJob told image file after old new end
-  IsJobRun told (jobs.Repair path loss u effect) image script file after old new end =
-      IsChangeJob position bytes contents told effect (IsRepaired image (frees u) (shortened loss)) (IsRepairRefusal image) file after old new end
-  IsJobRun told (jobs.RepairSides path loss u effect) image script file after old new end =
-      IsChangeJob position bytes contents told effect (IsRebuilt image (frees u) (shortened loss)) (IsRebuildRefusal image) file after old new end
-  IsJobRun told (jobs.Make path L loss name) image script file after old new end = IsChangeJob position bytes contents told Written
-      (IsMade image (name_bytes name) L (shortened loss)) (IsMakeRefusal image (name_bytes name) (shortened loss))
-      file after old new end
-  IsJobRun told (jobs.Rename path from to) image script file after old new end = IsChangeJob position bytes contents told Written
-      (IsRenamed image (name_bytes from) (name_bytes to)) (IsRenameRefusal image (name_bytes from) (name_bytes to))
-      file after old new end
-  IsJobRun told (jobs.Delete path name) image script file after old new end = IsChangeJob position bytes contents told Written
-      (IsDeleted image (name_bytes name)) (IsDeleteRefusal image (name_bytes name)) file after old new end
-  IsJobRun told (jobs.Put path source kind name) image script file after old new end = IsChangeJob position bytes contents told Written
-      (IsPut image (name_bytes name) kind script) (IsPutRefusal image (name_bytes name) kind script)
-      file after old new end
-  IsJobRun told (jobs.Store path text c loss name) image script file after old new end = IsChangeJob position bytes contents told Written
-      (IsStored image (name_bytes name) script (shortened loss))
-      (IsStoreRefusal image (name_bytes name) script (shortened loss)) file after old new end
-  IsJobRun told (jobs.Take what path name) image script file after old new end =
-      (after ≡ file) × IsTakingEnd told what image (name_bytes name) old new end
-  IsJobRun told (jobs.Draw what path) image script file after old new end =
-      (after ≡ file) × EndsAs as_job end (IsDrawingRun told what image old new)
-  IsJobRun told (jobs.View what path) image script file after old new end =
-      (after ≡ file) × EndsAs as_run end (IsViewRun told what image old new)
+  IsJobRun told (jobs.Change path edit effect) image script file after old new end = IsChangeJob position bytes contents told effect
+      (IsEdited edit script image) (IsUnedited edit script image) file after old new end
   IsJobRun told (jobs.Trim path) image script file after old new end =
       (after ≡ file) × (new ≡ old) × (end ≡ Err (refusals.Fault faults.File))
   IsJobRun told (jobs.Compare before later) image script file after old new end =
-      (after ≡ file) × EndsAs as_job end (IsComparingRun told image script old new)
+      (after ≡ file) × IsComparingRun told image script old new end
   IsJobRun told (jobs.Several what paths) image script file after old new end =
       (after ≡ file) × (new ≡ old) × (end ≡ Err (refusals.Fault faults.File))
   IsJobRun told (jobs.Sheet paths) image script file after old new end =

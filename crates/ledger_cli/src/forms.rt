@@ -3,8 +3,9 @@ ghost use Rattle.std.specs.Prelude.{◌≡◌};
 ghost use Rattle.clap.specs.Words.{found_of, rows_of};
 ghost use Rattle.ledger_cli.specs.Forms.{record_form as of_set};
 ghost use Rattle.ledger_cli.specs.Forms.{effect_in, loss_in, repair_job, unowned_in};
-ghost use Rattle.ledger_cli.specs.Forms.{AreAskedColumns, IsAskedForm, byte_form_in, findings_in, name_form_in, set_in};
+ghost use Rattle.ledger_cli.specs.Forms.{AreAskedColumns, IsAskedForm, byte_form_in, name_form_in, set_in};
 ghost use Rattle.ledger_cli.specs.Forms.{candidates_in, choice_in};
+ghost use Rattle.ledger_cli.specs.Looks.{check_in};
 
 use crate::faults::JobFault;
 use crate::positions::columns_asked;
@@ -12,7 +13,7 @@ use crate::values::is_given;
 use clap::ArgMatches;
 use disk_reports::NameForm;
 use keeper_commands::{ByteForm, Candidates, Choice, RecordForm};
-use ledger_jobs::{Columns, Effect, Findings, Job, Loss, Unowned};
+use ledger_jobs::{Columns, Edit, Effect, Job, Look, Loss, Unowned};
 use line_text::CharacterSet;
 
 /// What is done if the disk has lost a part of a file.
@@ -37,8 +38,8 @@ fn unowned<'a>(matches: &ArgMatches<'a>) -> Unowned
     }
 }
 
-/// Whether a repair writes the image.
-fn effect<'a>(matches: &ArgMatches<'a>) -> Effect
+/// Whether a change writes the image.
+pub(crate) fn effect<'a>(matches: &ArgMatches<'a>) -> Effect
     ensures { result ≡ effect_in (rows_of (found_of matches.now)) }
 {
     if is_given(matches, "dry-run") {
@@ -53,20 +54,15 @@ pub(crate) fn repairing<'a>(matches: &ArgMatches<'a>, image: &'a str) -> Job<'a>
     ensures { result ≡ repair_job (rows_of (found_of matches.now)) image.entry }
 {
     let (loss, unowned, effect) = (loss(matches), unowned(matches), effect(matches));
-    if is_given(matches, "sides") {
-        Job::RepairSides {
-            image,
-            loss,
-            unowned,
-            effect,
-        }
+    let edit = if is_given(matches, "sides") {
+        Edit::RepairSides { loss, unowned }
     } else {
-        Job::Repair {
-            image,
-            loss,
-            unowned,
-            effect,
-        }
+        Edit::Repair { loss, unowned }
+    };
+    Job::Change {
+        image,
+        edit,
+        effect,
     }
 }
 
@@ -147,13 +143,13 @@ pub(crate) fn choice<'a>(matches: &ArgMatches<'a>) -> Choice
 }
 
 /// Which faults of an image are printed.
-pub(crate) fn findings<'a>(matches: &ArgMatches<'a>) -> Findings
-    ensures { result ≡ findings_in (rows_of (found_of matches.now)) }
+pub(crate) fn checked<'a>(matches: &ArgMatches<'a>) -> Look
+    ensures { result ≡ check_in (rows_of (found_of matches.now)) }
 {
     if is_given(matches, "all") {
-        Findings::All
+        Look::Faults
     } else {
-        Findings::First
+        Look::Check
     }
 }
 

@@ -1,15 +1,15 @@
 //! The jobs over images, and the drawings of them.
 ghost use Rattle.std.specs.Prelude.{◌≡◌};
 ghost use Rattle.clap.specs.Words.{found_of, rows_of};
-ghost use Rattle.ledger_cli.specs.Images.{IsCheckJob, IsDescribing, IsOverviewJob, IsComparing, IsPictureJob};
-ghost use Rattle.ledger_cli.specs.Images.{IsSeveral, IsSheet, job_of_one, picture_job, has_two_forms as two_forms};
+ghost use Rattle.ledger_cli.specs.Images.{IsCheckJob, IsDescribing, IsLookJob, IsComparing, IsPictureJob};
+ghost use Rattle.ledger_cli.specs.Images.{IsSeveral, IsSheet, picture_job, has_two_forms as two_forms};
 
 use crate::faults::JobFault;
-use crate::forms::findings;
+use crate::forms::checked;
 use crate::values::{is_given, value_of, values_of};
 use clap::{ArgMatches, Error};
 use disk_pictures::MOST_TILES;
-use ledger_jobs::{Drawing, Job, Overview};
+use ledger_jobs::{Job, Look};
 use std::alloc::{AllocError, Global};
 
 /// The job that draws an image as a page or as a poster.
@@ -17,13 +17,13 @@ fn drawn_alone<'a>(matches: &ArgMatches<'a>, image: &'a str) -> Job<'a>
     ensures { result ≡ picture_job (rows_of (found_of matches.now)) image.entry }
 {
     if is_given(matches, "svg") {
-        Job::Draw {
-            what: Drawing::Poster,
+        Job::Look {
+            what: Look::Poster,
             image,
         }
     } else {
-        Job::Draw {
-            what: Drawing::Picture,
+        Job::Look {
+            what: Look::Picture,
             image,
         }
     }
@@ -88,22 +88,8 @@ pub(crate) fn picturing<'a>(alloc: Global, matches: &ArgMatches<'a>) -> Result<J
     Ok(drawn_alone(matches, value_of(matches, "IMAGE")))
 }
 
-/// The job that prints this of one image.
-fn of_one<'a>(what: Overview, image: &'a str) -> Job<'a>
-    ensures { result ≡ job_of_one what image.entry }
-{
-    match what {
-        Overview::List(form) => Job::List { form, image },
-        Overview::Check(findings) => Job::Check { findings, image },
-        Overview::Map => Job::Draw {
-            what: Drawing::Map,
-            image,
-        },
-    }
-}
-
 /// The job that prints this of these images.
-fn of_several<'a>(alloc: Global, what: Overview, images: &[&'a str]) -> Result<Job<'a>, JobFault>
+fn of_several<'a>(alloc: Global, what: Look, images: &[&'a str]) -> Result<Job<'a>, JobFault>
     ensures { IsSeveral what images.now result }
 {
     let mut all = Vec::new(alloc);
@@ -117,16 +103,16 @@ fn of_several<'a>(alloc: Global, what: Overview, images: &[&'a str]) -> Result<J
 pub(crate) fn viewing<'a>(
     alloc: Global,
     matches: &ArgMatches<'a>,
-    what: Overview,
+    what: Look,
 ) -> Result<Job<'a>, JobFault>
-    ensures { IsOverviewJob (rows_of (found_of matches.now)) what result }
+    ensures { IsLookJob (rows_of (found_of matches.now)) what result }
 {
     let image = value_of(matches, "IMAGE");
     let Some(images) = values_of(matches, "IMAGE") else {
-        return Ok(of_one(what, image));
+        return Ok(Job::Look { what, image });
     };
     if images.len() < 2 {
-        return Ok(of_one(what, image));
+        return Ok(Job::Look { what, image });
     }
     of_several(alloc, what, images)
 }
@@ -147,7 +133,7 @@ pub(crate) fn checking<'a>(alloc: Global, matches: &ArgMatches<'a>) -> Result<Jo
     ensures { IsCheckJob (rows_of (found_of matches.now)) result }
 {
     if !is_given(matches, "json") {
-        return viewing(alloc, matches, Overview::Check(findings(matches)));
+        return viewing(alloc, matches, checked(matches));
     }
     let Some(images) = values_of(matches, "IMAGE") else {
         // A parse without an image is refused.

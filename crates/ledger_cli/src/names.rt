@@ -3,39 +3,67 @@ ghost use Rattle.std.specs.Prelude.{◌≡◌, ℕ, IfSome, IsNone, List, codes}
 ghost use Rattle.std.specs.Borrow.{Bor};
 ghost use Rattle.clap.specs.Words.{Text};
 ghost use Rattle.command_table.specs.Grammar.{value};
-ghost use Rattle.ledger_cli.specs.Forms.{loss_in};
+ghost use Rattle.ledger_cli.specs.Forms.{byte_form_in, candidates_in, effect_in, loss_in};
 ghost use Rattle.clap.specs.Words.{found_of, rows_of};
 ghost use Rattle.line_text.specs.bytes.Texts.{AreBytes};
 ghost use Rattle.keeper_commands.specs.Makes.{IsNewName};
 ghost use Rattle.ledger_jobs.specs.Names.{IsNameOf, name_bytes};
 ghost use Rattle.ledger_cli.specs.Names.{IsMakingJob, IsStoringJob, IsNamedJob, IsRecordsJob, IsRenamingJob, IsNewDiskJob, IsIdOf};
 ghost use Rattle.ledger_cli.specs.Names.{IsPuttingJob, type_named as named_type};
+ghost use Rattle.ledger_jobs.specs.declared.jobs.Edit.TheVariants as edits;
 ghost use Rattle.ledger_jobs.specs.declared.jobs.Job.TheVariants as jobs;
+ghost use Rattle.ledger_jobs.specs.declared.jobs.Look.TheVariants as looks;
 
 use crate::faults::JobFault;
-use crate::forms::{candidates, columns, loss, record_form};
+use crate::forms::{byte_form, candidates, columns, effect, loss, record_form};
 use crate::numbers::length_of;
 use crate::values::value_of;
 use clap::ArgMatches;
 use file_changes::FileType;
-use ledger_jobs::{Columns, Job, Name, Taking};
+use keeper_commands::RecordForm;
+use ledger_jobs::{Columns, Edit, Job, Look, Name};
 use line_text::read_text;
 
-/// The job that takes this out of an image, of the file of a name.
-pub(crate) fn taking<'a>(
+/// The job that prints the bytes of the file of a name.
+pub(crate) fn taking_bytes<'a>(
     matches: &ArgMatches<'a>,
-    what: Taking,
     image: &'a str,
 ) -> Result<Job<'a>, JobFault>
-    ensures { IsNamedJob (rows_of (found_of matches.now)) (λ name. jobs.Take what image.entry name) result }
+    ensures { let rows = rows_of (found_of matches.now) in
+        IsNamedJob rows (λ name. jobs.Look (looks.Bytes (byte_form_in rows) (candidates_in rows) name) image.entry) result }
 {
-    match Name::read(value_of(matches, "NAME")) {
-        Some(name) => Ok(Job::Take { what, image, name }),
-        None => Err(JobFault::Name),
-    }
+    let Some(name) = Name::read(value_of(matches, "NAME")) else {
+        return Err(JobFault::Name);
+    };
+    let what = Look::Bytes {
+        form: byte_form(matches),
+        candidates: candidates(matches),
+        name,
+    };
+    Ok(Job::Look { what, image })
 }
 
-/// The job that takes records out of an image, of the file of a name.
+/// The job that prints the records of the file of a name in this form.
+fn records_in<'a>(
+    matches: &ArgMatches<'a>,
+    form: RecordForm,
+    image: &'a str,
+) -> Result<Job<'a>, JobFault>
+    ensures { let rows = rows_of (found_of matches.now) in
+        IsNamedJob rows (λ name. jobs.Look (looks.Records form (candidates_in rows) name) image.entry) result }
+{
+    let Some(name) = Name::read(value_of(matches, "NAME")) else {
+        return Err(JobFault::Name);
+    };
+    let what = Look::Records {
+        form,
+        candidates: candidates(matches),
+        name,
+    };
+    Ok(Job::Look { what, image })
+}
+
+/// The job that prints the records of the file of a name.
 pub(crate) fn taking_records<'a>(
     matches: &ArgMatches<'a>,
     image: &'a str,
@@ -43,8 +71,19 @@ pub(crate) fn taking_records<'a>(
     ensures { IsRecordsJob (rows_of (found_of matches.now)) image.entry result }
 {
     match record_form(matches) {
-        Ok(form) => taking(matches, Taking::Records(form, candidates(matches)), image),
+        Ok(form) => records_in(matches, form, image),
         Err(fault) => Err(fault),
+    }
+}
+
+/// The job that changes an image so, or only prints what that would print.
+fn edited<'a>(matches: &ArgMatches<'a>, image: &'a str, edit: Edit<'a>) -> Job<'a>
+    ensures { result ≡ jobs.Change image.entry edit (effect_in (rows_of (found_of matches.now))) }
+{
+    Job::Change {
+        image,
+        edit,
+        effect: effect(matches),
     }
 }
 
@@ -68,12 +107,10 @@ pub(crate) fn making<'a>(matches: &ArgMatches<'a>, image: &'a str) -> Result<Job
         return Err(JobFault::Name);
     };
     match length_of(value_of(matches, "L")) {
-        Some(length) => Ok(Job::Make {
-            image,
-            name,
-            length,
-            loss: loss(matches),
-        }),
+        Some(length) => {
+            let loss = loss(matches);
+            Ok(edited(matches, image, Edit::Make { length, loss, name }))
+        }
         None => Err(JobFault::Length),
     }
 }
@@ -86,17 +123,20 @@ fn storing_in<'a>(
 ) -> Result<Job<'a>, JobFault>
     ensures { (records : Bor Text) × (records.now ≡ value (codes "RECORDS") (rows_of (found_of matches.now)))
         × IsNamedJob (rows_of (found_of matches.now)) (λ name.
-        jobs.Store image.entry records columns (loss_in (rows_of (found_of matches.now))) name) result }
+        let rows = rows_of (found_of matches.now) in
+        jobs.Change image.entry (edits.Store records columns (loss_in rows) name) (effect_in rows)) result }
 {
     let records = value_of(matches, "RECORDS");
     match Name::read(value_of(matches, "NAME")) {
-        Some(name) => Ok(Job::Store {
-            image,
-            name,
-            records,
-            columns,
-            loss: loss(matches),
-        }),
+        Some(name) => {
+            let edit = Edit::Store {
+                records,
+                columns,
+                loss: loss(matches),
+                name,
+            };
+            Ok(edited(matches, image, edit))
+        }
         None => Err(JobFault::Name),
     }
 }
@@ -113,10 +153,11 @@ pub(crate) fn storing<'a>(matches: &ArgMatches<'a>, image: &'a str) -> Result<Jo
 
 /// The job that deletes a file of an image.
 pub(crate) fn deleting<'a>(matches: &ArgMatches<'a>, image: &'a str) -> Result<Job<'a>, JobFault>
-    ensures { IsNamedJob (rows_of (found_of matches.now)) (λ name. jobs.Delete image.entry name) result }
+    ensures { let rows = rows_of (found_of matches.now) in
+        IsNamedJob rows (λ name. jobs.Change image.entry (edits.Delete name) (effect_in rows)) result }
 {
     match Name::read(value_of(matches, "NAME")) {
-        Some(name) => Ok(Job::Delete { image, name }),
+        Some(name) => Ok(edited(matches, image, Edit::Delete { name })),
         None => Err(JobFault::Name),
     }
 }
@@ -129,7 +170,7 @@ pub(crate) fn renaming<'a>(matches: &ArgMatches<'a>, image: &'a str) -> Result<J
         return Err(JobFault::Name);
     };
     match new_name(value_of(matches, "NEW")) {
-        Some(to) => Ok(Job::Rename { image, from, to }),
+        Some(to) => Ok(edited(matches, image, Edit::Rename { from, to })),
         None => Err(JobFault::Name),
     }
 }
@@ -159,12 +200,7 @@ pub(crate) fn putting<'a>(matches: &ArgMatches<'a>, image: &'a str) -> Result<Jo
         return Err(JobFault::Name);
     };
     match type_named(value_of(matches, "TYPE")) {
-        Some(kind) => Ok(Job::Put {
-            image,
-            name,
-            file,
-            kind,
-        }),
+        Some(kind) => Ok(edited(matches, image, Edit::Put { file, kind, name })),
         None => Err(JobFault::Kind),
     }
 }

@@ -1,5 +1,5 @@
 //! How far long work is, for a person who waits for it.
-use ledger_jobs::Job;
+use ledger_jobs::{Edit, Job};
 use std::io::{self, Write};
 
 /// After how many more lines the count is printed again.
@@ -8,7 +8,11 @@ const STEP: u64 = 100;
 /// Whether a job may go on for so long that a person wonders.
 pub(crate) fn is_long(job: &Job<'_>) -> bool {
     match job {
-        Job::Play { .. } | Job::PlayLogged { .. } | Job::Store { .. } | Job::Dry { .. } => true,
+        Job::Play { .. } | Job::PlayLogged { .. } | Job::Dry { .. } => true,
+        Job::Change {
+            edit: Edit::Store { .. },
+            ..
+        } => true,
         _ => false,
     }
 }

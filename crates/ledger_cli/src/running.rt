@@ -1,35 +1,14 @@
 //! Jobs run over the bytes of their files.
-ghost use Rattle.std.specs.Prelude.{◌≡◌, Option};
-ghost use Rattle.ledger_cli.specs.Runs.{IsChecked, IsJobRun, IsRead, IsRun};
+ghost use Rattle.std.specs.Prelude.{Option};
+ghost use Rattle.ledger_cli.specs.Runs.{IsJobRun, IsRun};
 ghost use Rattle.ledger_jobs.specs.Jobs.{IsFit};
 
 use crate::changing::{Ended, begin_disk, copy, format, play};
-use crate::editing::{delete, make, put, rebuild, rename, repair, store};
+use crate::editing::edited;
 use command_faults::CommandFault;
-use disk_pictures::view_image;
-use ledger_jobs::{
-    Findings, Job, Reading, Refusal, comparing_run, drawing_run, end, job_end, listing_run,
-    reading_run, run_end, take_told,
-};
+use ledger_jobs::{Job, Refusal, comparing_run, dry_run, end, look};
 use std::alloc::Global;
 use std::io::{Seek, Write};
-
-/// Does a reading job over these bytes.
-fn read<W: Write>(alloc: Global, what: Reading, bytes: &[u8], out: &mut W) -> Ended
-    ensures { IsRead W.contents what bytes.now out.old out.new result }
-{
-    job_end(reading_run(alloc, what, bytes, out))
-}
-
-/// Checks an image, or prints all its faults.
-fn checked<W: Write>(alloc: Global, what: Findings, image: &[u8], out: &mut W) -> Ended
-    ensures { IsChecked W.contents what image.now out.old out.new result }
-{
-    match what {
-        Findings::First => read(alloc, Reading::Check, image, out),
-        Findings::All => job_end(listing_run(alloc, image, out)),
-    }
-}
 
 /// Does a job over the bytes of its files. Returns how it ended, with the file.
 fn obey<F: Write + Seek + Drop, W: Write>(
@@ -47,45 +26,16 @@ fn obey<F: Write + Seek + Drop, W: Write>(
     match *job {
         Job::Format { tills, .. } | Job::FormatNew { tills, .. } => format(alloc, tills, file, out),
         Job::New { ref name, id, .. } => begin_disk(alloc, name, id, file, out),
-        Job::List { form, .. } => (file, read(alloc, Reading::List(form), image, out)),
-        Job::Check { findings, .. } => (file, checked(alloc, findings, image, out)),
-        Job::Show { .. } => (file, read(alloc, Reading::Show, image, out)),
-        Job::Dry { .. } => (file, read(alloc, Reading::Dry, script, out)),
+        Job::Look { ref what, .. } => (file, look(alloc, what, image, out)),
+        Job::Dry { .. } => (file, dry_run(script, out)),
         Job::Play { .. } | Job::PlayLogged { .. } => play(alloc, image, script, file, out),
         Job::Copy { .. } => copy(image, file, out),
-        Job::Repair {
-            loss,
-            unowned,
+        Job::Change {
+            ref edit,
             effect,
             ..
-        } => repair(alloc, image, unowned, effect, loss, file, out),
-        Job::RepairSides {
-            loss,
-            unowned,
-            effect,
-            ..
-        } => rebuild(alloc, image, unowned, effect, loss, file, out),
-        Job::Make {
-            length,
-            loss,
-            ref name,
-            ..
-        } => make(alloc, image, name, length, loss, file, out),
-        Job::Rename {
-            ref from,
-            ref to,
-            ..
-        } => rename(alloc, image, from, to, file, out),
-        Job::Delete { ref name, .. } => delete(alloc, image, name, file, out),
-        Job::Put { kind, ref name, .. } => put(alloc, image, name, kind, script, file, out),
-        Job::Store { ref name, loss, .. } => store(alloc, image, name, script, loss, file, out),
-        Job::Take { what, ref name, .. } => {
-            let ended = take_told(alloc, what, image, name.as_bytes(), out);
-            (file, ended)
-        }
-        Job::Draw { what, .. } => (file, job_end(drawing_run(alloc, what, image, out))),
-        Job::View { what, .. } => (file, run_end(view_image(alloc, what, image, out))),
-        Job::Compare { .. } => (file, job_end(comparing_run(alloc, image, script, out))),
+        } => edited(alloc, image, edit, script, effect, file, out),
+        Job::Compare { .. } => (file, comparing_run(alloc, image, script, out)),
         // it needs the bytes of each image, or standard error too, or a folder
         Job::Serve { .. }
         | Job::Several { .. }

@@ -6,18 +6,17 @@ ghost use Rattle.ledger_jobs.specs.Jobs.{IsFit};
 ghost use Rattle.ledger_cli.specs.Jobs.{IsHeard, IsJob, IsNoJob, IsParse, is_explained as explained};
 
 use crate::faults::JobFault;
-use crate::forms::{byte_form, candidates, choice, loss, name_form, repairing};
+use crate::forms::{choice, loss, name_form, repairing};
 use crate::images::{checking, picturing, viewing};
 use crate::names::{
-    deleting, empty_disk, making, putting, renaming, storing, taking, taking_records,
+    deleting, empty_disk, making, putting, renaming, storing, taking_bytes, taking_records,
 };
 use crate::numbers::{place_of, tills_of};
 use crate::shops::{formatting, playing};
 use crate::values::{is_given, parsed_subcommand, value_of};
 use clap::{ArgMatches, Error};
 use command_table::ledger_command;
-use disk_pictures::View;
-use ledger_jobs::{Job, Overview, Taking};
+use ledger_jobs::{Job, Look};
 use std::alloc::{AllocError, Global};
 
 /// The job of the subcommand that was met.
@@ -37,9 +36,12 @@ fn job_of<'a>(alloc: Global, matches: &ArgMatches<'a>) -> Result<Job<'a>, JobFau
             Some(tills) => Ok(formatting(found, image, tills)),
             None => Err(JobFault::Tills),
         },
-        "list" => viewing(alloc, found, Overview::List(name_form(found))),
+        "list" => viewing(alloc, found, Look::List(name_form(found))),
         "check" => checking(alloc, found),
-        "show" => Ok(Job::Show { image }),
+        "show" => Ok(Job::Look {
+            what: Look::Show,
+            image,
+        }),
         "play" => Ok(playing(found, image, script)),
         "serve" => Ok(Job::Serve {
             image,
@@ -56,26 +58,23 @@ fn job_of<'a>(alloc: Global, matches: &ArgMatches<'a>) -> Result<Job<'a>, JobFau
         }),
         "repair" => Ok(repairing(found, image)),
         "records" => taking_records(found, image),
-        "bytes" => {
-            let what = Taking::Bytes(byte_form(found), candidates(found));
-            taking(found, what, image)
-        }
+        "bytes" => taking_bytes(found, image),
         "make" => making(found, image),
         "store" => storing(found, image),
         "put" => putting(found, image),
         "rename" => renaming(found, image),
         "delete" => deleting(found, image),
         "new" => empty_disk(found, image),
-        "map" => viewing(alloc, found, Overview::Map),
+        "map" => viewing(alloc, found, Look::Map),
         "picture" => picturing(alloc, found),
         "dry" => Ok(Job::Dry { script }),
-        "free" => Ok(Job::View {
-            what: View::Free,
+        "free" => Ok(Job::Look {
+            what: Look::Free,
             image,
         }),
         "sector" => match place_of(value_of(found, "T/S")) {
-            Some(place) => Ok(Job::View {
-                what: View::Sector(place),
+            Some(place) => Ok(Job::Look {
+                what: Look::Sector(place),
                 image,
             }),
             None => Err(JobFault::Sector),

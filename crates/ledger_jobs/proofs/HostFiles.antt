@@ -1,16 +1,14 @@
 -- What is done over the bytes that a host says, from what was read of its files.
-use Rattle.std.proofs.Common.{◌≡◌, ℕ, List, inl, inr, refl, subst, sym, ◌∙◌}
-use Rattle.std.specs.Prelude.{IfErr, IfOk, IfSome, IsErr, None, Option, Result, Ok, Err, Some, Vec, option_map, take, vec_items}
+use Rattle.std.proofs.Common.{◌≡◌, ℕ, List, inl, subst, ◌∙◌}
+use Rattle.std.specs.Prelude.{IfOk, IfSome, None, Option, Result, Ok, Err, Some, Vec, option_map, take, vec_items}
 use Rattle.std.specs.Io.Take.{take_inner, take_limit, take_remaining}
 use Rattle.std.specs.declared.alloc.Global.{Global}
 use Rattle.std.specs.declared.io.traits.Take.{Take}
 use Rattle.image_file.specs.paths.Rights.{Rights}
 use Rattle.image_file.specs.paths.Standing.{AreOf, Holds, Stands}
 use Rattle.ledger_jobs.specs.EachImage.{as_loaded}
-use Rattle.ledger_jobs.specs.Ends.{EndsAs, Ended, JobEnd, as_job}
-use Rattle.ledger_jobs.specs.HostFiles.{IsReadAt, IsUnbegun, OfImage, OfWritten, RunEnds, TrimEnds}
-use Rattle.ledger_jobs.specs.Runs.{IsReadingEnd, IsReadingOf}
-use Rattle.ledger_jobs.specs.declared.jobs.Reading.{Reading}
+use Rattle.ledger_jobs.specs.Ends.{JobEnd}
+use Rattle.ledger_jobs.specs.HostFiles.{IsReadAt, OfImage, OfText, OfWritten, RunEnds, TrimEnds}
 use Rattle.ledger_jobs.specs.declared.refusals.Refusal.{Refusal}
 
 -- what holds of the bytes that are left of a file holds of those that the host says
@@ -36,6 +34,14 @@ pub over-written : {H W : Type 0} (stands : H → List ℕ → Stands) (host : H
 over-written stands host path old new end items slice P is same run =
     λ all holds. inl (subst P (same ∙ is all holds) run)
 
+-- of a script, whole
+pub over-text : {H W : Type 0} (stands : H → List ℕ → Stands) (host : H) (path : List ℕ) (old new : W) (end : JobEnd)
+    (items slice : List ℕ) (P : List ℕ → Type 0)
+    → OfText stands host path (λ all. items ≡ all) → slice ≡ items → P slice
+    → OfText stands host path (λ all. RunEnds old new end (P all))
+over-text stands host path old new end items slice P is same run =
+    λ other all holds. inl (subst P (same ∙ is other all holds) run)
+
 -- and of a longer one, and of two outputs
 pub over-long : {H W E : Type 0} (rights : Rights H) (stands : H → List ℕ → Stands) (host : H) (path : List ℕ)
     (old new : W) (err new_err : E) (end : JobEnd) (items slice : List ℕ) (P : List ℕ → Type 0)
@@ -58,27 +64,6 @@ taken {R} remaining t reader n bytes limit inner given =
     front-of n (remaining reader) bytes
     (subst (λ (m : ℕ). IfSome (option_map (take m) (remaining reader)) (λ all. bytes ≡ all)) limit
     (subst (λ (r : R). IfSome (option_map (take t.limit) (remaining r)) (λ all. bytes ≡ all)) inner given))
-
--- what comes of what is asked of a file's bytes, as a job's end
-pub reading-ends : {W : Type 0} (contents : W → Option (List ℕ)) (what : Reading) (bytes : List ℕ) (old new : W)
-    (ended : Ended) (end : JobEnd) → end ≡ as_job ended → IsReadingOf contents what bytes old new ended
-    → RunEnds old new end (EndsAs as_job end (IsReadingEnd contents what bytes old new))
-reading-ends contents what bytes old new ended end told (inl run) = inl (ended, told, run)
-reading-ends contents what bytes old new ended end told (inr (same, inl file)) =
-    let E : JobEnd → Type 0 = λ e. IsErr e × IfErr e IsUnbegun in
-    let R : Ended → Type 0 = λ r. E (as_job r) in
-    let both = subst E (sym told) (subst R (sym file) (refl, inl (inl tt))) in
-    inr (same, both.0, both.1)
-reading-ends contents what bytes old new ended end told (inr (same, inr memory)) =
-    let E : JobEnd → Type 0 = λ e. IsErr e × IfErr e IsUnbegun in
-    let R : Ended → Type 0 = λ r. E (as_job r) in
-    let both = subst E (sym told) (subst R (sym memory) (refl, inl (inl tt))) in
-    inr (same, both.0, both.1)
-
--- the same of each value
-pub some-weaker : {A : Type 0} (o : Option A) (P Q : A → Type 0) → ((a : A) → P a → Q a) → IfSome o P → IfSome o Q
-some-weaker None P Q weaker given = tt
-some-weaker (Some a) P Q weaker given = weaker a given
 
 -- the same of two images
 pub over-images : {H W : Type 0} (rights : Rights H) (stands : H → List ℕ → Stands) (host : H)

@@ -101,16 +101,11 @@ end_line (Err refusal) = refusal_line refusal
 abbrev pub Ended : Type 0
 Ended = Result (Option Fault) CommandFault
 
--- the end of a job that prints no fault
-abbrev pub end_of : Result Unit CommandFault → Ended
-end_of (Ok _) = Ok None
-end_of (Err fault) = Err fault
-
 -- the end of a run without a disk
-abbrev pub dry_end : Result Unit DryFault → Ended
+abbrev pub dry_end : Result Unit DryFault → JobEnd
 dry_end (Ok _) = Ok None
-dry_end (Err (dry.BadLine line)) = Err (faults.ScriptLine line)
-dry_end (Err dry.Output) = Err faults.File
+dry_end (Err (dry.BadLine line)) = Err (refusals.Fault (faults.ScriptLine line))
+dry_end (Err dry.Output) = Err (refusals.Fault faults.File)
 
 -- what came of asking the system, as it is reported
 abbrev pub told_of : {T : Type 0} → Result T Error → Result T Refusal

@@ -8,8 +8,6 @@ use Rattle.ledger_jobs.specs.EachImage.{IsLoadedOf, Loaded}
 use Rattle.ledger_jobs.specs.Ends.{JobEnd}
 use Rattle.ledger_jobs.specs.Replies.{IsShopOf}
 use Rattle.ledger_jobs.specs.Rights.{standard_input}
-use Rattle.ledger_jobs.specs.declared.jobs.Reading.{Reading}
-use Rattle.ledger_jobs.specs.declared.jobs.Reading.TheVariants as readings
 use Rattle.ledger_jobs.specs.declared.refusals.Refusal.{Refusal}
 use Rattle.ledger_jobs.specs.declared.refusals.Refusal.TheVariants as refusals
 use Rattle.shop_log.specs.life.LogRights.{WhereItLeads, log_of}
@@ -32,23 +30,11 @@ module _ {H : Type 0} (rights : Rights H) (stands : H → List ℕ → Stands) (
   abbrev pub HasNoLog : List ℕ → Type 0
   HasNoLog path = WhereItLeads rights host (λ image. IsMissing stands host (log_of image)) path
 
-  -- a script never has one
-  abbrev pub HasNoLogFor : Reading → List ℕ → Type 0
-  HasNoLogFor readings.Dry path = ⊤
-  HasNoLogFor _ path = HasNoLog path
-
-  -- this holds of the bytes of the file at a path that is read for this, if the host says them, and that it has no log
-  abbrev pub OfFile : Reading → List ℕ → (List ℕ → Type 0) → Type 0
-  OfFile what path P = HasNoLogFor what path → (all : List ℕ) → stands host path ≡ Holds all → P all
-
-  -- the same of an image
+  -- this holds of the bytes of the image at a path, if the host says them, and that it has no log
   abbrev pub OfImageFile : List ℕ → (List ℕ → Type 0) → Type 0
   OfImageFile path P = HasNoLog path → (all : List ℕ) → stands host path ≡ Holds all → P all
 
   -- the same, unless the path is that of standard input, of which a host says nothing
-  abbrev pub OfRead : Reading → List ℕ → (List ℕ → Type 0) → Type 0
-  OfRead what path P = path ≢ standard_input → OfFile what path P
-
   abbrev pub OfImage : List ℕ → (List ℕ → Type 0) → Type 0
   OfImage path P = path ≢ standard_input → OfImageFile path P
 

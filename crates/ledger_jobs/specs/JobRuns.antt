@@ -3,94 +3,52 @@ use Rattle.std.specs.Borrow.{Bor}
 use Rattle.std.specs.Prelude.{◌≡◌, ℕ, Err, List, Option, Vec, codes, map, take, vec_items}
 use Rattle.std.specs.declared.alloc.Global.{Global}
 use Rattle.command_faults.specs.declared.faults.CommandFault.TheVariants as faults
-use Rattle.disk_changes.specs.Deletes.{IsDeleteRefusal, IsDeleted}
-use Rattle.disk_changes.specs.Makes.{IsMade, IsMakeRefusal}
-use Rattle.disk_changes.specs.Puts.{IsPut, IsPutRefusal}
-use Rattle.disk_changes.specs.Rebuilds.{IsRebuildRefusal, IsRebuilt}
-use Rattle.disk_changes.specs.Renames.{IsRenameRefusal, IsRenamed}
-use Rattle.disk_changes.specs.Repairs.{IsRepairRefusal, IsRepaired}
-use Rattle.disk_changes.specs.Stores.{IsStoreRefusal, IsStored}
-use Rattle.disk_changes.specs.declared.changes.Changed.{Changed}
-use Rattle.disk_changes.specs.declared.changes.Why.{Why}
 use Rattle.keeper_commands.specs.declared.rescue.choices.Choice.{Choice}
 use Rattle.image_file.specs.paths.Rights.{Rights}
 use Rattle.image_file.specs.paths.Standing.{Stands}
 use Rattle.ledger_jobs.specs.Changes.{IsChangeEnd, IsLoggedEnd, IsMakingEnd, IsQuietEnd, IsShownEnd}
-use Rattle.ledger_jobs.specs.Columns.{text_in}
 use Rattle.ledger_jobs.specs.Comparisons.{IsComparingRun}
 use Rattle.ledger_jobs.specs.Copies.{IsCopyEnd}
 use Rattle.ledger_jobs.specs.Descriptions.{IsObjectOf}
-use Rattle.ledger_jobs.specs.Drawings.{IsDrawingRun}
+use Rattle.ledger_jobs.specs.Edits.{IsEdited, IsTextFor, IsUnedited}
 use Rattle.ledger_jobs.specs.EachImage.{AreHandedOn, IsSeveralEnd}
-use Rattle.ledger_jobs.specs.Ends.{EndsAs, JobEnd, as_job, as_run}
+use Rattle.ledger_jobs.specs.Ends.{JobEnd}
 use Rattle.ledger_jobs.specs.Extracts.{IsExtractedTo}
-use Rattle.ledger_jobs.specs.HostFiles.{IsReadAt, IsShopAt, OfImage, OfRead, OfText, OfWritten, RunEnds}
-use Rattle.ledger_jobs.specs.Jobs.{frees, needed, shortened}
-use Rattle.ledger_jobs.specs.Listings.{IsListingRun}
+use Rattle.ledger_jobs.specs.HostFiles.{IsReadAt, IsShopAt, OfImage, OfText, OfWritten, RunEnds}
+use Rattle.ledger_jobs.specs.Looks.{IsLook}
 use Rattle.ledger_jobs.specs.LoggedPlays.{IsLoggedPlayEnd}
-use Rattle.ledger_jobs.specs.Losses.{IsTakingEnd}
-use Rattle.ledger_jobs.specs.Names.{name_bytes}
 use Rattle.ledger_jobs.specs.Overviews.{IsOverviewOf}
 use Rattle.ledger_jobs.specs.Replies.{AreReplyLines, IsLoggedService, IsPlainPlayed}
-use Rattle.ledger_jobs.specs.Runs.{IsReadingEnd}
+use Rattle.ledger_jobs.specs.Runs.{IsDryRun}
 use Rattle.ledger_jobs.specs.SheetPages.{IsSheetPrinted}
-use Rattle.disk_pictures.specs.Views.{IsViewRun}
-use Rattle.ledger_jobs.specs.declared.jobs.Drawing.{Drawing}
+use Rattle.ledger_jobs.specs.declared.jobs.Edit.{Edit}
 use Rattle.ledger_jobs.specs.declared.jobs.Effect.{Effect}
 use Rattle.ledger_jobs.specs.declared.jobs.Effect.TheVariants.{Printed, Written}
-use Rattle.ledger_jobs.specs.declared.jobs.Findings.TheVariants.{First, All}
 use Rattle.ledger_jobs.specs.declared.jobs.Job.{Job}
 use Rattle.ledger_jobs.specs.declared.jobs.Job.TheVariants as jobs
-use Rattle.ledger_jobs.specs.declared.jobs.Overview.{Overview}
-use Rattle.ledger_jobs.specs.declared.jobs.Reading.{Reading}
-use Rattle.ledger_jobs.specs.declared.jobs.Reading.TheVariants as readings
-use Rattle.ledger_jobs.specs.declared.jobs.Taking.{Taking}
+use Rattle.ledger_jobs.specs.declared.jobs.Look.{Look}
 use Rattle.ledger_jobs.specs.declared.refusals.Refusal.TheVariants as refusals
-use Rattle.disk_pictures.specs.declared.views.View.{View}
-
--- what was asked of these bytes, as far as they are needed, ended so; or it wasn't begun
-abbrev pub IsReadOver : {W : Type 0} → (W → Option (List ℕ)) → Reading → W → W → JobEnd → List ℕ → Type 0
-IsReadOver contents what old new end all =
-    RunEnds old new end (EndsAs as_job end (IsReadingEnd contents what (needed what all) old new))
 
 -- the paths of several words
 abbrev pub paths_of : Vec (Bor (List ℕ)) Global → List (List ℕ)
 paths_of images = map (λ image. image.now) (vec_items images)
 
--- The image at a path was changed, all or nothing, by the bytes of another file.
-abbrev pub IsChangeByText : {H W : Type 0} → (H → List ℕ → Stands) → (W → Option (List ℕ)) → H → (path text : List ℕ)
-    → (List ℕ → List ℕ → Changed → Type 0) → (List ℕ → List ℕ → Why → Type 0) → W → W → JobEnd → Type 0
-IsChangeByText stands contents host path text Is Refuses old new end = RunEnds old new end ((image bytes : List ℕ)
-    × OfWritten stands host path (λ all. image ≡ take 174849 all)
-    × OfText stands host text (λ all. bytes ≡ all)
-    × IsChangeEnd contents (Is image bytes) (Refuses image bytes) old new end)
+-- The replies to the script at a path were printed, from no cards on and without a disk.
+abbrev pub IsDryOver : {H W : Type 0} → (H → List ℕ → Stands) → (W → Option (List ℕ)) → H → List ℕ → W → W → JobEnd → Type 0
+IsDryOver stands contents host path old new end =
+    OfText stands host path (λ all. RunEnds old new end (IsDryRun contents all old new end))
 
 module _ {H W : Type 0} (rights : Rights H) (stands : H → List ℕ → Stands) (contents : W → Option (List ℕ)) (host : H) where
-  -- all faults of the image at a path were listed
-  abbrev pub IsListedOver : List ℕ → W → W → JobEnd → Type 0
-  IsListedOver path old new end = OfImage rights stands host path
-      (λ all. RunEnds old new end (EndsAs as_job end (IsListingRun contents (take 174849 all) old new)))
-
-  -- it was drawn
-  abbrev pub IsDrawnOver : Drawing → List ℕ → W → W → JobEnd → Type 0
-  IsDrawnOver what path old new end = OfImage rights stands host path
-      (λ all. RunEnds old new end (EndsAs as_job end (IsDrawingRun contents what (take 174849 all) old new)))
-
-  -- what isn't checked of it was printed
-  abbrev pub IsViewedOver : View → List ℕ → W → W → JobEnd → Type 0
-  IsViewedOver what path old new end = OfImage rights stands host path
-      (λ all. RunEnds old new end (EndsAs as_run end (IsViewRun contents what (take 174849 all) old new)))
-
-  -- the file of this name was taken out of it
-  abbrev pub IsTakenOver : Taking → List ℕ → List ℕ → W → W → JobEnd → Type 0
-  IsTakenOver what path name old new end = OfImage rights stands host path
-      (λ all. RunEnds old new end (IsTakingEnd contents what (take 174849 all) name old new end))
+  -- a look at the image at a path ended so
+  abbrev pub IsLookedAt : Look → List ℕ → W → W → JobEnd → Type 0
+  IsLookedAt what path old new end = OfImage rights stands host path
+      (λ all. RunEnds old new end (IsLook contents what (take 174849 all) old new end))
 
   -- two of them were compared
   abbrev pub IsComparedOver : List ℕ → List ℕ → W → W → JobEnd → Type 0
   IsComparedOver before after old new end = OfImage rights stands host before (λ first.
       OfImage rights stands host after (λ second. RunEnds old new end
-      (EndsAs as_job end (IsComparingRun contents (take 174849 first) (take 174849 second) old new))))
+      (IsComparingRun contents (take 174849 first) (take 174849 second) old new end)))
 
   -- it was copied to a file that is made; nothing is said of that file
   abbrev pub IsCopiedFrom : List ℕ → W → W → JobEnd → Type 0
@@ -102,14 +60,14 @@ module _ {H W : Type 0} (rights : Rights H) (stands : H → List ℕ → Stands)
   IsExtractedFrom choice path old new end = OfImage rights stands host path
       (λ all. RunEnds old new end (IsExtractedTo contents choice (take 174849 all) old new end))
 
-  -- it was changed, all or nothing, or only what a change would print was printed: this holds of the change or its refusal
-  abbrev pub IsChangeOver : Effect → List ℕ → (List ℕ → Changed → Type 0) → (List ℕ → Why → Type 0) → W → W → JobEnd → Type 0
-  IsChangeOver Written path Is Refuses old new end = RunEnds old new end ((image : List ℕ)
-      × OfWritten stands host path (λ all. image ≡ take 174849 all)
-      × IsChangeEnd contents (Is image) (Refuses image) old new end)
-  IsChangeOver Printed path Is Refuses old new end = RunEnds old new end ((image : List ℕ)
-      × OfImage rights stands host path (λ all. image ≡ take 174849 all)
-      × IsShownEnd contents (Is image) (Refuses image) old new end)
+  -- its files were changed, all or nothing, or only what the change would print was printed
+  abbrev pub IsEditOver : Effect → List ℕ → Edit → W → W → JobEnd → Type 0
+  IsEditOver Written path edit old new end = RunEnds old new end ((image text : List ℕ)
+      × OfWritten stands host path (λ all. image ≡ take 174849 all) × IsTextFor stands host edit text
+      × IsChangeEnd contents (IsEdited edit text image) (IsUnedited edit text image) old new end)
+  IsEditOver Printed path edit old new end = RunEnds old new end ((image text : List ℕ)
+      × OfImage rights stands host path (λ all. image ≡ take 174849 all) × IsTextFor stands host edit text
+      × IsShownEnd contents (IsEdited edit text image) (IsUnedited edit text image) old new end)
 
   -- a script was played on the shop of an image, over its file
   abbrev pub IsPlayedOverFile : (image script : List ℕ) → W → W → JobEnd → Type 0
@@ -132,50 +90,22 @@ module _ {H W : Type 0} (rights : Rights H) (stands : H → List ℕ → Stands)
       IsSeveralEnd (AreHandedOn (IsReadAt rights stands host) (IsObjectOf contents) contents paths old new) end
 
   -- what is asked of each of them was printed after a name
-  abbrev pub AreOverviewed : Overview → List (List ℕ) → W → W → JobEnd → Type 0
+  abbrev pub AreOverviewed : Look → List (List ℕ) → W → W → JobEnd → Type 0
   AreOverviewed what paths old new end =
       IsSeveralEnd (AreHandedOn (IsReadAt rights stands host) (IsOverviewOf contents what) contents paths old new) end
 
   -- a job ended so, over the bytes that the host has at the paths of its words
   abbrev pub IsJobOver : Job → W → W → JobEnd → Type 0
-  IsJobOver (jobs.List form image) old new end = OfRead rights stands host (readings.List form) image.now
-      (IsReadOver contents (readings.List form) old new end)
-  IsJobOver (jobs.Check First image) old new end = OfRead rights stands host readings.Check image.now
-      (IsReadOver contents readings.Check old new end)
-  IsJobOver (jobs.Check All image) old new end = IsListedOver image.now old new end
-  IsJobOver (jobs.Show image) old new end = OfRead rights stands host readings.Show image.now
-      (IsReadOver contents readings.Show old new end)
-  IsJobOver (jobs.Dry script) old new end = OfRead rights stands host readings.Dry script.now
-      (IsReadOver contents readings.Dry old new end)
-  IsJobOver (jobs.Take what image name) old new end = IsTakenOver what image.now (name_bytes name) old new end
-  IsJobOver (jobs.Draw what image) old new end = IsDrawnOver what image.now old new end
-  IsJobOver (jobs.View what image) old new end = IsViewedOver what image.now old new end
+  IsJobOver (jobs.Look what image) old new end = IsLookedAt what image.now old new end
+  IsJobOver (jobs.Dry script) old new end = IsDryOver stands contents host script.now old new end
   IsJobOver (jobs.Compare before after) old new end = IsComparedOver before.now after.now old new end
   IsJobOver (jobs.Copy image copy) old new end = IsCopiedFrom image.now old new end
   IsJobOver (jobs.Extract choice image folder) old new end = IsExtractedFrom choice image.now old new end
-  IsJobOver (jobs.Repair image loss unowned effect) old new end = IsChangeOver effect image.now
-      (λ bytes. IsRepaired bytes (frees unowned) (shortened loss)) IsRepairRefusal old new end
+  IsJobOver (jobs.Change image edit effect) old new end = IsEditOver effect image.now edit old new end
   IsJobOver (jobs.Format image tills) old new end = IsMakingEnd contents (codes "FORMATTED\n") old new end
   IsJobOver (jobs.FormatNew image tills) old new end = IsMakingEnd contents (codes "FORMATTED\n") old new end
   IsJobOver (jobs.New image name id) old new end = IsMakingEnd contents (codes "FORMATTED\n") old new end
-  IsJobOver (jobs.Make image size loss name) old new end = IsChangeOver Written image.now
-      (λ bytes. IsMade bytes (name_bytes name) size (shortened loss))
-      (λ bytes. IsMakeRefusal bytes (name_bytes name) (shortened loss)) old new end
-  IsJobOver (jobs.Rename image from to) old new end = IsChangeOver Written image.now
-      (λ bytes. IsRenamed bytes (name_bytes from) (name_bytes to))
-      (λ bytes. IsRenameRefusal bytes (name_bytes from) (name_bytes to)) old new end
-  IsJobOver (jobs.Delete image name) old new end = IsChangeOver Written image.now
-      (λ bytes. IsDeleted bytes (name_bytes name)) (λ bytes. IsDeleteRefusal bytes (name_bytes name)) old new end
-  IsJobOver (jobs.Put image file kind name) old new end = IsChangeByText stands contents host image.now file.now
-      (λ bytes given. IsPut bytes (name_bytes name) kind given)
-      (λ bytes given. IsPutRefusal bytes (name_bytes name) kind given) old new end
-  IsJobOver (jobs.Store image records columns loss name) old new end =
-      IsChangeByText stands contents host image.now records.now
-      (λ bytes text. IsStored bytes (name_bytes name) (text_in columns text) (shortened loss))
-      (λ bytes text. IsStoreRefusal bytes (name_bytes name) (text_in columns text) (shortened loss)) old new end
   IsJobOver (jobs.Play image script) old new end = IsPlayedOverFile image.now script.now old new end
-  IsJobOver (jobs.RepairSides image loss unowned effect) old new end = IsChangeOver effect image.now
-      (λ bytes. IsRebuilt bytes (frees unowned) (shortened loss)) IsRebuildRefusal old new end
   IsJobOver (jobs.Sheet images) old new end = AreDrawnOnSheet (paths_of images) old new end
   IsJobOver (jobs.Describe images) old new end = AreDescribed (paths_of images) old new end
   IsJobOver (jobs.Several what images) old new end = AreOverviewed what (paths_of images) old new end

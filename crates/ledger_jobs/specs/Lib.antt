@@ -3,18 +3,18 @@ pub mod Columns
 pub mod Comparisons
 pub mod Copies
 pub mod Descriptions
-pub mod Drawings
 pub mod DurableRuns
 pub mod EachImage
+pub mod Edits
 pub mod Ends
 pub mod Extracts
 pub mod HostFiles
 pub mod JobRuns
 pub mod Jobs
 pub mod LandedRuns
-pub mod Listings
 pub mod LoggedPlays
 pub mod LoggedRuns
+pub mod Looks
 pub mod Losses
 pub mod Names
 pub mod NewDisks
@@ -23,6 +23,5 @@ pub mod Replies
 pub mod Rights
 pub mod Runs
 pub mod SheetPages
-pub mod Takings
 pub mod Trims
 pub mod WatchedFiles

@@ -5,10 +5,8 @@ use Rattle.command_faults.specs.declared.faults.CommandFault.{CommandFault}
 use Rattle.damaged_files.specs.cut.Told.{IsCutShort, IsToldOfImage}
 use Rattle.command_faults.specs.declared.faults.CommandFault.TheVariants as faults
 use Rattle.ledger_jobs.specs.Ends.{JobEnd, as_run}
-use Rattle.ledger_jobs.specs.Takings.{IsTaken, IsTakingFault}
 use Rattle.ledger_jobs.specs.declared.jobs.Loss.{Loss}
 use Rattle.ledger_jobs.specs.declared.jobs.Loss.TheVariants as losses
-use Rattle.ledger_jobs.specs.declared.jobs.Taking.{Taking}
 use Rattle.ledger_jobs.specs.declared.refusals.Refusal.{Refusal}
 use Rattle.ledger_jobs.specs.declared.refusals.Refusal.TheVariants as refusals
 
@@ -42,22 +40,3 @@ IsGuarded image loss Untouched IsRun end =
 -- a run that prints no fault and ended so is reported as this end
 abbrev pub IsEndOfRun : (Result Unit CommandFault → Type 0) → JobEnd → Type 0
 IsEndOfRun IsRun end = (ended : Result Unit CommandFault) × (end ≡ as_run ended) × IsRun ended
-
--- how a taking ends of a file that is cut short there, or isn't
-abbrev pub taken_end : Result Unit CommandFault → Option Place → JobEnd
-taken_end (Ok _) (Some p) = Err (refusals.Short p)
-taken_end (Ok _) None = Ok None
-taken_end (Err fault) _ = Err (refusals.Fault fault)
-
--- What was asked for of the file of a name was printed, and then it is reported whether that is all that the file had; or
--- it wasn't printed. There may be no memory to see, and then nothing was printed.
-abbrev pub IsTakingEnd : {W : Type 0} → (contents : W → Option (List ℕ)) → Taking → (image name : List ℕ) → W → W
-    → JobEnd → Type 0
-IsTakingEnd contents what image name old new (Ok None) =
-    IsTaken contents what image name old new × IsToldOfImage image (Some name) None
-IsTakingEnd contents what image name old new (Ok (Some _)) = ⊥
-IsTakingEnd contents what image name old new (Err (refusals.Short p)) =
-    IsTaken contents what image name old new × IsToldOfImage image (Some name) (Some p)
-IsTakingEnd contents what image name old new (Err (refusals.Fault fault)) =
-    IsTakingFault contents what image name old new fault ⊎ ((fault ≡ faults.NoMemory) × (new ≡ old))
-IsTakingEnd contents what image name old new (Err _) = ⊥

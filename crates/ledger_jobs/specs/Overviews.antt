@@ -2,28 +2,11 @@
 use Rattle.std.specs.Prelude.{◌≡◌, ◌++◌, ℕ, List, [], Option, Some, Ok, Err, Vec, vec_items}
 use Rattle.std.specs.declared.alloc.Global.{Global}
 use Rattle.std.specs.Io.KnownBytes.{Appends}
-use Rattle.ledger_jobs.specs.Drawings.{IsDrawingRun}
 use Rattle.ledger_jobs.specs.EachImage.{Loaded}
-use Rattle.ledger_jobs.specs.Ends.{EndsAs, JobEnd, as_job, end_line, end_status}
-use Rattle.ledger_jobs.specs.Listings.{IsListingRun}
-use Rattle.ledger_jobs.specs.Runs.{IsReadingEnd}
-use Rattle.ledger_jobs.specs.declared.jobs.Drawing.TheVariants as drawings
-use Rattle.ledger_jobs.specs.declared.jobs.Findings.TheVariants as findings
-use Rattle.ledger_jobs.specs.declared.jobs.Overview.{Overview}
-use Rattle.ledger_jobs.specs.declared.jobs.Overview.TheVariants as overviews
-use Rattle.ledger_jobs.specs.declared.jobs.Reading.TheVariants as readings
+use Rattle.ledger_jobs.specs.Ends.{JobEnd, end_line, end_status}
+use Rattle.ledger_jobs.specs.Looks.{IsLook}
+use Rattle.ledger_jobs.specs.declared.jobs.Look.{Look}
 use Rattle.line_text.specs.Named.{named}
-
--- what is asked of an image that is alone ended so
-abbrev pub IsOverview : {W : Type 0} → (W → Option (List ℕ)) → Overview → (image : List ℕ) → W → W → JobEnd → Type 0
-IsOverview contents (overviews.List form) image old new end =
-    EndsAs as_job end (IsReadingEnd contents (readings.List form) image old new)
-IsOverview contents (overviews.Check findings.First) image old new end =
-    EndsAs as_job end (IsReadingEnd contents readings.Check image old new)
-IsOverview contents (overviews.Check findings.All) image old new end =
-    EndsAs as_job end (IsListingRun contents image old new)
-IsOverview contents overviews.Map image old new end =
-    EndsAs as_job end (IsDrawingRun contents drawings.Map image old new)
 
 -- a text, and the line that reports this end, were printed with a name before each line; the end's status is this
 pub record IsToldAs {W : Type 0} (contents : W → Option (List ℕ)) (name text : List ℕ) (end : JobEnd) (old new : W)
@@ -32,17 +15,17 @@ pub record IsToldAs {W : Type 0} (contents : W → Option (List ℕ)) (name text
   pub status_is : status ≡ end_status end
 
 -- An image was one of several: over an output that held nothing, the command prints this text of it alone and ends so.
-pub record IsOneOfSeveral {W : Type 0} (contents : W → Option (List ℕ)) (what : Overview) (name image : List ℕ)
+pub record IsOneOfSeveral {W : Type 0} (contents : W → Option (List ℕ)) (what : Look) (name image : List ℕ)
     (old new : W) (status : ℕ) : Type 0 where
   pub before : Vec ℕ Global
   pub after : Vec ℕ Global
   pub empty : vec_items before ≡ []
   pub end : JobEnd
-  pub alone : IsOverview (λ text. Some (vec_items text)) what image before after end
+  pub alone : IsLook (λ text. Some (vec_items text)) what image before after end
   pub told : IsToldAs contents name (vec_items after) end old new status
 
 -- what is asked of an image at this path, from which this was read, was printed, each line after a name
-abbrev pub IsOverviewOf : {W : Type 0} → (W → Option (List ℕ)) → Overview → List ℕ → Loaded → W → W → ℕ → Type 0
+abbrev pub IsOverviewOf : {W : Type 0} → (W → Option (List ℕ)) → Look → List ℕ → Loaded → W → W → ℕ → Type 0
 IsOverviewOf contents what path (Ok image) old new status =
     (name : List ℕ) × IsOneOfSeveral contents what name image old new status
 IsOverviewOf contents what path (Err refusal) old new status =

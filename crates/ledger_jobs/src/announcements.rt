@@ -3,7 +3,7 @@ ghost use Rattle.ledger_jobs.specs.Rights.{MayExplain, MayReadImage};
 
 use crate::files::STANDARD_INPUT;
 use crate::job_files::size_of;
-use crate::jobs::Job;
+use crate::jobs::{Job, Look};
 use crate::losses::cut_in;
 use crate::readings::image_of_file;
 use crate::refusal_subjects::CUT_SHORT;
@@ -37,7 +37,11 @@ where
     E: Write,
     requires { MayExplain R.rights rt.now job.now }
 {
-    let Job::Check { image, .. } = job else {
+    let Job::Look {
+        what: Look::Check | Look::Faults,
+        image,
+    } = job
+    else {
         return;
     };
     if let Some(place) = cut_at(rt, image) {

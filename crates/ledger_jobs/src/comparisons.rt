@@ -6,7 +6,6 @@ ghost use Rattle.ledger_jobs.specs.Rights.{MayReadImage};
 use crate::outcomes::job_end;
 use crate::readings::image_at;
 use crate::refusals::Refusal;
-use command_faults::CommandFault;
 use disk_layout::Fault;
 use disk_pictures::compare_images;
 use image_file::{HostFiles, Locks};
@@ -22,10 +21,10 @@ pub fn comparing_run<W: Write>(
     before: &[u8],
     after: &[u8],
     out: &mut W,
-) -> Result<Option<Fault>, CommandFault>
-    ensures run { IsComparingRun W.contents before.now after.now out.old out.new result }
+) -> Result<Option<Fault>, Refusal>
+    ensures { IsComparingRun W.contents before.now after.now out.old out.new result }
 {
-    compare_images(alloc, before, after, out)
+    job_end(compare_images(alloc, before, after, out))
 }
 
 /// Compares the images at two paths.
@@ -45,5 +44,5 @@ where
 {
     let first = image_at(rt, before)?;
     let second = image_at(rt, after)?;
-    job_end(comparing_run(rt.alloc(), first.as_slice(), second.as_slice(), out))
+    comparing_run(rt.alloc(), first.as_slice(), second.as_slice(), out)
 }

@@ -1,14 +1,13 @@
 //! Images that are read, each described by an object of JSON.
 ghost use Rattle.std.specs.Prelude.{All, IfOk, map};
 ghost use Rattle.ledger_jobs.specs.Descriptions.{IsImageObject, IsObjectOf, IsRefusedObject};
-ghost use Rattle.ledger_jobs.specs.EachImage.{AreEach, IsOneFrom, as_loaded};
-ghost use Rattle.ledger_jobs.specs.HostFiles.{IsReadAt};
+ghost use Rattle.ledger_jobs.specs.EachImage.{as_loaded};
 ghost use Rattle.ledger_jobs.specs.JobRuns.{AreDescribed};
 ghost use Rattle.ledger_jobs.specs.Rights.{MayLook, MayReadImage};
 
+use crate::each_image::{PrintsImage, print_each};
 use crate::job_files::size_of;
 use crate::outcomes::several_end;
-use crate::readings::image_at;
 use crate::refusals::Refusal;
 use command_faults::CommandFault;
 use disk_layout::Fault;
@@ -70,35 +69,22 @@ where
     }
 }
 
-/// Reads the image at a path and prints its object. Returns the exit status that a check of it alone would have.
-fn put_object_at<F, R, W>(rt: &R, path: &str, out: &mut W) -> Result<u8, CommandFault>
-where
-    F: Read + Locks + OpenFile + Drop,
-    R: HostFiles<File = F> + Input + AllocGlobal,
-    W: Write,
-    requires { MayReadImage R.rights rt.now path.now }
-    ensures ok { IfOk result
-        (IsOneFrom (IsReadAt R.rights R.stands rt.now) (IsObjectOf W.contents) path.now out.old out.new) }
-{
-    put_object_of(rt, path, image_at(rt, path), out)
-}
+/// Images that are described, each by its object.
+#[derive(Clone, Copy)]
+struct Described;
 
-/// Prints the object of each of these images, in their order, and returns the greatest exit status of theirs.
-fn put_objects<F, R, W>(rt: &R, paths: &[&str], out: &mut W) -> Result<u8, CommandFault>
-where
-    F: Read + Locks + OpenFile + Drop,
-    R: HostFiles<File = F> + Input + AllocGlobal,
-    W: Write,
-    requires { All (λ path. MayReadImage R.rights rt.now path.now) paths.now }
-    ensures ok { IfOk result (AreEach (IsReadAt R.rights R.stands rt.now) (IsObjectOf W.contents)
-        (map (λ path. path.now) paths.now) out.old out.new) }
-{
-    let mut greatest = 0;
-    for path in paths {
-        let status = put_object_at(rt, path, out)?;
-        greatest = status.max(greatest);
+impl<R: HostFiles + AllocGlobal, W: Write> PrintsImage<R, W> for Described {
+    ghost prints = { λ _. IsObjectOf W.contents };
+
+    fn print(
+        &self,
+        rt: &R,
+        path: &str,
+        read: Result<Vec<u8>, Refusal>,
+        out: &mut W,
+    ) -> Result<u8, CommandFault> {
+        put_object_of(rt, path, read, out)
     }
-    Ok(greatest)
 }
 
 /// Prints the object of each of these images, in their order, also of one that is refused. An image is locked with others
@@ -118,7 +104,7 @@ where
     requires { All (λ path. MayReadImage R.rights rt.now path.now) paths.now }
     ensures { AreDescribed R.rights R.stands W.contents rt.now (map (λ path. path.now) paths.now) out.old out.new result }
 {
-    match put_objects(rt, paths, out) {
+    match print_each(rt, &Described, paths, out) {
         Ok(greatest) => several_end(greatest, out),
         Err(fault) => Err(Refusal::Fault(fault)),
     }

@@ -4,7 +4,7 @@ ghost use Rattle.ledger_jobs.specs.Rights as specs;
 ghost use Rattle.ledger_jobs.specs.Rights.{MayLook};
 
 use crate::files::STANDARD_INPUT;
-use crate::jobs::Job;
+use crate::jobs::{Edit, Job};
 use arrayvec::ArrayVec;
 use image_file::{HostFiles, regular_at};
 
@@ -16,19 +16,11 @@ pub(crate) fn first_file<'a>(job: &Job<'a>) -> Option<&'a str>
         Job::Format { image, .. } | Job::FormatNew { image, .. } | Job::New { image, .. } => Some(
             image,
         ),
-        Job::List { image, .. } | Job::Check { image, .. } | Job::Show { image } => Some(image),
+        Job::Look { image, .. } | Job::Change { image, .. } | Job::Trim { image } => Some(image),
         Job::Play { image, .. } | Job::PlayLogged { image, .. } | Job::Serve { image, .. } => Some(
             image,
         ),
-        Job::Repair { image, .. } | Job::Take { image, .. } | Job::Draw { image, .. } => Some(
-            image,
-        ),
-        Job::RepairSides { image, .. } => Some(image),
-        Job::Extract { image, .. } | Job::Rename { image, .. } | Job::Delete { image, .. } => Some(
-            image,
-        ),
-        Job::View { image, .. } | Job::Trim { image } | Job::Put { image, .. } => Some(image),
-        Job::Make { image, .. } | Job::Store { image, .. } | Job::Copy { image, .. } => Some(image),
+        Job::Extract { image, .. } | Job::Copy { image, .. } => Some(image),
         Job::Several { .. } | Job::Sheet { .. } | Job::Describe { .. } => None,
         Job::Compare { before, .. } => Some(before),
         Job::Dry { script } => Some(script),
@@ -46,7 +38,10 @@ pub(crate) fn text_of<'a>(job: &Job<'a>) -> Option<&'a str> {
         Job::Play { script, .. } | Job::PlayLogged { script, .. } | Job::Dry { script } => Some(
             script,
         ),
-        Job::Store { records, .. } => Some(records),
+        Job::Change {
+            edit: Edit::Store { records, .. },
+            ..
+        } => Some(records),
         _ => None,
     }
 }
@@ -56,7 +51,10 @@ fn second_of<'a>(job: &Job<'a>) -> Option<&'a str> {
     match job {
         Job::Compare { after, .. } => Some(after),
         Job::Copy { copy, .. } => Some(copy),
-        Job::Put { file, .. } => Some(file),
+        Job::Change {
+            edit: Edit::Put { file, .. },
+            ..
+        } => Some(file),
         Job::Extract { folder, .. } => Some(folder),
         _ => text_of(job),
     }

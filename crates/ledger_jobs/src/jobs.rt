@@ -1,34 +1,53 @@
 //! What the program can be asked to do.
 ghost use Rattle.std.specs.Prelude.{◌≡◌};
-ghost use Rattle.ledger_jobs.specs.Jobs.{frees, shortened as shortened_of};
+ghost use Rattle.ledger_jobs.specs.Edits.{frees, shortened as shortened_of};
 
 use crate::names::Name;
+use d64_image::Place;
 use damaged_files::Shortened;
-use disk_pictures::View;
 use disk_reports::NameForm;
 use file_changes::FileType;
 use keeper_commands::{ByteForm, Candidates, Choice, ColumnForm, RecordForm};
 
-/// What is asked of the bytes of one file, which isn't written.
-#[derive(Clone, Copy, Debug, PartialEq, Eq)]
-pub enum Reading {
-    /// The directory of an image, with its names in this form.
+/// What is printed of one image, which isn't written.
+#[derive(Drop)]
+pub enum Look {
+    /// Its directory, with the names in this form.
     List(NameForm),
-    /// Whether the layout of an image is clean, and if not, what is wrong with it.
+    /// Whether its layout is clean, and otherwise the first fault that a check finds.
     Check,
-    /// What an image holds of a shop: how far new cards may go, the cards, and the last two requests of each till.
+    /// All faults that hold, that one first, each with the files that it concerns.
+    Faults,
+    /// What it holds of a shop: how far new cards may go, the cards, and the last two requests of each till.
     Show,
-    /// The replies to the messages of a script, from no cards on and without a disk.
-    Dry,
-}
-
-/// What is taken out of an image, of the first file of a name.
-#[derive(Clone, Copy, Debug, PartialEq, Eq)]
-pub enum Taking {
-    /// The records of a relative file among the candidates, a line each, in this form.
-    Records(RecordForm, Candidates),
-    /// The bytes of a file of any type among them, in this form.
-    Bytes(ByteForm, Candidates),
+    /// Which sector is whose, and what a check reports: a line for each track, for a terminal.
+    Map,
+    /// The same as an HTML page with a drawing of the disk.
+    Picture,
+    /// The same as a poster: an SVG file of its own with the same drawing, title, legend and directory.
+    Poster,
+    /// How many sectors of each track its map calls free. Nothing is checked.
+    Free,
+    /// A sector, whose it is, and where its link leads. Nothing is checked.
+    Sector(Place),
+    /// The records of a relative file, a line each.
+    Records {
+        /// How they are printed.
+        form: RecordForm,
+        /// Among which files it is looked for.
+        candidates: Candidates,
+        /// The name of the file, of which the first is taken.
+        name: Name,
+    },
+    /// The bytes of a file of any type.
+    Bytes {
+        /// How they are printed.
+        form: ByteForm,
+        /// Among which files it is looked for.
+        candidates: Candidates,
+        /// The name of the file, of which the first is taken.
+        name: Name,
+    },
 }
 
 /// How the records of a text stand in its lines.
@@ -38,37 +57,6 @@ pub enum Columns {
     One,
     /// Several for each record, in this form.
     Several(ColumnForm),
-}
-
-/// How an image is drawn: which sector is whose, and what a check of it reports.
-#[derive(Clone, Copy, Debug, PartialEq, Eq)]
-pub enum Drawing {
-    /// A line for each track, for a terminal.
-    Map,
-    /// An HTML page with a drawing of the disk.
-    Picture,
-    /// A poster: an SVG file of its own with the same drawing, title, legend and directory.
-    Poster,
-}
-
-/// Which of the faults of an image are printed.
-#[derive(Clone, Copy, Debug, PartialEq, Eq)]
-pub enum Findings {
-    /// The first one that a check finds.
-    First,
-    /// All that hold, that one first, each with the files that it concerns.
-    All,
-}
-
-/// What is printed of each of several images.
-#[derive(Clone, Copy, Debug, PartialEq, Eq)]
-pub enum Overview {
-    /// Its directory, with its names in this form.
-    List(NameForm),
-    /// Whether its layout is clean, and otherwise what is wrong with it.
-    Check(Findings),
-    /// A line for each track.
-    Map,
 }
 
 /// What a job does on a disk that has lost a part of a file.
@@ -113,13 +101,74 @@ impl Unowned {
     }
 }
 
-/// What a repair does with the sectors that it makes right.
+/// What a change does with the image that comes of it.
 #[derive(Clone, Copy, Debug, PartialEq, Eq)]
 pub enum Effect {
-    /// It writes them.
+    /// It is kept in the place of the other.
     Written,
-    /// Only the lines are printed, and the image stays as it is.
+    /// Only the change's lines are printed, and the image stays as it is.
     Printed,
+}
+
+/// A change of the files of an image. A new file can have each name that a file gets, and a record 1 to 254 bytes; the caller
+/// that makes a job ensures that.
+#[derive(Drop)]
+pub enum Edit<'a> {
+    /// The map, the side sectors and the block counts are made right.
+    Repair {
+        /// What is done if the disk has lost a part of a file.
+        loss: Loss,
+        /// What is done with sectors that are taken and no file's.
+        unowned: Unowned,
+    },
+    /// The same, once the side sectors are built anew from the chains of their files.
+    RepairSides {
+        /// What is done if the disk has lost a part of a file.
+        loss: Loss,
+        /// What is done with sectors that are taken and no file's.
+        unowned: Unowned,
+    },
+    /// A relative file is made.
+    Make {
+        /// How many bytes a record has.
+        length: u8,
+        /// What is done if the disk has lost a part of a file.
+        loss: Loss,
+        /// The name of the file.
+        name: Name,
+    },
+    /// The first file of a name gets another name.
+    Rename {
+        /// The name that the file has.
+        from: Name,
+        /// The name that the file gets.
+        to: Name,
+    },
+    /// The first file of a name is deleted.
+    Delete {
+        /// The name of the file.
+        name: Name,
+    },
+    /// A new file is made, with the bytes of a file of the host.
+    Put {
+        /// The path of the file whose bytes it gets.
+        file: &'a str,
+        /// The type of the new file.
+        kind: FileType,
+        /// The name of the new file.
+        name: Name,
+    },
+    /// Records from the lines of a text are stored in a relative file.
+    Store {
+        /// The text's path.
+        records: &'a str,
+        /// How its lines have the records.
+        columns: Columns,
+        /// What is done if the disk has lost a part of a file.
+        loss: Loss,
+        /// The name of the file.
+        name: Name,
+    },
 }
 
 /// What the words of a command line ask for.
@@ -148,22 +197,10 @@ pub enum Job<'a> {
         /// The two bytes of the disk's ID.
         id: [u8; 2],
     },
-    /// The directory of an image.
-    List {
-        /// How its names are printed.
-        form: NameForm,
-        /// The image's path.
-        image: &'a str,
-    },
-    /// Whether the layout of an image is clean, and otherwise what is wrong with it.
-    Check {
-        /// What is printed of that.
-        findings: Findings,
-        /// The image's path.
-        image: &'a str,
-    },
-    /// What an image holds of a shop: how far new cards may go, the cards, and the last two requests of each till.
-    Show {
+    /// What is printed of an image that is read.
+    Look {
+        /// What is printed.
+        what: Look,
         /// The image's path.
         image: &'a str,
     },
@@ -202,28 +239,6 @@ pub enum Job<'a> {
         /// The copy's path.
         copy: &'a str,
     },
-    /// The map, the side sectors and the block counts of an image, made right.
-    Repair {
-        /// The image's path.
-        image: &'a str,
-        /// What is done if the disk has lost a part of a file.
-        loss: Loss,
-        /// What is done with sectors that are taken and no file's.
-        unowned: Unowned,
-        /// Whether the image is written.
-        effect: Effect,
-    },
-    /// The same of an image whose side sectors are built anew first, from the chains of their files.
-    RepairSides {
-        /// The image's path.
-        image: &'a str,
-        /// What is done if the disk has lost a part of a file.
-        loss: Loss,
-        /// What is done with sectors that are taken and no file's.
-        unowned: Unowned,
-        /// Whether the image is written.
-        effect: Effect,
-    },
     /// All files of an image that is read, made in a folder that isn't there yet.
     Extract {
         /// Which entries are taken out.
@@ -233,79 +248,14 @@ pub enum Job<'a> {
         /// The folder's path.
         folder: &'a str,
     },
-    /// What is taken out of an image that is read.
-    Take {
-        /// What is taken.
-        what: Taking,
+    /// The files of an image, changed.
+    Change {
         /// The image's path.
         image: &'a str,
-        /// The name of the file.
-        name: Name,
-    },
-    /// A relative file, made on the disk of an image.
-    Make {
-        /// The image's path.
-        image: &'a str,
-        /// How many bytes a record has, 1 to 254. The caller that makes a job ensures that.
-        length: u8,
-        /// What is done if the disk has lost a part of a file.
-        loss: Loss,
-        /// The name of the file, which a new file can have. The caller that makes a job ensures that.
-        name: Name,
-    },
-    /// The first file of a name, which gets another name on the disk of an image.
-    Rename {
-        /// The image's path.
-        image: &'a str,
-        /// The name that the file has.
-        from: Name,
-        /// The name that the file gets, which a new file can have. The caller that makes a job ensures that.
-        to: Name,
-    },
-    /// The first file of a name, deleted from the disk of an image.
-    Delete {
-        /// The image's path.
-        image: &'a str,
-        /// The name of the file.
-        name: Name,
-    },
-    /// A new file on the disk of an image, with the bytes of a file of the host.
-    Put {
-        /// The image's path.
-        image: &'a str,
-        /// The path of the file whose bytes it gets.
-        file: &'a str,
-        /// The type of the new file.
-        kind: FileType,
-        /// The name of the new file, which a new file can have. The caller that makes a job ensures that.
-        name: Name,
-    },
-    /// Records from the lines of a text, stored in a relative file of an image.
-    Store {
-        /// The image's path.
-        image: &'a str,
-        /// The text's path.
-        records: &'a str,
-        /// How its lines have the records.
-        columns: Columns,
-        /// What is done if the disk has lost a part of a file.
-        loss: Loss,
-        /// The name of the file.
-        name: Name,
-    },
-    /// An image that is read, drawn.
-    Draw {
-        /// How it is drawn.
-        what: Drawing,
-        /// The image's path.
-        image: &'a str,
-    },
-    /// What is printed of an image that is read and not checked.
-    View {
-        /// What is printed.
-        what: View,
-        /// The image's path.
-        image: &'a str,
+        /// How they are changed.
+        edit: Edit<'a>,
+        /// Whether the image is written.
+        effect: Effect,
     },
     /// Tracks 1 to 35 of an image that may have more, or error bytes.
     Trim {
@@ -333,7 +283,7 @@ pub enum Job<'a> {
     /// name.
     Several {
         /// What is printed of each.
-        what: Overview,
+        what: Look,
         /// The images' paths.
         images: Vec<&'a str>,
     },

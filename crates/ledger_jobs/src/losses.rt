@@ -1,16 +1,14 @@
-//! What a disk has lost of its files: it is looked for before a shop is served, and reported if a file is taken out.
+//! What a disk has lost of its files.
 ghost use Rattle.std.specs.Prelude.{◌≡◌, IfErr, IfOk, option_map};
 ghost use Rattle.command_faults.specs.declared.faults.CommandFault.TheVariants.{NoMemory};
 ghost use Rattle.ledger_jobs.specs.Losses.{IsEndOfRun, IsGuarded, IsJudged, IsSeen};
-ghost use Rattle.ledger_jobs.specs.Losses.{IsTakingEnd, taken_end};
 ghost use Rattle.ledger_jobs.specs.LoggedRuns.{IsLoggedRun, IsUnlogged};
 ghost use Rattle.ledger_jobs.specs.declared.refusals.Refusal.TheVariants as refusals;
 
-use crate::jobs::{Loss, Taking};
+use crate::jobs::Loss;
 use crate::logged_runs::serve_logged;
 use crate::outcomes::run_end;
 use crate::refusals::Refusal;
-use crate::takings::taking_run;
 use command_faults::CommandFault;
 use d64_image::{ImageFault, Place};
 use damaged_files::find_image_cut;
@@ -18,7 +16,6 @@ use disk_layout::Fault;
 use line_server::{BatchSource, Reports};
 use shop_log::ImageLog;
 use std::alloc::Global;
-use std::io::Write;
 
 /// The place where the first file of an image is cut short, of all or of those of a name. None also if the image has
 /// another size, or its disk isn't sound. The only error is `NoMemory`.
@@ -70,30 +67,4 @@ pub fn serve_logged_guarded<L: ImageLog, R: BatchSource, T: Reports<L>>(
         return Err(refusal);
     }
     run_end(serve_logged(alloc, image, log, input, out))
-}
-
-/// How a taking ended of a file that is cut short there, or isn't.
-fn taken_end(ended: Result<(), CommandFault>, cut: Option<Place>) -> Result<Option<Fault>, Refusal>
-    ensures { result ≡ taken_end ended cut }
-{
-    match (ended, cut) {
-        (Ok(()), Some(place)) => Err(Refusal::Short(place)),
-        (ended, _) => run_end(ended),
-    }
-}
-
-/// Prints what is asked for of the file of this name in an image, as `taking_run` does. `Short` if what was printed isn't
-/// all that the file had. `name` has no shifted spaces at its end.
-pub fn take_told<W: Write>(
-    alloc: Global,
-    what: Taking,
-    image: &[u8],
-    name: &[u8],
-    out: &mut W,
-) -> Result<Option<Fault>, Refusal>
-    ensures { IsTakingEnd W.contents what image.now name.now out.old out.new result }
-{
-    let cut = cut_in(alloc, image, Some(name))?;
-    let ended = taking_run(alloc, what, image, name, out);
-    taken_end(ended, cut)
 }

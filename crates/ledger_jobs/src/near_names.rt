@@ -2,7 +2,7 @@
 ghost use Rattle.ledger_jobs.specs.Rights.{MayReadImage};
 
 use crate::files::STANDARD_INPUT;
-use crate::jobs::Job;
+use crate::jobs::{Edit, Job, Look};
 use crate::names::Name;
 use crate::readings::image_of_file;
 use disk_reports::print_near_names;
@@ -16,8 +16,16 @@ const NO_SUCH_FILE: &str = "it has no such file; `ledger list` shows what it has
 /// The name of the file that it asks for.
 fn name_of<'j>(job: &'j Job<'_>) -> Option<&'j Name> {
     match job {
-        Job::Take { name, .. } | Job::Store { name, .. } | Job::Delete { name, .. } => Some(name),
-        Job::Rename { from, .. } => Some(from),
+        Job::Look {
+            what: Look::Records { name, .. } | Look::Bytes { name, .. },
+            ..
+        } => Some(name),
+        Job::Change {
+            edit: Edit::Store { name, .. }
+            | Edit::Delete { name }
+            | Edit::Rename { from: name, .. },
+            ..
+        } => Some(name),
         _ => None,
     }
 }

@@ -1,24 +1,19 @@
 //! Several images, each read as if it were alone. What is printed of each stands after its name.
-ghost use Rattle.std.specs.Prelude.{◌≡◌, IfErr, IfOk, OnOk, Some, vec_items, All, map};
+ghost use Rattle.std.specs.Prelude.{◌≡◌, IfErr, IfOk, OnOk, vec_items, All, map};
 ghost use Rattle.std.specs.Io.KnownBytes.{Appends};
 ghost use Rattle.command_faults.specs.declared.faults.CommandFault.TheVariants as faults;
-ghost use Rattle.ledger_jobs.specs.EachImage.{AreEach, IsOneFrom, as_loaded};
-ghost use Rattle.ledger_jobs.specs.Ends.{EndsAs, as_job};
-ghost use Rattle.ledger_jobs.specs.HostFiles.{IsReadAt};
+ghost use Rattle.ledger_jobs.specs.EachImage.{as_loaded};
 ghost use Rattle.ledger_jobs.specs.JobRuns.{AreOverviewed};
-ghost use Rattle.ledger_jobs.specs.Overviews.{IsOneOfSeveral, IsOverview, IsOverviewOf, IsToldAs};
-ghost use Rattle.ledger_jobs.specs.Runs.{IsReadingEnd};
+ghost use Rattle.ledger_jobs.specs.Overviews.{IsOneOfSeveral, IsOverviewOf, IsToldAs};
 ghost use Rattle.line_text.specs.Named.{named};
 ghost use Rattle.ledger_jobs.specs.Rights.{MayReadImage};
 
-use crate::drawing::drawing_run;
+use crate::each_image::{PrintsImage, print_each};
 use crate::endings::end;
-use crate::jobs::{Drawing, Findings, Overview, Reading};
-use crate::listings::listing_run;
-use crate::outcomes::{job_end, several_end};
-use crate::readings::image_at;
+use crate::jobs::Look;
+use crate::looks::look;
+use crate::outcomes::several_end;
 use crate::refusals::Refusal;
-use crate::shop_runs::reading_run;
 use command_faults::CommandFault;
 use disk_layout::Fault;
 use image_file::{HostFiles, Locks, ShownPath};
@@ -29,35 +24,6 @@ use std::io::{Read, Write};
 
 /// How many bytes memory is taken for at once for what one image prints: more than a directory or a map has.
 const ROOM: usize = 32768;
-
-/// Does what is asked of these bytes.
-fn read<W: Write>(
-    alloc: Global,
-    what: Reading,
-    image: &[u8],
-    out: &mut W,
-) -> Result<Option<Fault>, Refusal>
-    ensures { EndsAs as_job result (IsReadingEnd W.contents what image.now out.old out.new) }
-{
-    job_end(reading_run(alloc, what, image, out))
-}
-
-/// Prints what is asked of one image, as if it were alone.
-fn overview<W: Write>(
-    alloc: Global,
-    what: Overview,
-    image: &[u8],
-    out: &mut W,
-) -> Result<Option<Fault>, Refusal>
-    ensures { IsOverview W.contents what image.now out.old out.new result }
-{
-    match what {
-        Overview::List(form) => read(alloc, Reading::List(form), image, out),
-        Overview::Check(Findings::First) => read(alloc, Reading::Check, image, out),
-        Overview::Check(Findings::All) => job_end(listing_run(alloc, image, out)),
-        Overview::Map => job_end(drawing_run(alloc, Drawing::Map, image, out)),
-    }
-}
 
 /// Prints a text line by line, each after the image's name. `File` if the output failed.
 fn put_text<W: Write>(name: &[u8], text: &[u8], out: &mut W) -> Result<(), CommandFault>
@@ -96,18 +62,18 @@ fn tell_named<W: Write>(
 /// `File` if the output failed, which may then have a part; `NoMemory`, and nothing is printed.
 pub fn overview_run<W: Write>(
     alloc: Global,
-    what: Overview,
+    what: &Look,
     name: &[u8],
     image: &[u8],
     out: &mut W,
 ) -> Result<u8, CommandFault>
-    ensures ok { IfOk result (IsOneOfSeveral W.contents what name.now image.now out.old out.new) }
+    ensures ok { IfOk result (IsOneOfSeveral W.contents what.now name.now image.now out.old out.new) }
 {
     let mut text = match Vec::with_capacity(alloc, ROOM) {
         Ok(text) => text,
         Err(_) => return Err(CommandFault::NoMemory),
     };
-    let ended = overview(alloc, what, image, &mut text);
+    let ended = look(alloc, what, image, &mut text);
     tell_named(name, text, ended, out)
 }
 
@@ -115,12 +81,12 @@ pub fn overview_run<W: Write>(
 /// status.
 fn overview_of<W: Write>(
     alloc: Global,
-    what: Overview,
+    what: &Look,
     path: &str,
     read: Result<Vec<u8>, Refusal>,
     out: &mut W,
 ) -> Result<u8, CommandFault>
-    ensures ok { IfOk result (IsOverviewOf W.contents what path.now (as_loaded read) out.old out.new) }
+    ensures ok { IfOk result (IsOverviewOf W.contents what.now path.now (as_loaded read) out.old out.new) }
 {
     let Ok(name) = format!(in alloc; "{}", ShownPath(path)) else {
         return Err(CommandFault::NoMemory);
@@ -131,35 +97,22 @@ fn overview_of<W: Write>(
     }
 }
 
-/// Prints what is asked of the image at a path, or why it can't be read, and returns its exit status.
-fn do_one<F, R, W>(rt: &R, what: Overview, path: &str, out: &mut W) -> Result<u8, CommandFault>
-where
-    F: Read + Locks + OpenFile + Drop,
-    R: HostFiles<File = F> + Input + AllocGlobal,
-    W: Write,
-    requires { MayReadImage R.rights rt.now path.now }
-    ensures ok { IfOk result
-        (IsOneFrom (IsReadAt R.rights R.stands rt.now) (IsOverviewOf W.contents what) path.now out.old out.new) }
-{
-    overview_of(rt.alloc(), what, path, image_at(rt, path), out)
-}
+/// Images that are looked at. What is printed of each stands after its name.
+#[derive(Clone, Copy)]
+struct Named<'a>(&'a Look);
 
-/// Prints what is asked of each of several images, in their order, and returns the greatest exit status of theirs.
-fn do_each<F, R, W>(rt: &R, what: Overview, paths: &[&str], out: &mut W) -> Result<u8, CommandFault>
-where
-    F: Read + Locks + OpenFile + Drop,
-    R: HostFiles<File = F> + Input + AllocGlobal,
-    W: Write,
-    requires { All (λ path. MayReadImage R.rights rt.now path.now) paths.now }
-    ensures ok { IfOk result (AreEach (IsReadAt R.rights R.stands rt.now) (IsOverviewOf W.contents what)
-        (map (λ path. path.now) paths.now) out.old out.new) }
-{
-    let mut greatest = 0;
-    for path in paths {
-        let status = do_one(rt, what, path, out)?;
-        greatest = status.max(greatest);
+impl<R: HostFiles + AllocGlobal, W: Write> PrintsImage<R, W> for Named<'_> {
+    ghost prints = { λ named. IsOverviewOf W.contents named.0.now };
+
+    fn print(
+        &self,
+        rt: &R,
+        path: &str,
+        read: Result<Vec<u8>, Refusal>,
+        out: &mut W,
+    ) -> Result<u8, CommandFault> {
+        overview_of(rt.alloc(), self.0, path, read, out)
     }
-    Ok(greatest)
 }
 
 /// Prints what is asked of each of several images, in their order. An image is locked with others that read it while it
@@ -169,7 +122,7 @@ where
 /// images after that one aren't read.
 pub(crate) fn do_several<F, R, W>(
     rt: &R,
-    what: Overview,
+    what: &Look,
     paths: &[&str],
     out: &mut W,
 ) -> Result<Option<Fault>, Refusal>
@@ -178,10 +131,10 @@ where
     R: HostFiles<File = F> + Input + AllocGlobal,
     W: Write,
     requires { All (λ path. MayReadImage R.rights rt.now path.now) paths.now }
-    ensures { AreOverviewed R.rights R.stands W.contents rt.now what (map (λ path. path.now) paths.now)
+    ensures { AreOverviewed R.rights R.stands W.contents rt.now what.now (map (λ path. path.now) paths.now)
         out.old out.new result }
 {
-    match do_each(rt, what, paths, out) {
+    match print_each(rt, &Named(what), paths, out) {
         Ok(greatest) => several_end(greatest, out),
         Err(fault) => Err(Refusal::Fault(fault)),
     }

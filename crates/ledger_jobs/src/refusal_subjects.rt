@@ -1,5 +1,5 @@
 //! What a refusal is about, and what is said of it to a person.
-use crate::jobs::Job;
+use crate::jobs::{Edit, Job};
 use crate::refusals::Refusal;
 use command_faults::CommandFault;
 use disk_layout::Fault;
@@ -81,7 +81,13 @@ fn about_fault(fault: CommandFault) -> About {
 /// What a fault of this job is about. A repair that keeps side sectors as they are says which flag builds them anew.
 fn about_job(job: &Job<'_>, fault: CommandFault) -> About {
     match (job, fault) {
-        (Job::Repair { .. }, CommandFault::Layout(Fault::BadSide(_))) => About::Image(SIDES),
+        (
+            Job::Change {
+                edit: Edit::Repair { .. },
+                ..
+            },
+            CommandFault::Layout(Fault::BadSide(_)),
+        ) => About::Image(SIDES),
         _ => about_fault(fault),
     }
 }

@@ -1,13 +1,13 @@
 //! A contact sheet of images, each read as if it were alone.
-ghost use Rattle.std.specs.Prelude.{IfOk, List, map, ℕ, All};
-ghost use Rattle.ledger_jobs.specs.EachImage.{AreEach, IsOneFrom, IsSeveralEnd, Loaded, as_loaded};
+ghost use Rattle.std.specs.Prelude.{All, IfOk, map};
+ghost use Rattle.ledger_jobs.specs.EachImage.{as_loaded};
 ghost use Rattle.ledger_jobs.specs.HostFiles.{IsReadAt};
 ghost use Rattle.ledger_jobs.specs.SheetPages.{IsSheetPrinted, IsTileOf, IsUnreadTile};
 ghost use Rattle.ledger_jobs.specs.JobRuns.{AreDrawnOnSheet};
 ghost use Rattle.ledger_jobs.specs.Rights.{MayReadImage};
 
+use crate::each_image::{PrintsImage, print_each};
 use crate::outcomes::status_end;
-use crate::readings::image_at;
 use crate::refusals::Refusal;
 use command_faults::CommandFault;
 use disk_layout::Fault;
@@ -16,38 +16,6 @@ use image_file::{HostFiles, Locks};
 use std::alloc::Global;
 use std::fs::OpenFile;
 use std::io::{Read, Write};
-
-/// Where the images of a sheet are read from.
-trait ImageSource {
-    /// What may be read at a path: an image's bytes, or why there are none.
-    ghost gives: { Self → List ℕ → Loaded → Type 0 };
-
-    /// Whether it may be read there.
-    ghost may_give: { Self → List ℕ → Type 0 };
-
-    /// Reads the image at a path.
-    fn image(&self, path: &str) -> Result<Vec<u8>, Refusal>
-        requires { may_give self.now path.now }
-        ensures { gives self.now path.now (as_loaded result) };
-}
-
-/// The images of files, whose bytes are those that the host says, and that of standard input.
-#[derive(Clone, Copy)]
-struct FileImages<'a, R>(&'a R);
-
-impl<F, R> ImageSource for FileImages<'_, R>
-where
-    F: Read + Locks + OpenFile + Drop,
-    R: HostFiles<File = F> + Input + AllocGlobal,
-{
-    ghost gives = { λ files path read. IsReadAt R.rights R.stands files.0.now path read };
-
-    ghost may_give = { λ files path. MayReadImage R.rights files.0.now path };
-
-    fn image(&self, path: &str) -> Result<Vec<u8>, Refusal> {
-        image_at(self.0, path)
-    }
-}
 
 /// Prints the tile of an image that can't be read, with what the command would report of it alone. Returns its exit
 /// status.
@@ -82,51 +50,36 @@ fn put_tile_of<W: Write>(
     }
 }
 
-/// Reads the image at a path, prints its tile, and returns the exit status that `picture` has for it.
-fn put_tile_at<S: ImageSource, W: Write>(
-    alloc: Global,
-    source: &S,
-    path: &str,
-    out: &mut W,
-) -> Result<u8, CommandFault>
-    requires { S.may_give source.now path.now }
-    ensures ok { IfOk result (IsOneFrom (S.gives source.now) (IsTileOf W.contents) path.now out.old out.new) }
-{
-    put_tile_of(alloc, path, source.image(path), out)
-}
+/// Images that have a tile each on a sheet.
+#[derive(Clone, Copy)]
+struct Tiled;
 
-/// Prints the tile of each image, in their order, and returns the greatest exit status of theirs.
-fn put_tiles<S: ImageSource, W: Write>(
-    alloc: Global,
-    source: &S,
-    paths: &[&str],
-    out: &mut W,
-) -> Result<u8, CommandFault>
-    requires { All (λ path. S.may_give source.now path.now) paths.now }
-    ensures ok { IfOk result
-        (AreEach (S.gives source.now) (IsTileOf W.contents) (map (λ path. path.now) paths.now) out.old out.new) }
-{
-    let mut greatest = 0;
-    for path in paths {
-        let status = put_tile_at(alloc, source, path, out)?;
-        greatest = status.max(greatest);
+impl<R: HostFiles + AllocGlobal, W: Write> PrintsImage<R, W> for Tiled {
+    ghost prints = { λ _. IsTileOf W.contents };
+
+    fn print(
+        &self,
+        rt: &R,
+        path: &str,
+        read: Result<Vec<u8>, Refusal>,
+        out: &mut W,
+    ) -> Result<u8, CommandFault> {
+        put_tile_of(rt.alloc(), path, read, out)
     }
-    Ok(greatest)
 }
 
-/// Prints the sheet of what the source gives at these paths, and returns the greatest exit status of its images.
-fn put_sheet<S: ImageSource, W: Write>(
-    alloc: Global,
-    source: &S,
-    paths: &[&str],
-    out: &mut W,
-) -> Result<u8, CommandFault>
-    requires { All (λ path. S.may_give source.now path.now) paths.now }
-    ensures ok { IfOk result
-        (IsSheetPrinted (S.gives source.now) W.contents (map (λ path. path.now) paths.now) out.old out.new) }
+/// Prints the sheet of the images at these paths, and returns the greatest exit status of theirs.
+fn put_sheet<F, R, W>(rt: &R, paths: &[&str], out: &mut W) -> Result<u8, CommandFault>
+where
+    F: Read + Locks + OpenFile + Drop,
+    R: HostFiles<File = F> + Input + AllocGlobal,
+    W: Write,
+    requires { All (λ path. MayReadImage R.rights rt.now path.now) paths.now }
+    ensures ok { IfOk result (IsSheetPrinted (IsReadAt R.rights R.stands rt.now) W.contents
+        (map (λ path. path.now) paths.now) out.old out.new) }
 {
     sheet_begin(out, paths.len())?;
-    let greatest = put_tiles(alloc, source, paths, out)?;
+    let greatest = print_each(rt, &Tiled, paths, out)?;
     sheet_finish(out)?;
     Ok(greatest)
 }
@@ -147,7 +100,7 @@ where
     requires { All (λ path. MayReadImage R.rights rt.now path.now) paths.now }
     ensures { AreDrawnOnSheet R.rights R.stands W.contents rt.now (map (λ path. path.now) paths.now) out.old out.new result }
 {
-    match put_sheet(rt.alloc(), &FileImages(rt), paths, out) {
+    match put_sheet(rt, paths, out) {
         Ok(greatest) => status_end(greatest),
         Err(fault) => Err(Refusal::Fault(fault)),
     }

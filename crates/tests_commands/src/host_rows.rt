@@ -3,7 +3,7 @@
 use crate::comparing::same_at;
 use crate::images::formatted;
 use image_file::HostFiles;
-use ledger_jobs::{Findings, Job, do_job};
+use ledger_jobs::{Job, Look, do_job};
 use test_files::Known;
 
 #[test]
@@ -13,8 +13,8 @@ fn an_image_is_checked_where_nothing_may_be_written(rt: HostRuntime) {
         alloc: rt.alloc(),
         bytes: image.as_slice(),
     };
-    let job = Job::Check {
-        findings: Findings::First,
+    let job = Job::Look {
+        what: Look::Check,
         image: "a.d64",
     };
     let mut out = Vec::new(rt.alloc());

@@ -3,11 +3,10 @@ use Rattle.std.proofs.Common.{◌≡◌, ◌∙◌, Bor, List, Option, Result, S
 use Rattle.std.specs.Prelude.{codes, map, option_map, unwrap_or}
 use Rattle.clap.specs.Words.{Row, Text, all_of, found_of, rows_of}
 use Rattle.command_table.specs.Grammar.{values}
-use Rattle.ledger_cli.specs.Images.{AreDescribed, IsCheckJob, IsDescribing, IsOverviewJob}
+use Rattle.ledger_cli.specs.Images.{AreDescribed, IsCheckJob, IsDescribing, IsLookJob}
 use Rattle.ledger_cli.specs.Flags.{is_given}
-use Rattle.ledger_jobs.specs.declared.jobs.Findings.{Findings}
 use Rattle.ledger_jobs.specs.declared.jobs.Job.{Job}
-use Rattle.ledger_jobs.specs.declared.jobs.Overview.TheVariants as overviews
+use Rattle.ledger_jobs.specs.declared.jobs.Look.{Look}
 use Rattle.ledger_cli.specs.declared.faults.JobFault.{JobFault}
 use Rattle.ledger_cli.proofs.images.checking.Goals as goal
 
@@ -31,7 +30,7 @@ returns-then-not-is_given c =
     let rows = rows_of (found_of c.args.matches.now) in
     inl (
       sym c.is_given.ensures ∙ c.if-not-is_given.true,
-      subst (λ (what : Findings). IsOverviewJob rows (overviews.Check what) c.viewing.result) c.findings.ensures c.viewing.ensures,
+      subst (λ (what : Look). IsLookJob rows what c.viewing.result) c.checked.ensures c.viewing.ensures,
     )
 
 pub returns : goal.returns

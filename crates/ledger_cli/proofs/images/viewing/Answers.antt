@@ -2,10 +2,10 @@
 use Rattle.std.proofs.Common.{◌≡◌, ◌∙◌, Bor, List, Option, Result, Some, [], ap, inl, inr, subst, sym}
 use Rattle.std.specs.Prelude.{codes, map, option_map, unwrap_or}
 use Rattle.clap.specs.Words.{Row, Text, all_of, found_of, rows_of}
-use Rattle.ledger_cli.specs.Images.{AreImages, IsOverviewJob, IsSeveral}
+use Rattle.ledger_cli.specs.Images.{AreImages, IsLookJob, IsSeveral}
 use Rattle.ledger_jobs.specs.declared.jobs.Job.{Job}
 use Rattle.ledger_cli.specs.declared.faults.JobFault.{JobFault}
-use Rattle.ledger_jobs.specs.declared.jobs.Overview.{Overview}
+use Rattle.ledger_jobs.specs.declared.jobs.Look.{Look}
 use Rattle.ledger_cli.proofs.images.viewing.Goals as goal
 
 given-values : (o : Option (Bor (List (Bor Text)))) (given : Bor (List (Bor Text))) (rows : Option (List Text))
@@ -16,8 +16,8 @@ given-values o given rows is told =
     (option_map (λ (s : Bor (List (Bor Text))). map (λ (v : Bor Text). v.now) s.now) t) []) (sym is)
     ∙ ap (λ (r : Option (List Text)). unwrap_or r []) told
 
-several-viewed : (rows : List Row) (what : Overview) (images : List (Bor Text)) (r : Result Job JobFault)
-    → IsSeveral what images r → AreImages rows images → IsOverviewJob rows what r
+several-viewed : (rows : List Row) (what : Look) (images : List (Bor Text)) (r : Result Job JobFault)
+    → IsSeveral what images r → AreImages rows images → IsLookJob rows what r
 several-viewed rows what images r (inl made) are =
     inr (inl (made.0, made.1, subst (AreImages rows) (sym made.2) are))
 several-viewed rows what images r (inr none) are = inr (inr none)

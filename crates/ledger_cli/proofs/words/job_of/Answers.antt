@@ -3,12 +3,13 @@ use Rattle.std.proofs.Common.{[], ap, inl, inr, refl, subst, sym, ◌∙◌}
 use Rattle.std.specs.Prelude.{IfOk, MatchResult, codes}
 use Rattle.clap.specs.Words.{found_of, rows_of, subcommand_rows_of}
 use Rattle.line_text.specs.Numbers.{number_in}
+use Rattle.ledger_jobs.specs.declared.jobs.Edit.TheVariants as edits
 use Rattle.ledger_jobs.specs.declared.jobs.Job.TheVariants as jobs
-use Rattle.ledger_jobs.specs.declared.jobs.Overview.TheVariants as overviews
-use Rattle.ledger_jobs.specs.declared.jobs.Taking.TheVariants as takings
+use Rattle.ledger_jobs.specs.declared.jobs.Look.TheVariants as looks
 use Rattle.ledger_jobs.specs.Jobs.{IsFit}
 use Rattle.ledger_cli.specs.Jobs.{IsJob, IsNoJob}
 use Rattle.ledger_cli.specs.Flags.{is_given}
+use Rattle.ledger_cli.specs.Forms.{byte_form_in, candidates_in, effect_in}
 use Rattle.ledger_cli.specs.Numbers.{spelled_place}
 use Rattle.ledger_cli.proofs.Pictures.{picturing-met}
 use Rattle.ledger_cli.proofs.Named.{making-met, named-met, new-met, putting-met, records-met, renaming-met}
@@ -48,8 +49,8 @@ returns-in-None c = record {
 
 pub returns-in-list : goal.returns-in-list
 returns-in-list c =
-    let met = viewing-met c.parsed_subcommand.result _ c.in-Some.name c.in-Some.found (overviews.List c.name_form.result)
-    c.viewing.result c.parsed_subcommand.ensures c.in-Some.is c.in-list.is c.name_form.ensures c.viewing.ensures in
+    let met = viewing-met c.parsed_subcommand.result _ c.in-Some.name c.in-Some.found (looks.List c.name_form.result)
+    c.viewing.result c.parsed_subcommand.ensures c.in-Some.is c.in-list.is tt c.name_form.ensures c.viewing.ensures in
     record { job = met.0; fit = met.1 }
 
 pub returns-in-check : goal.returns-in-check
@@ -61,7 +62,7 @@ returns-in-check c =
 pub returns-in-show : goal.returns-in-show
 returns-in-show c = record {
   job = met-has c.parsed_subcommand.result _ c.in-Some.name c.in-Some.found _ _ c.parsed_subcommand.ensures c.in-Some.is c.in-show.is
-      c.value_of-image.ensures;
+      (c.value_of-image.ensures, tt, tt);
   fit = tt;
 }
 
@@ -130,9 +131,10 @@ pub returns-in-bytes : goal.returns-in-bytes
 returns-in-bytes c =
     let rows = rows_of (found_of c.in-Some.found.now) in
     let is = met-is c.parsed_subcommand.result _ c.in-Some.name c.in-Some.found _ c.parsed_subcommand.ensures c.in-Some.is c.in-bytes.is in
-    let met = named-met _ rows (jobs.Take (takings.Bytes c.byte_form.result c.candidates.result) c.value_of-image.result) c.taking.result
-    (λ name at. record { rows = rows; is = is; holds = (c.value_of-image.ensures, at, (c.byte_form.ensures, c.candidates.ensures)) }) (λ name. tt)
-    (λ missing. inl (takings.Bytes c.byte_form.result c.candidates.result, record { rows = rows; is = is; holds = missing })) c.taking.ensures in
+    let met = named-met _ rows (λ name. jobs.Look (looks.Bytes (byte_form_in rows) (candidates_in rows) name) c.value_of-image.result)
+    c.taking_bytes.result
+    (λ name at. record { rows = rows; is = is; holds = (c.value_of-image.ensures, tt, (at, refl, refl)) }) (λ name. tt)
+    (λ missing. inl (inr (record { rows = rows; is = is; holds = missing }))) c.taking_bytes.ensures in
     record { job = met.0; fit = met.1 }
 
 pub returns-in-make : goal.returns-in-make
@@ -167,8 +169,8 @@ pub returns-in-delete : goal.returns-in-delete
 returns-in-delete c =
     let rows = rows_of (found_of c.in-Some.found.now) in
     let is = met-is c.parsed_subcommand.result _ c.in-Some.name c.in-Some.found _ c.parsed_subcommand.ensures c.in-Some.is c.in-delete.is in
-    let met = named-met _ rows (jobs.Delete c.value_of-image.result) c.deleting.result
-    (λ name at. record { rows = rows; is = is; holds = (c.value_of-image.ensures, at) }) (λ name. tt)
+    let met = named-met _ rows (λ name. jobs.Change c.value_of-image.result (edits.Delete name) (effect_in rows)) c.deleting.result
+    (λ name at. record { rows = rows; is = is; holds = (c.value_of-image.ensures, at, refl) }) (λ name. tt)
     (λ missing. inr (inr (inr (inl (record { rows = rows; is = is; holds = missing }))))) c.deleting.ensures in
     record { job = met.0; fit = met.1 }
 
@@ -181,8 +183,8 @@ returns-in-new c =
 
 pub returns-in-map : goal.returns-in-map
 returns-in-map c =
-    let met = viewing-met c.parsed_subcommand.result _ c.in-Some.name c.in-Some.found overviews.Map c.viewing-in-map.result
-    c.parsed_subcommand.ensures c.in-Some.is c.in-map.is tt c.viewing-in-map.ensures in
+    let met = viewing-met c.parsed_subcommand.result _ c.in-Some.name c.in-Some.found looks.Map c.viewing-in-map.result
+    c.parsed_subcommand.ensures c.in-Some.is c.in-map.is tt tt c.viewing-in-map.ensures in
     record { job = met.0; fit = met.1 }
 
 pub returns-in-picture : goal.returns-in-picture
@@ -194,14 +196,14 @@ returns-in-picture c =
 pub returns-in-free : goal.returns-in-free
 returns-in-free c = record {
   job = met-has c.parsed_subcommand.result _ c.in-Some.name c.in-Some.found _ _ c.parsed_subcommand.ensures c.in-Some.is c.in-free.is
-      (c.value_of-image.ensures, tt);
+      (c.value_of-image.ensures, tt, tt);
   fit = tt;
 }
 
 pub returns-in-Some-place_of : goal.returns-in-Some-place_of
 returns-in-Some-place_of c = record {
   job = met-has c.parsed_subcommand.result _ c.in-Some.name c.in-Some.found _ _ c.parsed_subcommand.ensures c.in-Some.is c.in-sector.is
-      (c.value_of-image.ensures, ap spelled_place (sym c.value_of-in-sector.ensures) ∙ sym c.in-Some-place_of.ensures);
+      (c.value_of-image.ensures, tt, ap spelled_place (sym c.value_of-in-sector.ensures) ∙ sym c.in-Some-place_of.ensures);
   fit = tt;
 }
 

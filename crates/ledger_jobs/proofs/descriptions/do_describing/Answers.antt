@@ -8,5 +8,5 @@ use Rattle.ledger_jobs.proofs.descriptions.do_describing.Goals as goal
 pub returns-in-Ok : goal.returns-in-Ok
 returns-in-Ok g c =
     several-told (IsReadAt g.R.HostFiles.rights g.R.HostFiles.stands c.args.rt.now) (IsObjectOf g.W.Write.contents)
-    g.W.Write.contents (map (λ path. path.now) c.args.paths.now) c.args.out.now c.put_objects.new.out c.several_end.new.out
+    g.W.Write.contents (map (λ path. path.now) c.args.paths.now) c.args.out.now c.print_each.new.out c.several_end.new.out
     c.in-Ok.greatest c.several_end.result c.in-Ok.ensures.ok c.several_end.ensures

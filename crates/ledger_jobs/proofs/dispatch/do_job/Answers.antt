@@ -1,36 +1,19 @@
 -- What is said of what was done with the files is said of the job.
-use Rattle.std.proofs.Common.{List, ap, map, subst, sym, ◌∙◌, ℕ}
+use Rattle.std.proofs.Common.{List, map, subst, sym, ℕ}
 use Rattle.std.specs.Borrow.{Bor}
 use Rattle.ledger_jobs.specs.JobRuns.{AreDescribed, AreDrawnOnSheet, AreOverviewed, IsJobOver}
-use Rattle.ledger_jobs.specs.declared.jobs.Findings.{Findings}
 use Rattle.ledger_jobs.specs.declared.jobs.Job.{Job}
-use Rattle.ledger_jobs.specs.declared.jobs.Job.TheVariants as jobs
 use Rattle.ledger_jobs.proofs.dispatch.do_job.Goals as goal
 
-pub returns-in-List : goal.returns-in-List
-returns-in-List g c =
+pub returns-in-Look : goal.returns-in-Look
+returns-in-Look g c =
     subst (λ (job : Job). IsJobOver g.R.HostFiles.rights g.R.HostFiles.stands g.W.Write.contents c.args.rt.now job
-    c.args.out.now c.do_reading.new.out c.do_reading.result) (sym c.in-List.is) c.do_reading.ensures
+    c.args.out.now c.do_look.new.out c.do_look.result) (sym c.in-Look.is) c.do_look.ensures
 
-pub returns-in-First : goal.returns-in-First
-returns-in-First g c =
+pub returns-in-Dry : goal.returns-in-Dry
+returns-in-Dry g c =
     subst (λ (job : Job). IsJobOver g.R.HostFiles.rights g.R.HostFiles.stands g.W.Write.contents c.args.rt.now job
-    c.args.out.now c.do_reading-in-First.new.out c.do_reading-in-First.result) (sym (c.in-Check.is ∙ ap (λ (f : Findings). jobs.Check f c.in-Check.image) c.in-First.is)) c.do_reading-in-First.ensures
-
-pub returns-in-All : goal.returns-in-All
-returns-in-All g c =
-    subst (λ (job : Job). IsJobOver g.R.HostFiles.rights g.R.HostFiles.stands g.W.Write.contents c.args.rt.now job
-    c.args.out.now c.do_listing.new.out c.do_listing.result) (sym (c.in-Check.is ∙ ap (λ (f : Findings). jobs.Check f c.in-Check.image) c.in-All.is)) c.do_listing.ensures
-
-pub returns-in-Draw : goal.returns-in-Draw
-returns-in-Draw g c =
-    subst (λ (job : Job). IsJobOver g.R.HostFiles.rights g.R.HostFiles.stands g.W.Write.contents c.args.rt.now job
-    c.args.out.now c.do_drawing.new.out c.do_drawing.result) (sym c.in-Draw.is) c.do_drawing.ensures
-
-pub returns-in-View : goal.returns-in-View
-returns-in-View g c =
-    subst (λ (job : Job). IsJobOver g.R.HostFiles.rights g.R.HostFiles.stands g.W.Write.contents c.args.rt.now job
-    c.args.out.now c.do_viewing.new.out c.do_viewing.result) (sym c.in-View.is) c.do_viewing.ensures
+    c.args.out.now c.do_dry.new.out c.do_dry.result) (sym c.in-Dry.is) c.do_dry.ensures
 
 pub returns-in-New : goal.returns-in-New
 returns-in-New g c =
@@ -53,40 +36,10 @@ returns-in-Extract g c =
     subst (λ (job : Job). IsJobOver g.R.HostFiles.rights g.R.HostFiles.stands g.W.Write.contents c.args.rt.now job
     c.args.out.now c.do_extracting.new.out c.do_extracting.result) (sym c.in-Extract.is) c.do_extracting.ensures
 
-pub returns-in-Repair : goal.returns-in-Repair
-returns-in-Repair g c =
+pub returns-in-Change : goal.returns-in-Change
+returns-in-Change g c =
     subst (λ (job : Job). IsJobOver g.R.HostFiles.rights g.R.HostFiles.stands g.W.Write.contents c.args.rt.now job
-    c.args.out.now c.do_repair.new.out c.do_repair.result) (sym c.in-Repair.is) c.do_repair.ensures
-
-pub returns-in-RepairSides : goal.returns-in-RepairSides
-returns-in-RepairSides g c =
-    subst (λ (job : Job). IsJobOver g.R.HostFiles.rights g.R.HostFiles.stands g.W.Write.contents c.args.rt.now job
-    c.args.out.now c.do_rebuild.new.out c.do_rebuild.result) (sym c.in-RepairSides.is) c.do_rebuild.ensures
-
-pub returns-in-Make : goal.returns-in-Make
-returns-in-Make g c =
-    subst (λ (job : Job). IsJobOver g.R.HostFiles.rights g.R.HostFiles.stands g.W.Write.contents c.args.rt.now job
-    c.args.out.now c.do_make.new.out c.do_make.result) (sym c.in-Make.is) c.do_make.ensures
-
-pub returns-in-Rename : goal.returns-in-Rename
-returns-in-Rename g c =
-    subst (λ (job : Job). IsJobOver g.R.HostFiles.rights g.R.HostFiles.stands g.W.Write.contents c.args.rt.now job
-    c.args.out.now c.do_rename.new.out c.do_rename.result) (sym c.in-Rename.is) c.do_rename.ensures
-
-pub returns-in-Delete : goal.returns-in-Delete
-returns-in-Delete g c =
-    subst (λ (job : Job). IsJobOver g.R.HostFiles.rights g.R.HostFiles.stands g.W.Write.contents c.args.rt.now job
-    c.args.out.now c.do_delete.new.out c.do_delete.result) (sym c.in-Delete.is) c.do_delete.ensures
-
-pub returns-in-Put : goal.returns-in-Put
-returns-in-Put g c =
-    subst (λ (job : Job). IsJobOver g.R.HostFiles.rights g.R.HostFiles.stands g.W.Write.contents c.args.rt.now job
-    c.args.out.now c.do_put.new.out c.do_put.result) (sym c.in-Put.is) c.do_put.ensures
-
-pub returns-in-Store : goal.returns-in-Store
-returns-in-Store g c =
-    subst (λ (job : Job). IsJobOver g.R.HostFiles.rights g.R.HostFiles.stands g.W.Write.contents c.args.rt.now job
-    c.args.out.now c.do_store.new.out c.do_store.result) (sym c.in-Store.is) c.do_store.ensures
+    c.args.out.now c.do_edit.new.out c.do_edit.result) (sym c.in-Change.is) c.do_edit.ensures
 
 pub returns-in-Compare : goal.returns-in-Compare
 returns-in-Compare g c =

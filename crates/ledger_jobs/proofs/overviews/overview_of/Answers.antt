@@ -4,11 +4,11 @@ use Rattle.std.specs.Prelude.{IfOk, string_bytes, vec_items}
 use Rattle.command_faults.specs.declared.faults.CommandFault.{CommandFault}
 use Rattle.ledger_jobs.specs.EachImage.{as_loaded}
 use Rattle.ledger_jobs.specs.Overviews.{IsOverviewOf, IsToldAs}
-use Rattle.ledger_jobs.specs.declared.jobs.Overview.{Overview}
+use Rattle.ledger_jobs.specs.declared.jobs.Look.{Look}
 use Rattle.ledger_jobs.specs.declared.refusals.Refusal.{Refusal}
 use Rattle.ledger_jobs.proofs.overviews.overview_of.Goals as goal
 
-unread : {W : Type 0} (contents : W → Option (List ℕ)) (what : Overview) (path name text : List ℕ) (refusal : Refusal)
+unread : {W : Type 0} (contents : W → Option (List ℕ)) (what : Look) (path name text : List ℕ) (refusal : Refusal)
     (old new : W) (told : Result ℕ CommandFault) → text ≡ [] → IfOk told (IsToldAs contents name text (Err refusal) old new)
     → IfOk told (IsOverviewOf contents what path (Err refusal) old new)
 unread contents what path name text refusal old new (Ok status) none told =
@@ -17,9 +17,9 @@ unread contents what path name text refusal old new (Err fault) none told = tt
 
 pub returns : goal.returns
 returns g c = record {
-  ok = subst (λ read. IfOk c.tell_named.result (IsOverviewOf g.W.Write.contents c.args.what c.args.path.now (as_loaded read)
+  ok = subst (λ read. IfOk c.tell_named.result (IsOverviewOf g.W.Write.contents c.args.what.now c.args.path.now (as_loaded read)
       c.args.out.now c.tell_named.new.out))
       (sym c.in-Err.is)
-      (unread g.W.Write.contents c.args.what c.args.path.now c.as_bytes-in-Err.result.now (vec_items c.new.result)
+      (unread g.W.Write.contents c.args.what.now c.args.path.now c.as_bytes-in-Err.result.now (vec_items c.new.result)
       c.in-Err.refusal c.args.out.now c.tell_named.new.out c.tell_named.result c.new.ensures.items c.tell_named.ensures.ok);
 }

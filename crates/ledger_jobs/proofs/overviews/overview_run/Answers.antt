@@ -2,14 +2,15 @@
 use Rattle.std.proofs.Common.{◌≡◌, [], Global, List, Option, Some, Vec, ℕ}
 use Rattle.std.specs.Prelude.{Err, IfOk, Ok, Result, vec_items}
 use Rattle.ledger_jobs.specs.Ends.{JobEnd}
-use Rattle.ledger_jobs.specs.Overviews.{IsOneOfSeveral, IsOverview, IsToldAs}
-use Rattle.ledger_jobs.specs.declared.jobs.Overview.{Overview}
+use Rattle.ledger_jobs.specs.Looks.{IsLook}
+use Rattle.ledger_jobs.specs.Overviews.{IsOneOfSeveral, IsToldAs}
+use Rattle.ledger_jobs.specs.declared.jobs.Look.{Look}
 use Rattle.command_faults.specs.declared.faults.CommandFault.{CommandFault}
 use Rattle.ledger_jobs.proofs.overviews.overview_run.Goals as goal
 
-one-of : {W : Type 0} (contents : W → Option (List ℕ)) (what : Overview) (name image : List ℕ) (old new : W)
+one-of : {W : Type 0} (contents : W → Option (List ℕ)) (what : Look) (name image : List ℕ) (old new : W)
     (before after : Vec ℕ Global) (end : JobEnd) (r : Result ℕ CommandFault) → vec_items before ≡ []
-    → IsOverview (λ (text : Vec ℕ Global). Some (vec_items text)) what image before after end
+    → IsLook (λ (text : Vec ℕ Global). Some (vec_items text)) what image before after end
     → IfOk r (IsToldAs contents name (vec_items after) end old new)
     → IfOk r (IsOneOfSeveral contents what name image old new)
 one-of contents what name image old new before after end (Ok status) empty alone told = record {
@@ -24,7 +25,7 @@ one-of contents what name image old new before after end (Err fault) empty alone
 
 pub returns : goal.returns
 returns g c = record {
-  ok = one-of g.W.Write.contents c.args.what c.args.name.now c.args.image.now c.args.out.now c.tell_named.new.out
-      c.in-Ok.text c.overview-ended.new.out c.overview-ended.result c.tell_named.result c.in-Ok.ensures.items
-      c.overview-ended.ensures c.tell_named.ensures.ok;
+  ok = one-of g.W.Write.contents c.args.what.now c.args.name.now c.args.image.now c.args.out.now c.tell_named.new.out
+      c.in-Ok.text c.look-ended.new.out c.look-ended.result c.tell_named.result c.in-Ok.ensures.items
+      c.look-ended.ensures c.tell_named.ensures.ok;
 }

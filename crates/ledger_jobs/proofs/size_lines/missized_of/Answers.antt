@@ -2,7 +2,7 @@
 use Rattle.std.proofs.Common.{subst, sym}
 use Rattle.std.specs.Prelude.{IfSome}
 use Rattle.ledger_jobs.specs.Rights.{MayLook}
-use Rattle.ledger_jobs.proofs.Looks.{if-mapped, look-first}
+use Rattle.ledger_jobs.proofs.Lookable.{if-mapped, look-first}
 use Rattle.ledger_jobs.proofs.size_lines.missized_of.Goals as goal
 
 pub returns-in_default : goal.returns-in_default

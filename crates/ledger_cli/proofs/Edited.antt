@@ -1,0 +1,32 @@
+-- What is known of a change and of its refusal may be weakened, over the file of a job.
+use Rattle.std.proofs.Common.{List, None, Ok, Err, Option, Result, Some, ℕ}
+use Rattle.disk_changes.specs.declared.changes.Changed.{Changed}
+use Rattle.disk_changes.specs.declared.changes.Why.{Why}
+use Rattle.folder_changes.specs.declared.stops.Stop.{Stop}
+use Rattle.folder_changes.specs.declared.stops.Stop.TheVariants as stops
+use Rattle.ledger_cli.specs.Changed.{IsChangeJob, IsChangeWritten}
+use Rattle.ledger_jobs.proofs.ChangedOver.{told-weaker}
+use Rattle.ledger_jobs.specs.Ends.{JobEnd}
+use Rattle.ledger_jobs.specs.declared.jobs.Effect.{Effect}
+use Rattle.ledger_jobs.specs.declared.jobs.Effect.TheVariants.{Printed, Written}
+
+module _ {F W : Type 0} (position : F → Option ℕ) (bytes contents : F → Option (List ℕ)) (told : W → Option (List ℕ))
+    (Is Then : Changed → Type 0) (Refuses Why' : Why → Type 0) (f : (made : Changed) → Is made → Then made)
+    (g : (why : Why) → Refuses why → Why' why)
+  where
+    written : (file after : F) (old new : W) (r : Result ℕ Stop)
+        → IsChangeWritten position bytes contents told Is Refuses file after old new r
+        → IsChangeWritten position bytes contents told Then Why' file after old new r
+    written file after old new (Ok left) (made, is, rest) = (made, f made is, rest)
+    written file after old new (Err (stops.Refused why)) (is, rest) = (g why is, rest)
+    written file after old new (Err stops.Device) (made, is, rest) = (made, f made is, rest)
+    written file after old new (Err stops.Output) (made, is, rest) = (made, f made is, rest)
+
+    pub job-weaker : (effect : Effect) (file after : Option F) (old new : W) (end : JobEnd)
+        → IsChangeJob position bytes contents told effect Is Refuses file after old new end
+        → IsChangeJob position bytes contents told effect Then Why' file after old new end
+    job-weaker Written None after old new end is = is
+    job-weaker Written (Some file) after old new end (left, same, ended, ends, is) =
+        (left, same, ended, ends, written file left old new ended is)
+    job-weaker Printed file after old new end (same, ended, ends, is) =
+        (same, ended, ends, (told-weaker told Is Then Refuses Why' old new f g ended is.0, is.1))
