@@ -61,7 +61,7 @@ pub records-met : (found : Option (Text × List Row)) (rows : List Row) (image :
     → found ≡ Some (codes "records", rows) → image.now ≡ value (codes "IMAGE") rows
     → IsRecordsJob rows image r → MatchResult r (IsJob found) (IsNoJob [] found) × IfOk r IsFit
 records-met found rows image r is by-image (inl (form, by-form, named)) =
-    named-met found rows (λ name. jobs.Look (looks.Records form (candidates_in rows) name) image) r
+    named-met found rows (λ name. jobs.Look image (looks.Records form (candidates_in rows) name)) r
     (λ name at. record { rows = rows; is = is; holds = (by-image, tt, (at, by-form, refl)) })
     (λ name. tt)
     (λ missing. inl (inl (record { rows = rows; is = is; holds = missing })))

@@ -97,16 +97,16 @@ format-fit image tills false fit = fit
 -- that of `repair`: with --sides the side sectors are built anew first
 pub repair-met : (found : Option (Text × List Row)) (rows : List Row) (image : Bor Text) (sides : Bool)
     → is_given (codes "sides") rows ≡ sides → found ≡ Some (codes "repair", rows) → image.now ≡ value (codes "IMAGE") rows
-    → IsJob found (jobs.Change image (if sides then edits.RepairSides (loss_in rows) (unowned_in rows)
-    else edits.Repair (loss_in rows) (unowned_in rows)) (effect_in rows))
+    → IsJob found (jobs.Change image (effect_in rows) (if sides then edits.RepairSides (loss_in rows) (unowned_in rows)
+    else edits.Repair (loss_in rows) (unowned_in rows)))
 repair-met found rows image true given is by-image =
     record { rows = rows; is = is; holds = (by-image, (refl, refl, given), refl) }
 repair-met found rows image false given is by-image =
     record { rows = rows; is = is; holds = (by-image, (refl, refl, given), refl) }
 
 pub repair-fit : (rows : List Row) (image : Bor Text) (sides : Bool)
-    → IsFit (jobs.Change image (if sides then edits.RepairSides (loss_in rows) (unowned_in rows)
-    else edits.Repair (loss_in rows) (unowned_in rows)) (effect_in rows))
+    → IsFit (jobs.Change image (effect_in rows) (if sides then edits.RepairSides (loss_in rows) (unowned_in rows)
+    else edits.Repair (loss_in rows) (unowned_in rows)))
 repair-fit rows image true = tt
 repair-fit rows image false = tt
 

@@ -19,14 +19,14 @@ use Rattle.ledger_cli.proofs.Parses.{met-has, met-is}
 picture-met : (found : Option (Text × List Row)) (rows : List Row) (image : Bor Text) (svg : Bool)
     → is_given (codes "svg") rows ≡ svg → found ≡ Some (codes "picture", rows)
     → image.now ≡ value (codes "IMAGE") rows → IsForOne rows
-    → IsJob found (if svg then jobs.Look looks.Poster image else jobs.Look looks.Picture image)
+    → IsJob found (if svg then jobs.Look image looks.Poster else jobs.Look image looks.Picture)
 picture-met found rows image true given is by-image one =
     record { rows = rows; is = is; holds = (by-image, one, given) }
 picture-met found rows image false given is by-image one =
     record { rows = rows; is = is; holds = (by-image, one, given) }
 
 picture-fit : (image : Bor Text) (svg : Bool)
-    → IsFit (if svg then jobs.Look looks.Poster image else jobs.Look looks.Picture image)
+    → IsFit (if svg then jobs.Look image looks.Poster else jobs.Look image looks.Picture)
 picture-fit image true = tt
 picture-fit image false = tt
 

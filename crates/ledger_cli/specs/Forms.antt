@@ -100,5 +100,5 @@ effect_in rows = if is_given (codes "dry-run") rows then effects.Printed else ef
 -- the job that repairs an image: with --sides its side sectors are built anew first
 abbrev pub repair_job : List Row → Bor Text → Job
 repair_job rows image =
-    jobs.Change image (if is_given (codes "sides") rows then edits.RepairSides (loss_in rows) (unowned_in rows)
-    else edits.Repair (loss_in rows) (unowned_in rows)) (effect_in rows)
+    jobs.Change image (effect_in rows) (if is_given (codes "sides") rows then edits.RepairSides (loss_in rows) (unowned_in rows)
+    else edits.Repair (loss_in rows) (unowned_in rows))

@@ -18,7 +18,7 @@ use Rattle.ledger_cli.specs.declared.faults.JobFault.TheVariants as faults
 -- the job that draws an image for other eyes than a terminal's: with --svg as a poster
 abbrev pub picture_job : List Row → Bor Text → Job
 picture_job rows image =
-    if is_given (codes "svg") rows then jobs.Look looks.Poster image else jobs.Look looks.Picture image
+    if is_given (codes "svg") rows then jobs.Look image looks.Poster else jobs.Look image looks.Picture
 
 -- two of --svg, --sheet and --compare are given
 abbrev pub has_two_forms : List Row → Bool
@@ -64,7 +64,7 @@ IsSeveral what images result =
 -- the job, or why there is none, of a subcommand that prints this of one image, or of several
 abbrev pub IsLookJob : List Row → Look → Result Job JobFault → Type 0
 IsLookJob rows what result =
-    ((image : Bor Text) × (result ≡ Ok (jobs.Look what image)) × (image.now ≡ value (codes "IMAGE") rows) × IsOne rows)
+    ((image : Bor Text) × (result ≡ Ok (jobs.Look image what)) × (image.now ≡ value (codes "IMAGE") rows) × IsOne rows)
     ⊎ (((images : Vec (Bor Text) Global) × (result ≡ Ok (jobs.Several what images)) × AreImages rows (vec_items images))
     ⊎ ((e : Error) × (result ≡ Err (faults.Words e)) × HasKind [] e))
 

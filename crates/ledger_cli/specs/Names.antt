@@ -61,19 +61,19 @@ IsColumnFault rows result = (fault : JobFault) × (result ≡ Err fault) × HasN
 -- the job that takes records out of the file of that name; or there is no name, or no columns
 abbrev pub IsRecordsJob : List Row → Bor Text → Result Job JobFault → Type 0
 IsRecordsJob rows image result = ((form : RecordForm) × IsRecordForm rows form
-    × IsNamedJob rows (λ name. jobs.Look (looks.Records form (candidates_in rows) name) image) result) ⊎ IsColumnFault rows result
+    × IsNamedJob rows (λ name. jobs.Look image (looks.Records form (candidates_in rows) name)) result) ⊎ IsColumnFault rows result
 
 -- the job that stores records in a file of that name; or there is no name, or no columns
 abbrev pub IsStoringJob : List Row → Bor Text → Result Job JobFault → Type 0
 IsStoringJob rows image result = ((records : Bor Text) × (columns : Columns)
     × (records.now ≡ value (codes "RECORDS") rows) × AreColumns rows columns
-    × IsNamedJob rows (λ name. jobs.Change image (edits.Store records columns (loss_in rows) name) (effect_in rows)) result)
+    × IsNamedJob rows (λ name. jobs.Change image (effect_in rows) (edits.Store records columns (loss_in rows) name)) result)
     ⊎ IsColumnFault rows result
 
 -- the job that makes a relative file; or there is no name for it, or no length of its records
 abbrev pub IsMakingJob : List Row → Bor Text → Result Job JobFault → Type 0
 IsMakingJob rows image result =
-    ((name : Name) × (size : ℕ) × (result ≡ Ok (jobs.Change image (edits.Make size (loss_in rows) name) (effect_in rows)))
+    ((name : Name) × (size : ℕ) × (result ≡ Ok (jobs.Change image (effect_in rows) (edits.Make size (loss_in rows) name)))
     × IsNameOf (value (codes "NAME") rows) (name_bytes name) × IsNewName (name_bytes name)
     × (length_in rows ≡ Some size) × IsLength size)
     ⊎ (((result ≡ Err faults.Name) × HasNoNewName (codes "NAME") rows)
@@ -86,7 +86,7 @@ HasNoRenaming rows = HasNoName (codes "OLD") rows ⊎ HasNoNewName (codes "NEW")
 -- the job that gives a file another name; or one of the two is none
 abbrev pub IsRenamingJob : List Row → Bor Text → Result Job JobFault → Type 0
 IsRenamingJob rows image result =
-    ((from : Name) × (to : Name) × (result ≡ Ok (jobs.Change image (edits.Rename from to) (effect_in rows)))
+    ((from : Name) × (to : Name) × (result ≡ Ok (jobs.Change image (effect_in rows) (edits.Rename from to)))
     × IsNameOf (value (codes "OLD") rows) (name_bytes from) × IsNameOf (value (codes "NEW") rows) (name_bytes to)
     × IsNewName (name_bytes to))
     ⊎ ((result ≡ Err faults.Name) × HasNoRenaming rows)
@@ -111,7 +111,7 @@ type_in rows = type_named (value (codes "TYPE") rows)
 -- the job that puts a file on the disk; or there is no name for it, or no type
 abbrev pub IsPuttingJob : List Row → Bor Text → Result Job JobFault → Type 0
 IsPuttingJob rows image result =
-    ((name : Name) × (file : Bor Text) × (kind : FileType) × (result ≡ Ok (jobs.Change image (edits.Put file kind name) (effect_in rows)))
+    ((name : Name) × (file : Bor Text) × (kind : FileType) × (result ≡ Ok (jobs.Change image (effect_in rows) (edits.Put file kind name)))
     × IsNameOf (value (codes "NAME") rows) (name_bytes name) × IsNewName (name_bytes name)
     × (file.now ≡ value (codes "FILE") rows) × (type_in rows ≡ Some kind))
     ⊎ (((result ≡ Err faults.Name) × HasNoNewName (codes "NAME") rows)

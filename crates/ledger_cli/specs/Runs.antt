@@ -81,7 +81,7 @@ module _ {F : Type 0} (position : F → Option ℕ) (bytes contents : F → Opti
       IsFormatted told tills file after old new end
   IsJobRun told (jobs.New path name id) image script file after old new end =
       IsNewMade told (name_bytes name) id file after old new end
-  IsJobRun told (jobs.Look what path) image script file after old new end = (after ≡ file) × IsLook told what image old new end
+  IsJobRun told (jobs.Look path what) image script file after old new end = (after ≡ file) × IsLook told what image old new end
   IsJobRun told (jobs.Dry path) image script file after old new end = (after ≡ file) × IsDryRun told script old new end
   IsJobRun told (jobs.Play path text) image script file after old new end =
       IsPlayed told image script file after old new end
@@ -90,7 +90,7 @@ module _ {F : Type 0} (position : F → Option ℕ) (bytes contents : F → Opti
   IsJobRun told (jobs.Serve path loss) image script file after old new end =
       (after ≡ file) × (new ≡ old) × (end ≡ Err (refusals.Fault faults.File))
   IsJobRun told (jobs.Copy path copy) image script file after old new end = IsCopyJob told image file after old new end
-  IsJobRun told (jobs.Change path edit effect) image script file after old new end = IsChangeJob position bytes contents told effect
+  IsJobRun told (jobs.Change path effect edit) image script file after old new end = IsChangeJob position bytes contents told effect
       (IsEdited edit script image) (IsUnedited edit script image) file after old new end
   IsJobRun told (jobs.Trim path) image script file after old new end =
       (after ≡ file) × (new ≡ old) × (end ≡ Err (refusals.Fault faults.File))

@@ -30,7 +30,7 @@ pub(crate) fn taking_bytes<'a>(
     image: &'a str,
 ) -> Result<Job<'a>, JobFault>
     ensures { let rows = rows_of (found_of matches.now) in
-        IsNamedJob rows (λ name. jobs.Look (looks.Bytes (byte_form_in rows) (candidates_in rows) name) image.entry) result }
+        IsNamedJob rows (λ name. jobs.Look image.entry (looks.Bytes (byte_form_in rows) (candidates_in rows) name)) result }
 {
     let Some(name) = Name::read(value_of(matches, "NAME")) else {
         return Err(JobFault::Name);
@@ -50,7 +50,7 @@ fn records_in<'a>(
     image: &'a str,
 ) -> Result<Job<'a>, JobFault>
     ensures { let rows = rows_of (found_of matches.now) in
-        IsNamedJob rows (λ name. jobs.Look (looks.Records form (candidates_in rows) name) image.entry) result }
+        IsNamedJob rows (λ name. jobs.Look image.entry (looks.Records form (candidates_in rows) name)) result }
 {
     let Some(name) = Name::read(value_of(matches, "NAME")) else {
         return Err(JobFault::Name);
@@ -78,7 +78,7 @@ pub(crate) fn taking_records<'a>(
 
 /// The job that changes an image so, or only prints what that would print.
 fn edited<'a>(matches: &ArgMatches<'a>, image: &'a str, edit: Edit<'a>) -> Job<'a>
-    ensures { result ≡ jobs.Change image.entry edit (effect_in (rows_of (found_of matches.now))) }
+    ensures { result ≡ jobs.Change image.entry (effect_in (rows_of (found_of matches.now))) edit }
 {
     Job::Change {
         image,
@@ -124,7 +124,7 @@ fn storing_in<'a>(
     ensures { (records : Bor Text) × (records.now ≡ value (codes "RECORDS") (rows_of (found_of matches.now)))
         × IsNamedJob (rows_of (found_of matches.now)) (λ name.
         let rows = rows_of (found_of matches.now) in
-        jobs.Change image.entry (edits.Store records columns (loss_in rows) name) (effect_in rows)) result }
+        jobs.Change image.entry (effect_in rows) (edits.Store records columns (loss_in rows) name)) result }
 {
     let records = value_of(matches, "RECORDS");
     match Name::read(value_of(matches, "NAME")) {
@@ -154,7 +154,7 @@ pub(crate) fn storing<'a>(matches: &ArgMatches<'a>, image: &'a str) -> Result<Jo
 /// The job that deletes a file of an image.
 pub(crate) fn deleting<'a>(matches: &ArgMatches<'a>, image: &'a str) -> Result<Job<'a>, JobFault>
     ensures { let rows = rows_of (found_of matches.now) in
-        IsNamedJob rows (λ name. jobs.Change image.entry (edits.Delete name) (effect_in rows)) result }
+        IsNamedJob rows (λ name. jobs.Change image.entry (effect_in rows) (edits.Delete name)) result }
 {
     match Name::read(value_of(matches, "NAME")) {
         Some(name) => Ok(edited(matches, image, Edit::Delete { name })),

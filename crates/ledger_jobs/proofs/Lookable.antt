@@ -17,8 +17,8 @@ pub look-first : {H : Type 0} (rights : Rights H) (host : H) (job : Job) → May
 look-first rights host (jobs.Format image tills) may = λ other. (may other).0.0
 look-first rights host (jobs.FormatNew image tills) may = λ other. (may other).0.0
 look-first rights host (jobs.New image name id) may = λ other. (may other).0.0
-look-first rights host (jobs.Look what image) may = λ other. (may other).0.0
-look-first rights host (jobs.Change image edit effect) may = λ other. (may other).0.0
+look-first rights host (jobs.Look image what) may = λ other. (may other).0.0
+look-first rights host (jobs.Change image effect edit) may = λ other. (may other).0.0
 look-first rights host (jobs.Play image script) may = λ other. (may other).0.0
 look-first rights host (jobs.PlayLogged image script) may = λ other. (may other).0.0
 look-first rights host (jobs.Dry script) may = λ other. (may other).0.0

@@ -1,5 +1,5 @@
 -- How a look ended, from what its command says of what it printed.
-use Rattle.std.proofs.Common.{◌≡◌, ◌≢◌, List, None, Option, Result, Ok, Err, Some, absurd, ap, inl, length, refl, subst, sym, ℕ}
+use Rattle.std.proofs.Common.{◌≡◌, ◌≢◌, List, None, Option, Result, Ok, Err, Some, ap, inl, length, refl, subst, sym, ℕ}
 use Rattle.std.specs.Prelude.{IfErr, IfOk, IsSome, OnErr, OnOk, is_some}
 use Rattle.d64_image.specs.declared.place.Place.{Place}
 use Rattle.disk_layout.specs.declared.faults.Fault.{Fault}
@@ -41,7 +41,7 @@ module _ {W : Type 0} (old new : W) where
       (IsDryRefusal script) old new end
   dry-printed Printed script (Ok _) end is good ok err untouched =
       let P : W → W → Type 0 = λ before after. (first_reset (lines script) ≡ None) × Printed before after in
-      subst (IsQuietPrint P (IsDryRefusal script) old new) (sym is) (refl, good, ok)
+      subst (IsQuietPrint P (IsDryRefusal script) old new) (sym is) (refl, (good, ok))
   dry-printed Printed script (Err (dry.BadLine line)) end is good ok bad untouched =
       let P : W → W → Type 0 = λ before after. (first_reset (lines script) ≡ None) × Printed before after in
       subst (IsQuietPrint P (IsDryRefusal script) old new) (sym is) (bad, λ _. untouched (ap is_some bad))

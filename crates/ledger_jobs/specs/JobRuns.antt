@@ -96,12 +96,12 @@ module _ {H W : Type 0} (rights : Rights H) (stands : H → List ℕ → Stands)
 
   -- a job ended so, over the bytes that the host has at the paths of its words
   abbrev pub IsJobOver : Job → W → W → JobEnd → Type 0
-  IsJobOver (jobs.Look what image) old new end = IsLookedAt what image.now old new end
+  IsJobOver (jobs.Look image what) old new end = IsLookedAt what image.now old new end
   IsJobOver (jobs.Dry script) old new end = IsDryOver stands contents host script.now old new end
   IsJobOver (jobs.Compare before after) old new end = IsComparedOver before.now after.now old new end
   IsJobOver (jobs.Copy image copy) old new end = IsCopiedFrom image.now old new end
   IsJobOver (jobs.Extract choice image folder) old new end = IsExtractedFrom choice image.now old new end
-  IsJobOver (jobs.Change image edit effect) old new end = IsEditOver effect image.now edit old new end
+  IsJobOver (jobs.Change image effect edit) old new end = IsEditOver effect image.now edit old new end
   IsJobOver (jobs.Format image tills) old new end = IsMakingEnd contents (codes "FORMATTED\n") old new end
   IsJobOver (jobs.FormatNew image tills) old new end = IsMakingEnd contents (codes "FORMATTED\n") old new end
   IsJobOver (jobs.New image name id) old new end = IsMakingEnd contents (codes "FORMATTED\n") old new end

@@ -10,6 +10,6 @@ use Rattle.ledger_jobs.specs.declared.jobs.Job.TheVariants as jobs
 abbrev pub IsFit : Job → Type 0
 IsFit (jobs.Format image tills) = (1 ≤ tills) × (tills ≤ 64)
 IsFit (jobs.FormatNew image tills) = (1 ≤ tills) × (tills ≤ 64)
-IsFit (jobs.Change image edit effect) = IsFitEdit edit
+IsFit (jobs.Change image effect edit) = IsFitEdit edit
 IsFit (jobs.New image name id) = length (name_bytes name) ≤ 16
 IsFit _ = ⊤

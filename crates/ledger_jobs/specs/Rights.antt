@@ -23,8 +23,8 @@ abbrev pub first_file : Job → Option (List ℕ)
 first_file (jobs.Format image tills) = Some image.now
 first_file (jobs.FormatNew image tills) = Some image.now
 first_file (jobs.New image name id) = Some image.now
-first_file (jobs.Look what image) = Some image.now
-first_file (jobs.Change image edit effect) = Some image.now
+first_file (jobs.Look image what) = Some image.now
+first_file (jobs.Change image effect edit) = Some image.now
 first_file (jobs.Play image script) = Some image.now
 first_file (jobs.PlayLogged image script) = Some image.now
 first_file (jobs.Dry script) = Some script.now
@@ -85,8 +85,8 @@ module _ {H : Type 0} (rights : Rights H) (host : H) where
   MayDo (jobs.Format image tills) = MayMakeImage image.now × MayOverwrite image.now
   MayDo (jobs.FormatNew image tills) = MayMakeImage image.now
   MayDo (jobs.New image name id) = MayMakeImage image.now
-  MayDo (jobs.Look what image) = MayReadImage image.now
-  MayDo (jobs.Change image edit effect) = MayEdit effect image.now × MayReadSource edit
+  MayDo (jobs.Look image what) = MayReadImage image.now
+  MayDo (jobs.Change image effect edit) = MayEdit effect image.now × MayReadSource edit
   MayDo (jobs.Play image script) = MayChangeImage image.now × MayReadText script.now
   MayDo (jobs.PlayLogged image script) = MayChangeImage image.now × MayReadText script.now
   MayDo (jobs.Dry script) = MayReadText script.now

@@ -199,10 +199,10 @@ pub enum Job<'a> {
     },
     /// What is printed of an image that is read.
     Look {
-        /// What is printed.
-        what: Look,
         /// The image's path.
         image: &'a str,
+        /// What is printed.
+        what: Look,
     },
     /// The messages of a script, played on the shop of an image, which is synced at the end.
     Play {
@@ -252,10 +252,10 @@ pub enum Job<'a> {
     Change {
         /// The image's path.
         image: &'a str,
-        /// How they are changed.
-        edit: Edit<'a>,
         /// Whether the image is written.
         effect: Effect,
+        /// How they are changed.
+        edit: Edit<'a>,
     },
     /// Tracks 1 to 35 of an image that may have more, or error bytes.
     Trim {

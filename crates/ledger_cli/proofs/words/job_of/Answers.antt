@@ -131,7 +131,7 @@ pub returns-in-bytes : goal.returns-in-bytes
 returns-in-bytes c =
     let rows = rows_of (found_of c.in-Some.found.now) in
     let is = met-is c.parsed_subcommand.result _ c.in-Some.name c.in-Some.found _ c.parsed_subcommand.ensures c.in-Some.is c.in-bytes.is in
-    let met = named-met _ rows (λ name. jobs.Look (looks.Bytes (byte_form_in rows) (candidates_in rows) name) c.value_of-image.result)
+    let met = named-met _ rows (λ name. jobs.Look c.value_of-image.result (looks.Bytes (byte_form_in rows) (candidates_in rows) name))
     c.taking_bytes.result
     (λ name at. record { rows = rows; is = is; holds = (c.value_of-image.ensures, tt, (at, refl, refl)) }) (λ name. tt)
     (λ missing. inl (inr (record { rows = rows; is = is; holds = missing }))) c.taking_bytes.ensures in
@@ -169,7 +169,7 @@ pub returns-in-delete : goal.returns-in-delete
 returns-in-delete c =
     let rows = rows_of (found_of c.in-Some.found.now) in
     let is = met-is c.parsed_subcommand.result _ c.in-Some.name c.in-Some.found _ c.parsed_subcommand.ensures c.in-Some.is c.in-delete.is in
-    let met = named-met _ rows (λ name. jobs.Change c.value_of-image.result (edits.Delete name) (effect_in rows)) c.deleting.result
+    let met = named-met _ rows (λ name. jobs.Change c.value_of-image.result (effect_in rows) (edits.Delete name)) c.deleting.result
     (λ name at. record { rows = rows; is = is; holds = (c.value_of-image.ensures, at, refl) }) (λ name. tt)
     (λ missing. inr (inr (inr (inl (record { rows = rows; is = is; holds = missing }))))) c.deleting.ensures in
     record { job = met.0; fit = met.1 }
