@@ -1,11 +1,13 @@
 //! The files of a host, by their paths.
-ghost use Rattle.std.specs.Prelude.{◌≡◌, Bool, IfOk, IsErr, List, ℕ, string_bytes, true};
+ghost use Rattle.std.specs.Prelude.{◌≡◌, Bool, IfOk, IsErr, List, ℕ, false, string_bytes, true};
 ghost use Rattle.image_file.specs.paths.Rights.{Look, Make, May, Read as ToRead, Remove, Replace, Rights, Use, Write as ToWrite};
 ghost use Rattle.image_file.specs.paths.Standing.{AreOf, IsMissing, Stands, Unsaid};
 
+use crate::paths::mounts::{MOUNTS, is_listed};
 use std::alloc::Global;
 use std::fs::{File, Metadata, OpenFile, OpenOptions};
 use std::io::{self, ErrorKind, Read, Seek};
+use std::os::unix::fs::OpenOptionsExt;
 use std::rt::Files;
 
 /// The files of a host. Each call says what it does with the file at a path, and needs the right to do that. So code that
@@ -24,6 +26,16 @@ pub trait HostFiles {
     fn look_at(&self, path: &str) -> io::Result<Metadata>
         requires { May rights self.now Look path.now }
         ensures { IsMissing stands self.now path.now → IsErr result };
+
+    /// Whether anything has this path as its name, also a symbolic link that leads nowhere.
+    fn is_named(&self, path: &str) -> io::Result<bool>
+        requires { May rights self.now Look path.now }
+        ensures { IsMissing stands self.now path.now → IfOk result (λ named. named ≡ false) };
+
+    /// Whether the file at a path was mounted there by itself: then it has another name somewhere. False if the host doesn't
+    /// know.
+    fn is_mounted(&self, alloc: Global, path: &str) -> io::Result<bool>
+        requires { May rights self.now Look path.now };
 
     /// The path of the file to which a path leads. It is the path itself if there is no file, or if the host doesn't know.
     fn resolve(&self, alloc: Global, path: &str) -> io::Result<String>
@@ -50,8 +62,9 @@ pub trait HostFiles {
     fn open_to_write(&self, path: &str) -> io::Result<Self::File>
         requires { May rights self.now ToWrite path.now };
 
-    /// Makes a file at a path, open to be written. `AlreadyExists` if anything stands there.
-    fn make_file(&self, path: &str) -> io::Result<Self::File>
+    /// Makes a file at a path, open to be written, with these of the bits of its mode that the host lets a file have.
+    /// `AlreadyExists` if anything stands there.
+    fn make_file(&self, path: &str, mode: u32) -> io::Result<Self::File>
         requires { May rights self.now Make path.now };
 
     /// Makes a folder at a path. `AlreadyExists` if anything stands there.
@@ -65,6 +78,10 @@ pub trait HostFiles {
 
     /// Takes the name of the file at a path away.
     fn take_name(&self, path: &str) -> io::Result<()>
+        requires { May rights self.now Remove path.now };
+
+    /// Removes the folder at a path with all that is in it.
+    fn take_folder(&self, alloc: Global, path: &str) -> io::Result<()>
         requires { May rights self.now Remove path.now };
 }
 
@@ -94,6 +111,21 @@ impl<R: Files> HostFiles for R {
         self.metadata(path)
     }
 
+    fn is_named(&self, path: &str) -> io::Result<bool> {
+        match self.symlink_metadata(path) {
+            Ok(_) => Ok(true),
+            Err(error) if error.kind() == ErrorKind::NotFound => Ok(false),
+            Err(error) => Err(error),
+        }
+    }
+
+    fn is_mounted(&self, alloc: Global, path: &str) -> io::Result<bool> {
+        match File::open(self, MOUNTS) {
+            Ok(list) => is_listed(alloc, list, self.resolve(alloc, path)?.as_str()),
+            Err(_) => Ok(false),
+        }
+    }
+
     fn resolve(&self, alloc: Global, path: &str) -> io::Result<String> {
         match self.canonicalize(alloc, path) {
             Ok(found) => Ok(found.into_string()),
@@ -120,10 +152,11 @@ impl<R: Files> HostFiles for R {
         OpenOptions::new().write(true).open(self, path)
     }
 
-    fn make_file(&self, path: &str) -> io::Result<R::File> {
+    fn make_file(&self, path: &str, mode: u32) -> io::Result<R::File> {
         OpenOptions::new()
             .write(true)
             .create_new(true)
+            .mode(mode)
             .open(self, path)
     }
 
@@ -137,5 +170,9 @@ impl<R: Files> HostFiles for R {
 
     fn take_name(&self, path: &str) -> io::Result<()> {
         self.remove_file(path)
+    }
+
+    fn take_folder(&self, alloc: Global, path: &str) -> io::Result<()> {
+        self.remove_dir_all(alloc, path)
     }
 }
