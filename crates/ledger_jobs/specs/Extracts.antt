@@ -32,6 +32,11 @@ IsExtractTold contents None old new end =
     ((end ≡ Ok None) × Appends (contents old) (contents new) (codes "EXTRACTED\n"))
     ⊎ ((end ≡ Err (refusals.Fault faults.File)) × AppendsPart (contents old) (contents new) (codes "EXTRACTED\n"))
 
+-- files that were made so were given their folder's name, or that failed
+abbrev pub IsNamed : (made ended : Result (Option Fault) CommandFault) → Type 0
+IsNamed (Ok found) ended = (ended ≡ Ok found) ⊎ ((ended ≡ Err faults.File) ⊎ (ended ≡ Err faults.NoMemory))
+IsNamed (Err fault) ended = ended ≡ Err fault
+
 -- The chosen files of the image were made in the folder, or not all for a fault. That was reported, with what is seen of files
 -- that are cut short. Or there was no memory to see that, and nothing was done.
 abbrev pub IsExtractEnd : {F W : Type 0} → (F → Option (List NewFile)) → (W → Option (List ℕ)) → Choice → (image : List ℕ)

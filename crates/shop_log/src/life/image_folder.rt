@@ -164,9 +164,7 @@ where
     fn make_log(&mut self) -> io::Result<SystemLog<'a, R>> {
         forget_making(self.rt, self.names)?;
         let like = OpenFile::metadata(&self.image)?;
-        let file = self
-            .rt
-            .make_file(self.names.making(), private_mode(&like))?;
+        let file = self.rt.make_file(self.names.making(), private_mode(&like))?;
         file.guard_as(&like);
         let identity = identity_of(&file)?;
         Ok(self.log_of(file, identity, false))
