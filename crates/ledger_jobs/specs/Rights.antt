@@ -8,7 +8,7 @@ use Rattle.ledger_jobs.specs.declared.jobs.Job.TheVariants as jobs
 use Rattle.ledger_jobs.specs.declared.jobs.Reading.{Reading}
 use Rattle.ledger_jobs.specs.declared.jobs.Reading.TheVariants as readings
 use Rattle.shop_log.specs.life.LogRights.{MayForgetLog, MayKeepLog, MayReadLog}
-use Rattle.image_file.specs.paths.Rights.{Look, Make, May, MayRead, MayWrite, Read, Remove, Replace, Rights, Write}
+use Rattle.image_file.specs.paths.Rights.{Look, Make, May, MayRead, MayWrite, Read, Remove, Rights, Write}
 
 -- the path that stands for standard input, which is never opened
 abbrev pub standard_input : List ℕ
@@ -84,19 +84,16 @@ module _ {H : Type 0} (rights : Rights H) (host : H) where
   abbrev pub MayMakeImage : List ℕ → Type 0
   MayMakeImage path = May rights host Make path × MayForgetLog rights host path
 
-  -- A file, or a folder with files in it, may be made for a path under another name. Then it may get its own, or be removed.
-  pub record MayMakeAs (path name : List ℕ) : Type 0 where
+  -- a file, or a folder with files in it, may be made under a name that it loses again
+  pub record MayMakeUnder (name : List ℕ) : Type 0 where
     pub make : May rights host Make name
     pub fill : (file : List ℕ) → StaysInside file → May rights host Make (path_in name file)
-    pub bring : (file : List ℕ) → StaysInside file → May rights host Look (path_in name file)
-    pub remove : May rights host Remove name
-    pub look : May rights host Look path
-    pub claim : May rights host Make path
-    pub give : May rights host Replace path
-    pub forsake : May rights host Remove path
+    pub look : (file : List ℕ) → StaysInside file → May rights host Look (path_in name file)
+    pub take : May rights host Remove name
 
+  -- it may be made for a path, at which nothing stands
   abbrev pub MayMakeNew : List ℕ → Type 0
-  MayMakeNew path = (end : List ℕ) → MayMakeAs path (making_of path end)
+  MayMakeNew path = May rights host Make path × May rights host Look path × ((end : List ℕ) → MayMakeUnder (making_of path end))
 
   -- an image may be made where neither it nor its log is
   abbrev pub MayMakeNewImage : List ℕ → Type 0

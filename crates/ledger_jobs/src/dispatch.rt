@@ -39,12 +39,7 @@ use std::fs::OpenFile;
 use std::io::{Read, Write};
 
 /// Makes the image at a path.
-fn do_format<F, R, W>(
-    rt: &R,
-    path: &str,
-    tills: u8,
-    out: &mut W,
-) -> Result<Option<Fault>, Refusal>
+fn do_format<F, R, W>(rt: &R, path: &str, tills: u8, out: &mut W) -> Result<Option<Fault>, Refusal>
 where
     F: EndedFile + Locks + OpenFile + Drop,
     R: HostFiles<File = F> + AllocGlobal,

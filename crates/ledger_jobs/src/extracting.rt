@@ -125,7 +125,7 @@ where
         if let Some(making) = &self.making {
             let path = path_in(self.rt.alloc(), making.name(), INDEX)?;
             self.rt.sync_folder_of(path.as_str())?;
-            making.name_folder()?;
+            making.give_name()?;
             self.making = None;
             self.rt.sync_folder_of(self.path)?;
         }
@@ -138,8 +138,7 @@ fn finished<N: NamedFolder>(
     folder: &mut N,
     ended: Result<Option<Fault>, CommandFault>,
 ) -> Result<Option<Fault>, CommandFault>
-    ensures same { N.NewFolder.files folder.new ≡ N.NewFolder.files folder.old }
-    ensures result { IsNamed ended result }
+    ensures { IsNamed N.NewFolder.files ended folder.old folder.new result }
 {
     let found = ended?;
     match folder.finish() {

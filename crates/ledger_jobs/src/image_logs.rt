@@ -14,8 +14,8 @@ use command_faults::CommandFault;
 use d64_image::IMAGE_BYTES;
 use image_file::{EndedFile, HostFiles, Locks, opened_to_change, opened_to_read};
 use shop_log::{ImageFolder, ImageView, LogFault, LogNames, land_in, sync_names, view_in};
-use std::fs::OpenFile;
 use std::alloc::Global;
+use std::fs::OpenFile;
 use std::io::ErrorKind;
 use std::os::unix::fs::MetadataExt;
 

@@ -2,7 +2,8 @@
 ghost use Rattle.std.specs.Prelude.{◌≡◌, IfOk, string_bytes};
 ghost use Rattle.std.proofs.Props.{props};
 ghost use Rattle.ledger_jobs.specs.Ends.{IsEndOver};
-ghost use Rattle.ledger_jobs.specs.Rights.{MayMakeAs, MayMakeNew, MayMakeNewImage, making_of};
+ghost use Rattle.ledger_jobs.specs.Rights.{MayMakeNew, MayMakeNewImage, MayMakeUnder, making_of};
+ghost use Rattle.image_file.specs.paths.Rights.{Make, May};
 
 use crate::outcomes::over_end;
 use crate::refusals::Refusal;
@@ -14,8 +15,8 @@ use std::alloc::Global;
 use std::fs::{Metadata, OpenFile};
 use std::io::{self, ErrorKind};
 
-/// What stands behind `NEW-new` in the other name of NEW. The first one is taken whose name is free: one that a run left that
-/// was killed, or a stranger's file, stays.
+/// How the other name of NEW ends: in `-new` and one of these. The first one is taken whose name is free. What a killed run
+/// left, or a stranger's file, stays.
 const ENDS: [&str; 10] = ["0", "1", "2", "3", "4", "5", "6", "7", "8", "9"];
 
 /// The bits of the mode of a file that is like no other: the system takes away what its user wants.
@@ -38,13 +39,20 @@ pub(crate) struct InMaking<'a, R: HostFiles> {
     rt: &'a R,
     path: &'a str,
     name: String,
-    // it may be made, and get its own name or be removed
-    ghost makes: { MayMakeAs R.rights rt.now path.now (string_bytes name) } by { Prim.hlevel props },
+    // it may be made, and removed
+    ghost makes: { MayMakeUnder R.rights rt.now (string_bytes name) } by { Prim.hlevel props },
+    // and get its own name
+    ghost names: { May R.rights rt.now Make path.now } by { Prim.hlevel props },
 }
 
 impl<'a, R: HostFiles> InMaking<'a, R> {
     /// A file of this mode, made under the first free name; `AlreadyExists` if none is free.
-    fn file(rt: &'a R, alloc: Global, path: &'a str, mode: u32) -> io::Result<(InMaking<'a, R>, R::File)>
+    fn file(
+        rt: &'a R,
+        alloc: Global,
+        path: &'a str,
+        mode: u32,
+    ) -> io::Result<(InMaking<'a, R>, R::File)>
         requires { MayMakeNew R.rights rt.now path.now }
     {
         for end in ENDS {
@@ -82,21 +90,9 @@ impl<R: HostFiles> InMaking<'_, R> {
         self.name.as_str()
     }
 
-    /// Gives a file its own name. `AlreadyExists` if anything stands there. An empty file gets the name first: a file takes a
-    /// name in the place of any other.
-    fn name_file(&self) -> io::Result<()> {
-        let (rt, path) = (self.rt, self.path);
-        drop(rt.make_file(path, 0)?);
-        let named = rt.give_name(self.name(), path);
-        if named.is_err() {
-            let _ = rt.take_name(path);
-        }
-        named
-    }
-
-    /// Gives a folder its own name. An error if anything stands there but an empty folder.
-    pub(crate) fn name_folder(&self) -> io::Result<()> {
-        self.rt.give_name(self.name(), self.path)
+    /// Gives it its own name. An error if anything stands there.
+    pub(crate) fn give_name(&self) -> io::Result<()> {
+        self.rt.give_new_name(self.name(), self.path)
     }
 
     /// Removes a file that didn't get its own name.
@@ -145,7 +141,9 @@ impl<'a, R: HostFiles> NewFile<'a, R> {
         if let Err(error) = &made {
             match error.kind() {
                 ErrorKind::AlreadyExists => self.refused = Some(Refusal::Exists),
-                ErrorKind::OutOfMemory => self.refused = Some(Refusal::Fault(CommandFault::NoMemory)),
+                ErrorKind::OutOfMemory => self.refused = Some(Refusal::Fault(
+                    CommandFault::NoMemory,
+                )),
                 _ => {}
             }
         }
@@ -187,7 +185,7 @@ where
     /// Gives it its own name, and syncs that.
     fn named(&mut self) -> io::Result<()> {
         if let Some(making) = &self.making {
-            making.name_file()?;
+            making.give_name()?;
         }
         self.making = None;
         self.rt.sync_folder_of(self.path)

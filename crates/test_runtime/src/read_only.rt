@@ -49,6 +49,14 @@ impl<'a> HostFiles for ReadOnly<'a> {
         self.0.look_at(path)
     }
 
+    fn is_named(&self, path: &str) -> io::Result<bool> {
+        self.0.is_named(path)
+    }
+
+    fn is_mounted(&self, alloc: Global, path: &str) -> io::Result<bool> {
+        self.0.is_mounted(alloc, path)
+    }
+
     fn resolve(&self, alloc: Global, path: &str) -> io::Result<String> {
         self.0.resolve(alloc, path)
     }
@@ -69,7 +77,7 @@ impl<'a> HostFiles for ReadOnly<'a> {
         failed(ErrorKind::Unsupported)
     }
 
-    fn make_file(&self, _path: &str) -> io::Result<Opened<'a>> {
+    fn make_file(&self, _path: &str, _mode: u32) -> io::Result<Opened<'a>> {
         failed(ErrorKind::Unsupported)
     }
 
@@ -81,7 +89,15 @@ impl<'a> HostFiles for ReadOnly<'a> {
         failed(ErrorKind::Unsupported)
     }
 
+    fn give_new_name(&self, _from: &str, _to: &str) -> io::Result<()> {
+        failed(ErrorKind::Unsupported)
+    }
+
     fn take_name(&self, _path: &str) -> io::Result<()> {
+        failed(ErrorKind::Unsupported)
+    }
+
+    fn take_folder(&self, _alloc: Global, _path: &str) -> io::Result<()> {
         failed(ErrorKind::Unsupported)
     }
 }

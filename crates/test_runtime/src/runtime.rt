@@ -157,8 +157,8 @@ impl<'a> Files for Runtime<'a> {
         }
     }
 
-    fn symlink_metadata(&self, _path: &str) -> io::Result<Metadata> {
-        failed(ErrorKind::Unsupported)
+    fn symlink_metadata(&self, path: &str) -> io::Result<Metadata> {
+        self.metadata(path)
     }
 
     fn copy(&self, _from: &str, _to: &str) -> io::Result<u64> {

@@ -124,6 +124,10 @@ impl<'n, 'a, R: HostFiles> HostFiles for NotedRuntime<'n, 'a, R> {
         self.noted(to, self.rt.give_name(from, to))
     }
 
+    fn give_new_name(&self, from: &str, to: &str) -> io::Result<()> {
+        self.noted(to, self.rt.give_new_name(from, to))
+    }
+
     fn take_name(&self, path: &str) -> io::Result<()> {
         self.noted(path, self.rt.take_name(path))
     }
