@@ -9,7 +9,7 @@ is calculated by `shop_rule.py`. It tries:
   With room for the log it serves.
 - A disk that another program fills while `serve` runs: its log has all its room, so each line is answered. When the log is full and no
   room is left for a new one, `serve` ends with `DEVICE`, and every answered line is in the shop.
-- `copy` and `format --new` without room for an image: `FILE`, status 3; nothing is left.
+- `copy` and `format --new` without room for an image: `FILE`, status 3; what was made is no image, and every command refuses it.
 - A folder that can't be written, with a log and without one: words that read work, words that write report `FILE` and change nothing.
 
 The status is 1 at the first difference; the last line says how much was tried."""
@@ -127,8 +127,9 @@ class Trial:
                       ["new", disk.folder / "new.d64", "--name", "NEW", "--id", "01"]):
             status, out, err = run(self.program, *words)
             want((status, out, err) == (3, [], "FILE"), f"{words[0]} without room: {status}, {out}, {err}")
-            left = [it.name for it in disk.folder.iterdir() if it.name.startswith("new")]
-            want(not left, f"{words[0]} without room leaves {left}")
+            got = run(self.program, "check", disk.folder / "new.d64")
+            want(got == (1, [], "IMAGE SIZE"), f"{words[0]} without room leaves what check calls {got}")
+            (disk.folder / "new.d64").unlink()
             self.tried += 1
         disk.close()
 

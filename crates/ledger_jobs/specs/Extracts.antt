@@ -32,14 +32,6 @@ IsExtractTold contents None old new end =
     ((end ≡ Ok None) × Appends (contents old) (contents new) (codes "EXTRACTED\n"))
     ⊎ ((end ≡ Err (refusals.Fault faults.File)) × AppendsPart (contents old) (contents new) (codes "EXTRACTED\n"))
 
--- Files that were made so in a folder, as it was left, stand under its own name; or giving that failed. If they weren't all
--- made, nothing more was done
-abbrev pub IsNamed : {F : Type 0} → (F → Option (List NewFile)) → (made : Result (Option Fault) CommandFault) → (left named : F)
-    → (ended : Result (Option Fault) CommandFault) → Type 0
-IsNamed files (Ok found) left named ended =
-    (files named ≡ files left) × ((ended ≡ Ok found) ⊎ ((ended ≡ Err faults.File) ⊎ (ended ≡ Err faults.NoMemory)))
-IsNamed files (Err fault) left named ended = (named ≡ left) × (ended ≡ Err fault)
-
 -- The chosen files of the image were made in the folder, or not all for a fault. That was reported, with what is seen of files
 -- that are cut short. Or there was no memory to see that, and nothing was done.
 abbrev pub IsExtractEnd : {F W : Type 0} → (F → Option (List NewFile)) → (W → Option (List ℕ)) → Choice → (image : List ℕ)

@@ -8,15 +8,11 @@ use Rattle.ledger_jobs.specs.declared.jobs.Job.TheVariants as jobs
 use Rattle.ledger_jobs.specs.declared.jobs.Reading.{Reading}
 use Rattle.ledger_jobs.specs.declared.jobs.Reading.TheVariants as readings
 use Rattle.shop_log.specs.life.LogRights.{MayForgetLog, MayKeepLog, MayReadLog}
-use Rattle.image_file.specs.paths.Rights.{Look, Make, May, MayRead, MayWrite, Read, Remove, Rights, Write}
+use Rattle.image_file.specs.paths.Rights.{Look, Make, May, MayRead, MayWrite, Read, Rights, Write}
 
 -- the path that stands for standard input, which is never opened
 abbrev pub standard_input : List ℕ
 standard_input = codes "/dev/stdin"
-
--- a name under which a file or a folder is made that is to have a path
-abbrev pub making_of : List ℕ → List ℕ → List ℕ
-making_of path end = path ++ codes "-new" ++ end
 
 -- the path of a file in a folder
 abbrev pub path_in : List ℕ → List ℕ → List ℕ
@@ -80,28 +76,18 @@ module _ {H : Type 0} (rights : Rights H) (host : H) where
   abbrev pub MayChangeImage : List ℕ → Type 0
   MayChangeImage path = MayWrite rights host path × MayKeepLog rights host path
 
-  -- an image may be made, and a log beside it removed
+  -- an image may be made where nothing is
   abbrev pub MayMakeImage : List ℕ → Type 0
   MayMakeImage path = May rights host Make path × MayForgetLog rights host path
-
-  -- a file, or a folder with files in it, may be made under a name that it loses again
-  pub record MayMakeUnder (name : List ℕ) : Type 0 where
-    pub make : May rights host Make name
-    pub fill : (file : List ℕ) → StaysInside file → May rights host Make (path_in name file)
-    pub look : (file : List ℕ) → StaysInside file → May rights host Look (path_in name file)
-    pub take : May rights host Remove name
-
-  -- it may be made for a path, at which nothing stands
-  abbrev pub MayMakeNew : List ℕ → Type 0
-  MayMakeNew path = May rights host Make path × May rights host Look path × ((end : List ℕ) → MayMakeUnder (making_of path end))
-
-  -- an image may be made where neither it nor its log is
-  abbrev pub MayMakeNewImage : List ℕ → Type 0
-  MayMakeNewImage path = MayMakeNew path × MayReadLog rights host path
 
   -- a file that is there may be overwritten
   abbrev pub MayOverwrite : List ℕ → Type 0
   MayOverwrite path = May rights host Write path
+
+  -- a folder may be made, and files in it
+  abbrev pub MayFill : List ℕ → Type 0
+  MayFill folder = May rights host Make folder
+      × ((name : List ℕ) → StaysInside name → May rights host Make (path_in folder name))
 
   -- an image is repaired, or only what a repair would do is printed
   abbrev pub MayRepair : Effect → List ℕ → Type 0
@@ -111,8 +97,8 @@ module _ {H : Type 0} (rights : Rights H) (host : H) where
   -- what a job needs of the files that its words name
   abbrev pub MayDo : Job → Type 0
   MayDo (jobs.Format image tills) = MayMakeImage image.now × MayOverwrite image.now
-  MayDo (jobs.FormatNew image tills) = MayMakeNewImage image.now
-  MayDo (jobs.New image name id) = MayMakeNewImage image.now
+  MayDo (jobs.FormatNew image tills) = MayMakeImage image.now
+  MayDo (jobs.New image name id) = MayMakeImage image.now
   MayDo (jobs.List form image) = MayReadImage image.now
   MayDo (jobs.Check findings image) = MayReadImage image.now
   MayDo (jobs.Show image) = MayReadImage image.now
@@ -120,10 +106,10 @@ module _ {H : Type 0} (rights : Rights H) (host : H) where
   MayDo (jobs.PlayLogged image script) = MayChangeImage image.now × MayReadText script.now
   MayDo (jobs.Dry script) = MayReadText script.now
   MayDo (jobs.Serve image loss) = MayChangeImage image.now
-  MayDo (jobs.Copy image copy) = MayReadImage image.now × MayMakeNewImage copy.now
+  MayDo (jobs.Copy image copy) = MayReadImage image.now × MayMakeImage copy.now
   MayDo (jobs.Repair image loss unowned effect) = MayRepair effect image.now
   MayDo (jobs.RepairSides image loss unowned effect) = MayRepair effect image.now
-  MayDo (jobs.Extract choice image folder) = MayReadImage image.now × MayMakeNew folder.now
+  MayDo (jobs.Extract choice image folder) = MayReadImage image.now × MayFill folder.now
   MayDo (jobs.Take what image name) = MayReadImage image.now
   MayDo (jobs.Make image size loss name) = MayChangeImage image.now
   MayDo (jobs.Rename image from to) = MayChangeImage image.now

@@ -1,10 +1,10 @@
 //! Copies of images, as their shops are now.
 ghost use Rattle.ledger_jobs.specs.Copies.{IsCopied};
 ghost use Rattle.ledger_jobs.specs.JobRuns.{IsCopiedFrom};
-ghost use Rattle.ledger_jobs.specs.Rights.{MayMakeNewImage, MayReadImage};
+ghost use Rattle.ledger_jobs.specs.Rights.{MayMakeImage, MayReadImage};
 
-use crate::files::STANDARD_INPUT;
-use crate::new_files::{NewFile, new_file_end};
+use crate::files::{AtPath, Older};
+use crate::outcomes::over_end;
 use crate::readings::image_at;
 use crate::refusals::Refusal;
 use command_faults::CommandFault;
@@ -12,7 +12,7 @@ use d64_image::IMAGE_BYTES;
 use disk_layout::Fault;
 use image_file::{EndedFile, HostFiles, Locks, OverwrittenFile, replace_image};
 use shop_commands::put_whole;
-use std::fs::{Metadata, OpenFile};
+use std::fs::OpenFile;
 use std::io::{Read, Write};
 
 /// Writes an image over all that a file holds, syncs it, and prints `COPIED`. If power goes on the way, the file has what
@@ -35,18 +35,7 @@ pub fn copy_run<F: EndedFile, W: Write>(
     }
 }
 
-/// The metadata of the file at a path. None of standard input, or if the host doesn't say.
-fn like_of<R: HostFiles>(rt: &R, path: &str) -> Option<Metadata>
-    requires { MayReadImage R.rights rt.now path.now }
-{
-    if path == STANDARD_INPUT {
-        return None;
-    }
-    rt.look_at(path).ok()
-}
-
-/// Copies the image at a path, as its shop is now, to a file at another path, at which there must be none. Those
-/// people may use it who may use the image.
+/// Copies the image at a path, as its shop is now, to a file at another path, at which there must be none.
 pub(crate) fn do_copying<F, R, W>(
     rt: &R,
     path: &str,
@@ -58,11 +47,11 @@ where
     R: HostFiles<File = F> + Input + AllocGlobal,
     W: Write,
     requires image { MayReadImage R.rights rt.now path.now }
-    requires copy { MayMakeNewImage R.rights rt.now copy.now }
+    requires copy { MayMakeImage R.rights rt.now copy.now }
     ensures { IsCopiedFrom R.rights R.stands W.contents rt.now path.now out.old out.new result }
 {
     let image = image_at(rt, path)?;
-    let mut file = OverwrittenFile::new(NewFile::new(rt, copy, like_of(rt, path)));
+    let mut file = OverwrittenFile::new(AtPath::new(rt, copy, Older::Kept));
     let ended = copy_run(image.as_slice(), &mut file, out);
-    new_file_end(ended, file.opener())
+    over_end(ended, file.opener().refused())
 }

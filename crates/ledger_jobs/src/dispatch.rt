@@ -4,6 +4,7 @@ ghost use Rattle.ledger_jobs.specs.Changes.{IsMakingEnd};
 ghost use Rattle.ledger_jobs.specs.JobRuns.{IsDrawnOver, IsJobOver, IsPlayedOverFile, IsTakenOver};
 ghost use Rattle.ledger_jobs.specs.Names.{name_bytes};
 ghost use Rattle.ledger_jobs.specs.Jobs.{IsFit};
+ghost use Rattle.ledger_jobs.specs.declared.files.Older.TheVariants.{Replaced};
 ghost use Rattle.ledger_jobs.specs.Rights.{MayChangeImage, MayDo, MayMakeImage, MayOverwrite, MayReadImage, MayReadText};
 
 use crate::comparisons::do_comparing;
@@ -13,14 +14,14 @@ use crate::drawing::drawing_run;
 use crate::durable_runs::play_durably;
 use crate::editing::{do_delete, do_make, do_rebuild, do_rename, do_repair};
 use crate::extracting::do_extracting;
-use crate::files::{AtPath, script_to_play};
+use crate::files::{AtPath, Older, script_to_play};
 use crate::image_logs::opened_and_landed;
 use crate::jobs::{Drawing, Findings, Job, Reading, Taking};
 use crate::listings::do_listing;
 use crate::locks::read_owned;
 use crate::losses::take_told;
 use crate::names::Name;
-use crate::new_disks::{do_format_new, do_new};
+use crate::new_disks::do_new;
 use crate::outcomes::{job_end, over_end, told};
 use crate::overviews::do_several;
 use crate::playing_logs::do_logged_playing;
@@ -39,18 +40,24 @@ use std::fs::OpenFile;
 use std::io::{Read, Write};
 
 /// Makes the image at a path.
-fn do_format<F, R, W>(rt: &R, path: &str, tills: u8, out: &mut W) -> Result<Option<Fault>, Refusal>
+fn do_format<F, R, W>(
+    rt: &R,
+    path: &str,
+    tills: u8,
+    older: Older,
+    out: &mut W,
+) -> Result<Option<Fault>, Refusal>
 where
     F: EndedFile + Locks + OpenFile + Drop,
     R: HostFiles<File = F> + AllocGlobal,
     W: Write,
     requires makes { MayMakeImage R.rights rt.now path.now }
-    requires overwrites { MayOverwrite R.rights rt.now path.now }
+    requires overwrites { older ≡ Replaced → MayOverwrite R.rights rt.now path.now }
     requires some { 1 ≤ tills }
     requires few { tills ≤ 64 }
     ensures { IsMakingEnd W.contents (codes "FORMATTED\n") out.old out.new result }
 {
-    let mut file = OverwrittenFile::new(AtPath::new(rt, path));
+    let mut file = OverwrittenFile::new(AtPath::new(rt, path, older));
     let made = format_image(rt.alloc(), tills, &mut file, out);
     over_end(made, file.opener().refused())
 }
@@ -142,8 +149,8 @@ where
     ensures { IsJobOver R.rights R.stands W.contents rt.now job.now out.old out.new result }
 {
     match *job {
-        Job::Format { image, tills } => do_format(rt, image, tills, out),
-        Job::FormatNew { image, tills } => do_format_new(rt, image, tills, out),
+        Job::Format { image, tills } => do_format(rt, image, tills, Older::Replaced, out),
+        Job::FormatNew { image, tills } => do_format(rt, image, tills, Older::Kept, out),
         Job::New {
             image,
             ref name,

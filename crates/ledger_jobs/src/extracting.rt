@@ -1,13 +1,12 @@
 //! All files of an image, taken out to a folder that is new.
 ghost use Rattle.std.specs.Prelude.{◌≡◌, IfOk, string_bytes};
 ghost use Rattle.std.proofs.Props.{props};
-ghost use Rattle.ledger_jobs.specs.Extracts.{IsExtractEnd, IsExtractTold, IsFolderEnd, IsNamed, refusal_found, refusal_of};
+ghost use Rattle.ledger_jobs.specs.Extracts.{IsExtractEnd, IsExtractTold, IsFolderEnd, refusal_found, refusal_of};
 ghost use Rattle.ledger_jobs.specs.JobRuns.{IsExtractedFrom};
-ghost use Rattle.ledger_jobs.specs.Rights.{MayMakeNew, MayReadImage};
+ghost use Rattle.ledger_jobs.specs.Rights.{MayFill, MayReadImage};
 ghost use Rattle.ledger_jobs.specs.Rights as specs;
 
 use crate::losses::cut_in;
-use crate::new_files::{ANY_MODE, InMaking};
 use crate::outcomes::run_end;
 use crate::readings::image_at;
 use crate::refusals::Refusal;
@@ -21,66 +20,48 @@ use std::alloc::Global;
 use std::fs::OpenFile;
 use std::io::{self, Read, Write};
 
-/// The name of a file that each folder gets.
-const INDEX: &[u8] = b"index.csv";
-
-/// A folder that gets its own name once all files in it are made.
-pub trait NamedFolder: NewFolder {
-    /// Gives it its own name, with all its files, and syncs that. A folder that wasn't made yet stays so.
-    fn finish(&mut self) -> io::Result<()>
-        ensures { Self.NewFolder.files self.new ≡ Self.NewFolder.files self.old };
-}
-
-/// A folder of the system, which is made under another name when the first file in it is; and whether something stood at its
-/// path.
+/// A folder of the system, which is made when the first file in it is; and whether something stood at its path then.
 #[derive(Drop)]
 struct SystemFolder<'a, R: HostFiles> {
     rt: &'a R,
     path: &'a str,
-    making: Option<InMaking<'a, R>>,
+    is_made: bool,
     has_stood: bool,
     // it may be made, and files in it
-    ghost makes: { MayMakeNew R.rights rt.now path.now } by { Prim.hlevel props },
+    ghost fills: { MayFill R.rights rt.now path.now } by { Prim.hlevel props },
 }
 
 impl<'a, R: HostFiles> SystemFolder<'a, R> {
     /// The folder at this path, which isn't made yet.
     fn new(rt: &'a R, path: &'a str) -> SystemFolder<'a, R>
-        requires { MayMakeNew R.rights rt.now path.now }
+        requires { MayFill R.rights rt.now path.now }
     {
         SystemFolder {
             rt,
             path,
-            making: None,
+            is_made: false,
             has_stood: false,
         }
     }
-
-    /// An error if anything stands at its path.
-    fn see_free(&mut self) -> io::Result<()> {
-        self.has_stood = self.rt.is_named(self.path)?;
-        if self.has_stood {
-            return Err(io::ErrorKind::AlreadyExists.into());
-        }
-        Ok(())
-    }
 }
 
-impl<R: HostFiles + AllocGlobal> SystemFolder<'_, R> {
-    /// Checks that the folder is made. An error if anything stands at its path.
+impl<R: HostFiles> SystemFolder<'_, R> {
+    /// Checks that the folder is made. An error if something stood at its path before.
     fn see_made(&mut self) -> io::Result<()> {
-        if self.making.is_none() {
-            self.see_free()?;
-            let making = InMaking::folder(self.rt, self.rt.alloc(), self.path)?;
-            self.making = Some(making);
+        if self.is_made {
+            return Ok(());
         }
-        Ok(())
-    }
-
-    /// Removes the folder if it didn't get its own name.
-    fn forget(&self) {
-        if let Some(making) = &self.making {
-            making.remove_folder(self.rt.alloc());
+        match self.rt.make_folder(self.path) {
+            Ok(()) => {
+                self.is_made = true;
+                Ok(())
+            }
+            Err(error) => {
+                if error.kind() == io::ErrorKind::AlreadyExists {
+                    self.has_stood = true;
+                }
+                Err(error)
+            }
         }
     }
 }
@@ -106,44 +87,9 @@ where
 {
     fn make(&mut self, name: &[u8], bytes: &[u8]) -> io::Result<()> {
         self.see_made()?;
-        if let Some(making) = &self.making {
-            let path = path_in(self.rt.alloc(), making.name(), name)?;
-            let mut file = self.rt.make_file(path.as_str(), ANY_MODE)?;
-            file.put_over(bytes, 0)?;
-            file.sync_whole()?;
-        }
-        Ok(())
-    }
-}
-
-impl<F, R> NamedFolder for SystemFolder<'_, R>
-where
-    F: EndedFile + Drop,
-    R: HostFiles<File = F> + AllocGlobal,
-{
-    fn finish(&mut self) -> io::Result<()> {
-        if let Some(making) = &self.making {
-            let path = path_in(self.rt.alloc(), making.name(), INDEX)?;
-            self.rt.sync_folder_of(path.as_str())?;
-            making.give_name()?;
-            self.making = None;
-            self.rt.sync_folder_of(self.path)?;
-        }
-        Ok(())
-    }
-}
-
-/// What comes of files that were made so, once their folder has its own name.
-fn finished<N: NamedFolder>(
-    folder: &mut N,
-    ended: Result<Option<Fault>, CommandFault>,
-) -> Result<Option<Fault>, CommandFault>
-    ensures { IsNamed N.NewFolder.files ended folder.old folder.new result }
-{
-    let found = ended?;
-    match folder.finish() {
-        Ok(()) => Ok(found),
-        Err(error) => Err(CommandFault::of_io(&error)),
+        let path = path_in(self.rt.alloc(), self.path, name)?;
+        let mut file = self.rt.make_file(path.as_str(), 0o666)?;
+        file.put_over(bytes, 0)
     }
 }
 
@@ -184,10 +130,10 @@ fn tell_extracted<W: Write>(refused: Option<Refusal>, out: &mut W) -> Result<Opt
     run_end(put_whole(out, b"EXTRACTED\n"))
 }
 
-/// Makes the chosen files of an image in a folder, as `extract_image` does, gives it its name, and prints `EXTRACTED` if all are whole. Otherwise
+/// Makes the chosen files of an image in a folder, as `extract_image` does, and prints `EXTRACTED` if all are whole. Otherwise
 /// nothing is printed. `Keep` has the first fault of a file or of the directory, or why the files aren't made. `Short`: a
 /// file of a sound disk is cut short. `File` if the output failed; `NoMemory`.
-pub fn extract_run<N: NamedFolder, W: Write>(
+pub fn extract_run<N: NewFolder, W: Write>(
     alloc: Global,
     choice: Choice,
     image: &[u8],
@@ -197,8 +143,7 @@ pub fn extract_run<N: NamedFolder, W: Write>(
     ensures { IsExtractEnd N.files W.contents choice image.now folder.old folder.new out.old out.new result }
 {
     let cut = cut_in(alloc, image, None)?;
-    let made = extract_image(alloc, choice, image, folder);
-    let ended = finished(folder, made);
+    let ended = extract_image(alloc, choice, image, folder);
     tell_extracted(extract_refusal(ended, cut), out)
 }
 
@@ -229,12 +174,11 @@ where
     R: HostFiles<File = F> + Input + AllocGlobal,
     W: Write,
     requires image { MayReadImage R.rights rt.now path.now }
-    requires folder { MayMakeNew R.rights rt.now folder.now }
+    requires folder { MayFill R.rights rt.now folder.now }
     ensures { IsExtractedFrom R.rights R.stands W.contents rt.now choice path.now out.old out.new result }
 {
     let image = image_at(rt, path)?;
     let mut files = SystemFolder::new(rt, folder);
     let ended = extract_run(rt.alloc(), choice, image.as_slice(), &mut files, out);
-    files.forget();
     folder_end(ended, files.has_stood)
 }

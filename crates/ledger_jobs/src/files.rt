@@ -3,10 +3,10 @@ ghost use Rattle.std.specs.Prelude.{◌≡◌, IfErr, IfOk, string_bytes, true, 
 ghost use Rattle.std.proofs.Props.{props};
 ghost use Rattle.ledger_jobs.specs.HostFiles.{IsUnread, OfText};
 ghost use Rattle.ledger_jobs.specs.Rights.{MayMakeImage, MayOverwrite, MayReadText};
+ghost use Rattle.ledger_jobs.specs.declared.files.Older.TheVariants.{Kept, Replaced};
 ghost use Rattle.image_file.specs.paths.Rights.{Look, May};
 
-use crate::image_logs::see_one_name;
-use crate::new_files::ANY_MODE;
+use crate::image_logs::{is_there, see_one_name};
 use crate::refusals::Refusal;
 use command_faults::CommandFault;
 use image_file::{
@@ -71,6 +71,23 @@ fn is_file_at<R: HostFiles>(rt: &R, path: &str) -> io::Result<bool>
     }
 }
 
+/// The log of the image at a path that is written over, if there is one. An error if another file stands there. If the image
+/// is kept, no log is looked for.
+fn older_log<R: HostFiles>(
+    rt: &R,
+    path: &str,
+    names: &LogNames,
+    older: Older,
+) -> io::Result<Option<Identity>>
+    requires makes { MayMakeImage R.rights rt.now path.now }
+    requires leads { R.rights.leads rt.now path.now (string_bytes names.now.image) ≡ true }
+{
+    match older {
+        Older::Replaced => find_log(rt, names),
+        Older::Kept => Ok(None),
+    }
+}
+
 /// Removes this log of the image at a path, whose file this is, and which would win over the new image. The file is
 /// spoiled before, and that is synced: without its log the old image is an older shop.
 fn forget_shop<F: EndedFile, R: HostFiles>(
@@ -90,32 +107,44 @@ fn forget_shop<F: EndedFile, R: HostFiles>(
     forget_log(rt, names, log)
 }
 
+/// What becomes of a file that is there before another is made.
+#[derive(Clone, Copy, Debug, PartialEq, Eq)]
+pub(crate) enum Older {
+    /// It is written over, and not cut first.
+    Replaced,
+    /// It stays, and none is made.
+    Kept,
+}
+
 /// The file at a path, which is made or written over; and why it isn't, if no error of the system says that.
 #[derive(Drop)]
 pub(crate) struct AtPath<'a, R: HostFiles> {
     rt: &'a R,
     path: &'a str,
+    older: Older,
     refused: Option<Refusal>,
     // it may be made
     ghost makes: { MayMakeImage R.rights rt.now path.now } by { Prim.hlevel props },
     // or written over
-    ghost overwrites: { MayOverwrite R.rights rt.now path.now } by { Prim.hlevel props },
+    ghost overwrites: { older ≡ Replaced → MayOverwrite R.rights rt.now path.now } by { Prim.hlevel props },
 }
 
 impl<'a, R: HostFiles> AtPath<'a, R> {
     /// The file at this path, which isn't opened yet.
-    pub(crate) fn new(rt: &'a R, path: &'a str) -> AtPath<'a, R>
+    pub(crate) fn new(rt: &'a R, path: &'a str, older: Older) -> AtPath<'a, R>
         requires makes { MayMakeImage R.rights rt.now path.now }
-        requires overwrites { MayOverwrite R.rights rt.now path.now }
+        requires overwrites { older ≡ Replaced → MayOverwrite R.rights rt.now path.now }
     {
         AtPath {
             rt,
             path,
+            older,
             refused: None,
         }
     }
 
-    /// Why it isn't written over: it wasn't locked, it has a second name, or there was no memory to open it.
+    /// Why it isn't written over: a file or a log stood there that is kept, it wasn't locked, or there was no memory to
+    /// open it.
     pub(crate) fn refused(&self) -> Option<Refusal> {
         self.refused
     }
@@ -127,13 +156,32 @@ impl<'a, R: HostFiles> AtPath<'a, R> {
     }
 }
 
-impl<R: HostFiles> AtPath<'_, R> {
-    /// The file, opened, or made where none was.
-    fn opened(&self) -> io::Result<R::File> {
-        if is_file_at(self.rt, self.path)? {
+impl<R: HostFiles + AllocGlobal> AtPath<'_, R> {
+    /// The file, made where none was. If only a log is there, none is made: the log may be all that is left of a shop.
+    fn made(&mut self, names: &LogNames) -> io::Result<R::File>
+        requires { R.rights.leads self.old.rt.now self.old.path.now (string_bytes names.now.image) ≡ true }
+    {
+        if self.older == Older::Kept && is_there(self.rt, names.log())? {
+            let error = io::Error::from(io::ErrorKind::AlreadyExists);
+            return Err(self.refuse(Refusal::Exists, error));
+        }
+        match self.rt.make_file(self.path, 0o666) {
+            Err(error)
+                if self.older == Older::Kept && error.kind() == io::ErrorKind::AlreadyExists => {
+                Err(self.refuse(Refusal::Exists, error))
+            }
+            made => made,
+        }
+    }
+
+    /// The file, opened, or made.
+    fn opened(&mut self, names: &LogNames) -> io::Result<R::File>
+        requires { R.rights.leads self.old.rt.now self.old.path.now (string_bytes names.now.image) ≡ true }
+    {
+        if self.older == Older::Replaced && is_file_at(self.rt, self.path)? {
             return self.rt.open_to_write(self.path);
         }
-        self.rt.make_file(self.path, ANY_MODE)
+        self.made(names)
     }
 }
 
@@ -147,14 +195,14 @@ where
         let (rt, path) = (self.rt, self.path);
         // before the file is made, since memory may be refused
         let names = LogNames::of(rt, rt.alloc(), path)?;
-        let log = find_log(rt, &names)?;
-        let mut file = self.opened()?;
+        let log = older_log(rt, path, &names, self.older)?;
+        let mut file = self.opened(&names)?;
         // another thing may stand there by now
         regular(OpenFile::metadata(&file))?;
         if let Err(error) = file.lock_alone() {
             return Err(self.refuse(Refusal::of_lock(&error), io::Error::from(error)));
         }
-        if let Err(refusal) = see_one_name(rt, rt.alloc(), path, &file) {
+        if let Err(refusal) = see_one_name(&file) {
             return Err(self.refuse(refusal, io::ErrorKind::InvalidInput.into()));
         }
         forget_shop(rt, path, &names, log, &mut file)?;

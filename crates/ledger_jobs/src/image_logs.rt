@@ -3,7 +3,7 @@ ghost use Rattle.std.specs.Prelude.{◌≡◌, IfErr, IfOk, IsNone, false, strin
 ghost use Rattle.ledger_jobs.specs.Ends.{log_refusal as refusal_of};
 ghost use Rattle.ledger_jobs.specs.HostFiles.{HasNoLog, IsUnbegun, IsUnopened, IsUnread, IsUntaken};
 ghost use Rattle.ledger_jobs.specs.Rights.{MayChangeImage, MayReadFile};
-ghost use Rattle.shop_log.specs.life.LogRights.{MayKeepLog, MayKeepLogOf, MayReadLog, log_of};
+ghost use Rattle.shop_log.specs.life.LogRights.{MayKeepLog, MayKeepLogOf, MayReadLog};
 ghost use Rattle.image_file.specs.paths.Rights.{Look, May, MayRead, MayWrite};
 ghost use Rattle.image_file.specs.paths.Standing.{AreOf, IsMissing};
 
@@ -14,9 +14,8 @@ use command_faults::CommandFault;
 use d64_image::IMAGE_BYTES;
 use image_file::{EndedFile, HostFiles, Locks, opened_to_change, opened_to_read};
 use shop_log::{ImageFolder, ImageView, LogFault, LogNames, land_in, sync_names, view_in};
-use std::alloc::Global;
 use std::fs::OpenFile;
-use std::io::ErrorKind;
+use std::io;
 use std::os::unix::fs::MetadataExt;
 
 /// What is reported for this fault of a log.
@@ -47,37 +46,23 @@ pub(crate) fn see_size<F: OpenFile>(file: &F) -> Result<(), Refusal>
     Err(Refusal::Fault(CommandFault::ImageSize))
 }
 
-/// Refuses the file that was opened at a path if it has a second name, by which it would have another log: `TwoNames`. It has
-/// one if it has a second link, or if it was mounted there.
-pub(crate) fn see_one_name<F: OpenFile, R: HostFiles>(
-    rt: &R,
-    alloc: Global,
-    path: &str,
-    file: &F,
-) -> Result<(), Refusal>
-    requires { May R.rights rt.now Look path.now }
+/// Refuses a file that has a second name, by which it would have another log: `TwoNames`.
+pub(crate) fn see_one_name<F: OpenFile>(file: &F) -> Result<(), Refusal>
     ensures { IfErr result IsUntaken }
 {
     let found = told(OpenFile::metadata(file))?;
-    if found.nlink() > 1 || told(rt.is_mounted(alloc, path))? {
+    if found.nlink() > 1 {
         return Err(Refusal::TwoNames);
     }
     Ok(())
 }
 
-/// Whether a log stands at its name. `Log` if that is a link that leads nowhere.
-fn is_logged<R: HostFiles>(rt: &R, names: &LogNames) -> Result<bool, Refusal>
-    requires { May R.rights rt.now Look (log_of (string_bytes names.now.image)) }
-    ensures missing { IsMissing R.stands rt.now (log_of (string_bytes names.now.image)) → IfOk result (λ there. there ≡ false) }
-    ensures err { IfErr result IsUnbegun }
+/// Whether anything stands at a path, also a symbolic link that leads nowhere.
+pub(crate) fn is_there<R: HostFiles>(rt: &R, path: &str) -> io::Result<bool>
+    requires { May R.rights rt.now Look path.now }
+    ensures { IsMissing R.stands rt.now path.now → IfOk result (λ there. there ≡ false) }
 {
-    if !told(rt.is_named(names.log()))? {
-        return Ok(false);
-    }
-    match rt.look_at(names.log()) {
-        Err(error) if error.kind() == ErrorKind::NotFound => Err(Refusal::Log),
-        _ => Ok(true),
-    }
+    rt.is_named(path)
 }
 
 /// The regular file at a path, opened to be changed, which this program has alone. `InUse` if another program has it;
@@ -85,7 +70,7 @@ fn is_logged<R: HostFiles>(rt: &R, names: &LogNames) -> Result<bool, Refusal>
 pub(crate) fn opened_alone<F, R>(rt: &R, path: &str) -> Result<F, Refusal>
 where
     F: Locks + OpenFile + Drop,
-    R: HostFiles<File = F> + AllocGlobal,
+    R: HostFiles<File = F>,
     requires { MayWrite R.rights rt.now path.now }
     ensures owned { IfOk result F.IsOwned }
     ensures shared { IfOk result F.IsShared }
@@ -94,7 +79,7 @@ where
 {
     let mut file = told(opened_to_change(rt, path))?;
     lock_exclusive(&mut file)?;
-    see_one_name(rt, rt.alloc(), path, &file)?;
+    see_one_name(&file)?;
     Ok(file)
 }
 
@@ -146,7 +131,7 @@ where
         return Ok(());
     }
     let names = told(LogNames::of(rt, rt.alloc(), path))?;
-    if is_logged(rt, &names)? {
+    if told(is_there(rt, names.log()))? {
         return land_beside(rt, &names, path);
     }
     told(sync_names(rt, &names))
@@ -189,15 +174,12 @@ where
         return Ok(None);
     }
     let names = told(LogNames::of(rt, rt.alloc(), path))?;
-    if !is_logged(rt, &names)? {
-        return Ok(None);
-    }
     let again = told(opened_to_read(rt, path))?;
     let mut view = ImageView::new(rt, rt.alloc(), &names, again);
     match view_in(rt.alloc(), &mut view) {
         Ok(None) => Ok(None),
         Ok(Some(shop)) => {
-            see_one_name(rt, rt.alloc(), path, image)?;
+            see_one_name(image)?;
             Ok(Some(shop))
         }
         Err(fault) => Err(log_refusal(&fault)),

@@ -26,7 +26,6 @@ mod losses;
 mod names;
 mod near_names;
 mod new_disks;
-mod new_files;
 mod outcomes;
 mod overviews;
 mod playing_logs;

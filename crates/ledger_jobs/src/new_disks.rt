@@ -6,17 +6,18 @@ ghost use Rattle.command_faults.specs.declared.faults.CommandFault.TheVariants a
 ghost use Rattle.ledger_jobs.specs.Changes.{IsMakingEnd};
 ghost use Rattle.ledger_jobs.specs.Names.{name_bytes};
 ghost use Rattle.ledger_jobs.specs.NewDisks.{IsNewMade};
-ghost use Rattle.ledger_jobs.specs.Rights.{MayMakeNewImage};
+ghost use Rattle.ledger_jobs.specs.Rights.{MayMakeImage};
 
+use crate::files::{AtPath, Older};
 use crate::names::Name;
-use crate::new_files::{NewFile, new_file_end};
+use crate::outcomes::over_end;
 use crate::refusals::Refusal;
 use command_faults::CommandFault;
 use d64_image::MemDisk;
 use disk_layout::Fault;
 use file_changes::new_disk;
 use image_file::{EndedFile, HostFiles, Locks, OverwrittenFile, replace_image};
-use shop_commands::{format_image, put_whole};
+use shop_commands::put_whole;
 use std::alloc::Global;
 use std::fs::OpenFile;
 use std::io::Write;
@@ -68,32 +69,11 @@ where
     F: EndedFile + Locks + OpenFile + Drop,
     R: HostFiles<File = F> + AllocGlobal,
     W: Write,
-    requires image { MayMakeNewImage R.rights rt.now path.now }
+    requires image { MayMakeImage R.rights rt.now path.now }
     requires name { length (name_bytes name.now) ≤ 16 }
     ensures { IsMakingEnd W.contents (codes "FORMATTED\n") out.old out.new result }
 {
-    let mut file = OverwrittenFile::new(NewFile::new(rt, path, None));
+    let mut file = OverwrittenFile::new(AtPath::new(rt, path, Older::Kept));
     let made = new_run(rt.alloc(), name.as_bytes(), id, &mut file, out);
-    new_file_end(made, file.opener())
-}
-
-/// Makes the image of an empty shop at a path. No file may stand there.
-pub(crate) fn do_format_new<F, R, W>(
-    rt: &R,
-    path: &str,
-    tills: u8,
-    out: &mut W,
-) -> Result<Option<Fault>, Refusal>
-where
-    F: EndedFile + Locks + OpenFile + Drop,
-    R: HostFiles<File = F> + AllocGlobal,
-    W: Write,
-    requires image { MayMakeNewImage R.rights rt.now path.now }
-    requires some { 1 ≤ tills }
-    requires few { tills ≤ 64 }
-    ensures { IsMakingEnd W.contents (codes "FORMATTED\n") out.old out.new result }
-{
-    let mut file = OverwrittenFile::new(NewFile::new(rt, path, None));
-    let made = format_image(rt.alloc(), tills, &mut file, out);
-    new_file_end(made, file.opener())
+    over_end(made, file.opener().refused())
 }

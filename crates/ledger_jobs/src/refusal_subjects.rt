@@ -35,7 +35,7 @@ const FOREIGN_LOG: &str =
     "the log beside it is of another image, or not whole; docs/LOG.md says what to do";
 
 const SECOND_NAME: &str =
-    "it has a second name (a link or a mount), and would have a log under each; keep one, or `copy` it";
+    "it has a second name (a hard link), and would have a log under each; keep one, or `copy` it";
 
 pub(crate) const CUT_SHORT: &str =
     "a file ends there, too early (docs/KEEPERS.md); if `check` said OK before, use --accept-loss";

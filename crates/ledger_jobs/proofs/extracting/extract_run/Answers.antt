@@ -2,7 +2,6 @@
 use Rattle.std.proofs.Common.{Result, Ok, Err, inl, inr, refl}
 use Rattle.std.specs.Prelude.{IfErr, IfOk, MatchResult}
 use Rattle.std.proofs.lemmas.Result.{err_from_is_err_and}
-use Rattle.ledger_jobs.proofs.ExtractNamed.{once-named}
 use Rattle.ledger_jobs.proofs.extracting.extract_run.Goals as goal
 
 either : {T E : Type 0} (P : T → Type 0) (Q : E → Type 0) (r : Result T E) → IfOk r P → IfErr r Q → MatchResult r P Q
@@ -16,11 +15,9 @@ returns-in_err-cut g c =
 
 pub returns : goal.returns
 returns g c = inr (
-  c.finished-ended.result,
+  c.extract_image-ended.result,
   c.in_ok-cut.cut,
-  once-named _ _ _ _ _ _ c.extract_image-made.result c.finished-ended.result
-      (either _ _ c.extract_image-made.result c.extract_image-made.ensures.ok c.extract_image-made.ensures.err)
-      c.finished-ended.ensures,
+  either _ _ c.extract_image-ended.result c.extract_image-ended.ensures.ok c.extract_image-ended.ensures.err,
   c.in_ok-cut.ensures.ok,
   rw (← c.extract_refusal.ensures) c.tell_extracted.ensures,
 )

@@ -6,5 +6,5 @@ pub returns : goal.returns
 returns g c = (
   c.new_run-made.result,
   new-told g.W.Write.contents _ _ _ _ _ _ _ c.new_run-made.result c.new_run-made.ensures,
-  c.new_file_end.ensures,
+  c.over_end.ensures,
 )
