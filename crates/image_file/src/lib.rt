@@ -29,7 +29,7 @@ pub use paths::host::HostFiles;
 pub use paths::names::{FileName, Identity, Stays, leads_to};
 pub use paths::opening::{opened_to_change, opened_to_read, regular, regular_at};
 pub use reading::{read_image, read_script};
-pub use remaining::EndedFile;
+pub use remaining::{EndedFile, private_mode};
 pub use replacing::{DIRECTORY_END, DIRECTORY_START, SPOILED_DIRECTORY, replace_image};
 pub use sectors::ImageFile;
 pub use shown_paths::ShownPath;

@@ -9,15 +9,21 @@ use std::io::{self, Read};
 /// many.
 const MOST_READ: u64 = IMAGE_BYTES as u64 + 1;
 
-/// The bytes of a script: all that the reader has left. Its error if reading failed, or if there was no memory for them.
-/// `room` is how many bytes memory is taken for at once: any number will do, and with one more than the file has it need
-/// not grow.
+/// How many bytes a script may have, or another text: 16 MiB.
+const MOST_SCRIPT: usize = 16 << 20;
+
+/// The bytes of a script: all that the reader has left. Its error if reading failed, or if there was no memory for them;
+/// `FileTooLarge` if there are more than 16 MiB. `room` is how many bytes memory is taken for at once: any number will do,
+/// and with one more than the file has it need not grow.
 pub fn read_script<R: Read + Drop>(alloc: Global, reader: R, room: usize) -> io::Result<Vec<u8>>
     ensures { IfOk result (λ bytes. IfSome (R.remaining reader) (λ all. vec_items bytes ≡ all)) }
 {
-    let mut reader = reader;
-    let mut bytes = Vec::with_capacity(alloc, room)?;
-    reader.read_to_end(&mut bytes)?;
+    let mut front = reader.take(MOST_SCRIPT as u64 + 1);
+    let mut bytes = Vec::with_capacity(alloc, room.min(MOST_SCRIPT + 1))?;
+    front.read_to_end(&mut bytes)?;
+    if bytes.len() > MOST_SCRIPT {
+        return Err(io::ErrorKind::FileTooLarge.into());
+    }
     Ok(bytes)
 }
 

@@ -2,9 +2,9 @@
 ghost use Rattle.std.specs.Prelude.{OnOk};
 ghost use Rattle.image_file.specs.Remains.{IsBroughtWhole, IsEndedBehind, IsPutOver, Remains, unknown};
 
-use std::fs::File;
+use std::fs::{File, Metadata, Permissions};
 use std::io;
-use std::os::unix::fs::FileExt;
+use std::os::unix::fs::{FileExt, MetadataExt, PermissionsExt, fchown};
 
 /// A file that can be written over at any place and ended after any byte.
 pub trait EndedFile {
@@ -23,6 +23,27 @@ pub trait EndedFile {
     /// Syncs all that it holds, and its length.
     fn sync_whole(&mut self) -> io::Result<()>
         ensures { IsBroughtWhole remains self.old self.new result };
+
+    /// The same as the last call. A file that was made under another name gets its own.
+    fn finish(&mut self) -> io::Result<()>
+        ensures { IsBroughtWhole remains self.old self.new result }
+    {
+        self.sync_whole()
+    }
+
+    /// Lets those people read and write it who may do so with the file that this metadata describes, as far as the system
+    /// allows that, and nobody else.
+    fn guard_as(&self, _like: &Metadata) {}
+}
+
+/// The mode of a file in the making that is to be guarded as another: only its owner may use it.
+pub fn private_mode(like: &Metadata) -> u32 {
+    like.mode() & 0o600
+}
+
+/// The mode of a file that has another group than the one like which it is guarded: its group may do what all others may.
+fn ungrouped(mode: u32) -> u32 {
+    mode & 0o606 | mode << 3 & 0o060 & mode
 }
 
 impl EndedFile for File {
@@ -36,5 +57,17 @@ impl EndedFile for File {
 
     fn sync_whole(&mut self) -> io::Result<()> {
         self.sync_all()
+    }
+
+    // a file that can't be given away has its maker as its owner
+    fn guard_as(&self, like: &Metadata) {
+        let (owner, group) = (Some(like.uid()), Some(like.gid()));
+        let mode = if fchown(self, owner, group).is_ok() || fchown(self, None, group).is_ok() {
+            like.mode() & 0o666
+        } else {
+            ungrouped(like.mode())
+        };
+        // a system without modes keeps its own
+        let _ = self.set_permissions(Permissions::from_mode(mode));
     }
 }

@@ -88,7 +88,7 @@ where
     fn make(&mut self, name: &[u8], bytes: &[u8]) -> io::Result<()> {
         self.see_made()?;
         let path = path_in(self.rt.alloc(), self.path, name)?;
-        let mut file = self.rt.make_file(path.as_str())?;
+        let mut file = self.rt.make_file(path.as_str(), 0o666)?;
         file.put_over(bytes, 0)
     }
 }

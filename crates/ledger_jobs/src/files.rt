@@ -165,7 +165,7 @@ impl<R: HostFiles + AllocGlobal> AtPath<'_, R> {
             let error = io::Error::from(io::ErrorKind::AlreadyExists);
             return Err(self.refuse(Refusal::Exists, error));
         }
-        match self.rt.make_file(self.path) {
+        match self.rt.make_file(self.path, 0o666) {
             Err(error)
                 if self.older == Older::Kept && error.kind() == io::ErrorKind::AlreadyExists => {
                 Err(self.refuse(Refusal::Exists, error))

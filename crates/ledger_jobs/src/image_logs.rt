@@ -15,7 +15,7 @@ use d64_image::IMAGE_BYTES;
 use image_file::{EndedFile, HostFiles, Locks, opened_to_change, opened_to_read};
 use shop_log::{ImageFolder, ImageView, LogFault, LogNames, land_in, sync_names, view_in};
 use std::fs::OpenFile;
-use std::io::{self, ErrorKind};
+use std::io;
 use std::os::unix::fs::MetadataExt;
 
 /// What is reported for this fault of a log.
@@ -57,16 +57,12 @@ pub(crate) fn see_one_name<F: OpenFile>(file: &F) -> Result<(), Refusal>
     Ok(())
 }
 
-/// Whether anything stands at a path.
+/// Whether anything stands at a path, also a symbolic link that leads nowhere.
 pub(crate) fn is_there<R: HostFiles>(rt: &R, path: &str) -> io::Result<bool>
     requires { May R.rights rt.now Look path.now }
     ensures { IsMissing R.stands rt.now path.now → IfOk result (λ there. there ≡ false) }
 {
-    match rt.look_at(path) {
-        Ok(_) => Ok(true),
-        Err(error) if error.kind() == ErrorKind::NotFound => Ok(false),
-        Err(error) => Err(error),
-    }
+    rt.is_named(path)
 }
 
 /// The regular file at a path, opened to be changed, which this program has alone. `InUse` if another program has it;

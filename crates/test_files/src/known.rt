@@ -159,6 +159,14 @@ impl<'a> HostFiles for Known<'a> {
         }
     }
 
+    fn is_named(&self, path: &str) -> io::Result<bool> {
+        Ok(self.found(path).is_some())
+    }
+
+    fn is_mounted(&self, _alloc: Global, _path: &str) -> io::Result<bool> {
+        Ok(false)
+    }
+
     fn resolve(&self, alloc: Global, path: &str) -> io::Result<String> {
         let mut copy = String::new(alloc);
         copy.push_str(path)?;
@@ -184,7 +192,7 @@ impl<'a> HostFiles for Known<'a> {
         failed(ErrorKind::PermissionDenied)
     }
 
-    fn make_file(&self, _path: &str) -> io::Result<KnownFile<'a>> {
+    fn make_file(&self, _path: &str, _mode: u32) -> io::Result<KnownFile<'a>> {
         failed(ErrorKind::PermissionDenied)
     }
 
@@ -196,7 +204,15 @@ impl<'a> HostFiles for Known<'a> {
         failed(ErrorKind::PermissionDenied)
     }
 
+    fn give_new_name(&self, _from: &str, _to: &str) -> io::Result<()> {
+        failed(ErrorKind::PermissionDenied)
+    }
+
     fn take_name(&self, _path: &str) -> io::Result<()> {
+        failed(ErrorKind::PermissionDenied)
+    }
+
+    fn take_folder(&self, _alloc: Global, _path: &str) -> io::Result<()> {
         failed(ErrorKind::PermissionDenied)
     }
 }

@@ -137,6 +137,10 @@ impl<F: EndedFile> EndedFile for NotedFile<'_, '_, F> {
         let outcome = self.file.sync_whole();
         self.noted(outcome)
     }
+
+    fn guard_as(&self, like: &Metadata) {
+        self.file.guard_as(like)
+    }
 }
 
 impl<F: WritesAt> WritesAt for NotedFile<'_, '_, F> {

@@ -84,6 +84,14 @@ impl<'n, 'a, R: HostFiles> HostFiles for NotedRuntime<'n, 'a, R> {
         self.noted(path, self.rt.look_at(path))
     }
 
+    fn is_named(&self, path: &str) -> io::Result<bool> {
+        self.noted(path, self.rt.is_named(path))
+    }
+
+    fn is_mounted(&self, alloc: Global, path: &str) -> io::Result<bool> {
+        self.noted(path, self.rt.is_mounted(alloc, path))
+    }
+
     fn resolve(&self, alloc: Global, path: &str) -> io::Result<String> {
         self.rt.resolve(alloc, path)
     }
@@ -104,8 +112,8 @@ impl<'n, 'a, R: HostFiles> HostFiles for NotedRuntime<'n, 'a, R> {
         self.opened(path, self.rt.open_to_write(path))
     }
 
-    fn make_file(&self, path: &str) -> io::Result<NotedFile<'n, 'a, R::File>> {
-        self.opened(path, self.rt.make_file(path))
+    fn make_file(&self, path: &str, mode: u32) -> io::Result<NotedFile<'n, 'a, R::File>> {
+        self.opened(path, self.rt.make_file(path, mode))
     }
 
     fn make_folder(&self, path: &str) -> io::Result<()> {
@@ -116,8 +124,16 @@ impl<'n, 'a, R: HostFiles> HostFiles for NotedRuntime<'n, 'a, R> {
         self.noted(to, self.rt.give_name(from, to))
     }
 
+    fn give_new_name(&self, from: &str, to: &str) -> io::Result<()> {
+        self.noted(to, self.rt.give_new_name(from, to))
+    }
+
     fn take_name(&self, path: &str) -> io::Result<()> {
         self.noted(path, self.rt.take_name(path))
+    }
+
+    fn take_folder(&self, alloc: Global, path: &str) -> io::Result<()> {
+        self.noted(path, self.rt.take_folder(alloc, path))
     }
 }
 

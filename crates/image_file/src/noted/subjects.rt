@@ -26,8 +26,8 @@ fn is_inside(path: &str, folder: &str) -> bool {
 }
 
 impl<'a> Subject<'a> {
-    /// What a path is about, among the words of a job: the file of a word, or one inside the folder of a word, otherwise
-    /// one beside the first word. None if there are no words.
+    /// What a path is about, among the words of a job: the file of a word, or one inside the folder of a word, one whose
+    /// path begins with a word, otherwise one beside the first word. None if there are no words.
     pub(crate) fn of(words: &[&'a str], path: &str) -> Option<Subject<'a>> {
         for word in words {
             if *word == path {
@@ -37,6 +37,11 @@ impl<'a> Subject<'a> {
         for word in words {
             if is_inside(path, word) {
                 return Some(Subject::Inside(word));
+            }
+        }
+        for word in words {
+            if path.starts_with(word) {
+                return Some(Subject::Beside(word));
             }
         }
         words.first().map(|word| Subject::Beside(word))

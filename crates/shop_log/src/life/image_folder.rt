@@ -9,7 +9,9 @@ use crate::life::log_folder::LogFolder;
 use crate::life::log_names::{LogNames, forget_making, see_log, sync_names};
 use crate::life::system_log::SystemLog;
 use crate::log::LOG_BYTES;
-use image_file::{EndedFile, HostFiles, Identity, opened_to_change, opened_to_read, regular};
+use image_file::{
+    EndedFile, HostFiles, Identity, opened_to_change, opened_to_read, private_mode, regular,
+};
 use std::alloc::Global;
 use std::cell::Cell;
 use std::fs::OpenFile;
@@ -161,7 +163,9 @@ where
 
     fn make_log(&mut self) -> io::Result<SystemLog<'a, R>> {
         forget_making(self.rt, self.names)?;
-        let file = self.rt.make_file(self.names.making())?;
+        let like = OpenFile::metadata(&self.image)?;
+        let file = self.rt.make_file(self.names.making(), private_mode(&like))?;
+        file.guard_as(&like);
         let identity = identity_of(&file)?;
         Ok(self.log_of(file, identity, false))
     }

@@ -78,15 +78,14 @@ pub(crate) fn see_file<R: HostFiles>(rt: &R, path: &str, file: Identity) -> io::
     Err(io::ErrorKind::NotFound.into())
 }
 
-/// An error if anything stands at a path.
+/// An error if anything stands at a path, also a symbolic link that leads nowhere.
 fn see_none<R: HostFiles>(rt: &R, path: &str) -> io::Result<()>
     requires { May R.rights rt.now Look path.now }
 {
-    match rt.look_at(path) {
-        Ok(_) => Err(io::ErrorKind::AlreadyExists.into()),
-        Err(error) if error.kind() == io::ErrorKind::NotFound => Ok(()),
-        Err(error) => Err(error),
+    if rt.is_named(path)? {
+        return Err(io::ErrorKind::AlreadyExists.into());
     }
+    Ok(())
 }
 
 /// An error if a path doesn't lead to this log, or if that is none and the path leads to a file.
@@ -142,12 +141,13 @@ pub fn sync_names<R: HostFiles>(rt: &R, names: &LogNames) -> io::Result<()>
 }
 
 /// The log that stands beside an image; None if there is none. `AlreadyExists` if a file stands there that isn't as long as
-/// a log, or doesn't begin as one.
+/// a log, or doesn't begin as one, or a link that leads nowhere.
 pub fn find_log<R: HostFiles>(rt: &R, names: &LogNames) -> io::Result<Option<Identity>>
     requires { MayReadLogOf R.rights rt.now (string_bytes names.now.image) }
     ensures none { IsMissing R.stands rt.now (log_of (string_bytes names.now.image)) → IfOk result IsNone }
 {
     let Some(mut file) = log_to_read(rt, names)? else {
+        see_none(rt, names.log())?;
         return Ok(None);
     };
     let found = OpenFile::metadata(&file)?;

@@ -7,6 +7,9 @@ use Rattle.shop_log.proofs.life.image_folder.ImageFolderLogFolderSystemLog.make_
 pub returns-in_err-forget_making-clause-acts : goal.returns-in_err-forget_making-clause-acts
 returns-in_err-forget_making-clause-acts g c = acts _ _ being_made IsMaking _ (λ s. record { image = refl; log = refl })
 
+pub returns-in_err-like-clause-acts : goal.returns-in_err-like-clause-acts
+returns-in_err-like-clause-acts g c = acts _ _ being_made IsMaking _ (λ s. record { image = refl; log = refl })
+
 pub returns-in_err-file-clause-acts : goal.returns-in_err-file-clause-acts
 returns-in_err-file-clause-acts g c = acts _ _ being_made IsMaking _ (λ s. record { image = refl; log = refl })
 
