@@ -12,11 +12,6 @@ pub trait OpensFile {
 
     /// Syncs the folder of the file, so that its name stays if the machine loses power.
     fn sync_folder(&mut self) -> io::Result<()>;
-
-    /// Ends the work on the file: it gets its own name if it was opened under another. The folder is synced.
-    fn finish(&mut self) -> io::Result<()> {
-        self.sync_folder()
-    }
 }
 
 /// A file that is overwritten. It is opened at the first use; nothing is touched before. Syncing it also syncs its
@@ -63,10 +58,5 @@ impl<O: OpensFile> EndedFile for OverwrittenFile<O> {
     fn sync_whole(&mut self) -> io::Result<()> {
         self.opened()?.sync_whole()?;
         self.opens.sync_folder()
-    }
-
-    fn finish(&mut self) -> io::Result<()> {
-        self.opened()?.sync_whole()?;
-        self.opens.finish()
     }
 }

@@ -24,13 +24,6 @@ pub trait EndedFile {
     fn sync_whole(&mut self) -> io::Result<()>
         ensures { IsBroughtWhole remains self.old self.new result };
 
-    /// The same as the last call. A file that was made under another name gets its own.
-    fn finish(&mut self) -> io::Result<()>
-        ensures { IsBroughtWhole remains self.old self.new result }
-    {
-        self.sync_whole()
-    }
-
     /// Lets those people read and write it who may do so with the file that this metadata describes, as far as the system
     /// allows that, and nobody else.
     fn guard_as(&self, _like: &Metadata) {}

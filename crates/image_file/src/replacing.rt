@@ -36,7 +36,7 @@ fn fill<F: EndedFile>(file: &mut F, image: &[u8]) -> io::Result<()>
     file.sync_whole()
 }
 
-/// Writes the first sector of an image's directory into a file that has the rest of the image, and finishes it.
+/// Writes the first sector of an image's directory into a file that has the rest of the image, and syncs it.
 fn seal<F: EndedFile>(file: &mut F, image: &[u8]) -> io::Result<()>
     requires size { length image.now ≡ 174848 }
     requires filled { AllAreFilled F.remains file.old image.now }
@@ -46,7 +46,7 @@ fn seal<F: EndedFile>(file: &mut F, image: &[u8]) -> io::Result<()>
         &image[DIRECTORY_START..DIRECTORY_END],
         DIRECTORY_START as u64,
     )?;
-    file.finish()
+    file.sync_whole()
 }
 
 /// Replaces all that a file holds with an image. If power fails on the way, there remains what could remain before, or

@@ -163,10 +163,6 @@ impl<'a> HostFiles for Known<'a> {
         Ok(self.found(path).is_some())
     }
 
-    fn is_mounted(&self, _alloc: Global, _path: &str) -> io::Result<bool> {
-        Ok(false)
-    }
-
     fn resolve(&self, alloc: Global, path: &str) -> io::Result<String> {
         let mut copy = String::new(alloc);
         copy.push_str(path)?;
@@ -204,15 +200,7 @@ impl<'a> HostFiles for Known<'a> {
         failed(ErrorKind::PermissionDenied)
     }
 
-    fn give_new_name(&self, _from: &str, _to: &str) -> io::Result<()> {
-        failed(ErrorKind::PermissionDenied)
-    }
-
     fn take_name(&self, _path: &str) -> io::Result<()> {
-        failed(ErrorKind::PermissionDenied)
-    }
-
-    fn take_folder(&self, _alloc: Global, _path: &str) -> io::Result<()> {
         failed(ErrorKind::PermissionDenied)
     }
 }

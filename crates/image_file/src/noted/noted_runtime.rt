@@ -88,10 +88,6 @@ impl<'n, 'a, R: HostFiles> HostFiles for NotedRuntime<'n, 'a, R> {
         self.noted(path, self.rt.is_named(path))
     }
 
-    fn is_mounted(&self, alloc: Global, path: &str) -> io::Result<bool> {
-        self.noted(path, self.rt.is_mounted(alloc, path))
-    }
-
     fn resolve(&self, alloc: Global, path: &str) -> io::Result<String> {
         self.rt.resolve(alloc, path)
     }
@@ -124,16 +120,8 @@ impl<'n, 'a, R: HostFiles> HostFiles for NotedRuntime<'n, 'a, R> {
         self.noted(to, self.rt.give_name(from, to))
     }
 
-    fn give_new_name(&self, from: &str, to: &str) -> io::Result<()> {
-        self.noted(to, self.rt.give_new_name(from, to))
-    }
-
     fn take_name(&self, path: &str) -> io::Result<()> {
         self.noted(path, self.rt.take_name(path))
-    }
-
-    fn take_folder(&self, alloc: Global, path: &str) -> io::Result<()> {
-        self.noted(path, self.rt.take_folder(alloc, path))
     }
 }
 

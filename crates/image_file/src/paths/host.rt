@@ -3,11 +3,10 @@ ghost use Rattle.std.specs.Prelude.{◌≡◌, Bool, IfOk, IsErr, List, ℕ, fal
 ghost use Rattle.image_file.specs.paths.Rights.{Look, Make, May, Read as ToRead, Remove, Replace, Rights, Use, Write as ToWrite};
 ghost use Rattle.image_file.specs.paths.Standing.{AreOf, IsMissing, Stands, Unsaid};
 
-use crate::paths::mounts::{MOUNTS, is_listed};
 use std::alloc::Global;
 use std::fs::{File, Metadata, OpenFile, OpenOptions};
 use std::io::{self, ErrorKind, Read, Seek};
-use std::os::unix::fs::{MetadataExt, OpenOptionsExt};
+use std::os::unix::fs::OpenOptionsExt;
 use std::rt::Files;
 
 /// The files of a host. Each call says what it does with the file at a path, and needs the right to do that. So code that
@@ -27,16 +26,10 @@ pub trait HostFiles {
         requires { May rights self.now Look path.now }
         ensures { IsMissing stands self.now path.now → IsErr result };
 
-    /// Whether anything has this path as its name, also a symbolic link that leads nowhere. What only keeps the name doesn't
-    /// count.
+    /// Whether anything has this path as its name, also a symbolic link that leads nowhere.
     fn is_named(&self, path: &str) -> io::Result<bool>
         requires { May rights self.now Look path.now }
         ensures { IsMissing stands self.now path.now → IfOk result (λ named. named ≡ false) };
-
-    /// Whether the file at a path was mounted there by itself: then it has another name somewhere. False if the host doesn't
-    /// know.
-    fn is_mounted(&self, alloc: Global, path: &str) -> io::Result<bool>
-        requires { May rights self.now Look path.now };
 
     /// The path of the file to which a path leads. It is the path itself if there is no file, or if the host doesn't know.
     fn resolve(&self, alloc: Global, path: &str) -> io::Result<String>
@@ -77,18 +70,8 @@ pub trait HostFiles {
         requires from { May rights self.now Remove from.now }
         requires to { May rights self.now Replace to.now };
 
-    /// Gives the file or the folder at a path another name, at which nothing stands. `AlreadyExists`, or another error, if
-    /// anything does.
-    fn give_new_name(&self, from: &str, to: &str) -> io::Result<()>
-        requires from { May rights self.now Remove from.now }
-        requires to { May rights self.now Make to.now };
-
     /// Takes the name of the file at a path away.
     fn take_name(&self, path: &str) -> io::Result<()>
-        requires { May rights self.now Remove path.now };
-
-    /// Removes the folder at a path with all that is in it.
-    fn take_folder(&self, alloc: Global, path: &str) -> io::Result<()>
         requires { May rights self.now Remove path.now };
 }
 
@@ -99,18 +82,6 @@ pub(crate) fn folder_of(path: &str) -> &str {
         Some(("", _)) => "/",
         Some((folder, _)) => folder,
     }
-}
-
-/// Whether this is an empty file that nobody may use: it keeps a name until another file gets that.
-fn keeps_name(found: &Metadata) -> bool {
-    found.is_file() && found.len() == 0 && found.mode() & 0o777 == 0
-}
-
-/// A path as a text of its own.
-fn copied(alloc: Global, path: &str) -> io::Result<String> {
-    let mut copy = String::new(alloc);
-    copy.push_str(path)?;
-    Ok(copy)
 }
 
 // A runtime of the system keeps no list of rights: all calls are allowed.
@@ -125,16 +96,9 @@ impl<R: Files> HostFiles for R {
 
     fn is_named(&self, path: &str) -> io::Result<bool> {
         match self.symlink_metadata(path) {
-            Ok(found) => Ok(!keeps_name(&found)),
+            Ok(_) => Ok(true),
             Err(error) if error.kind() == ErrorKind::NotFound => Ok(false),
             Err(error) => Err(error),
-        }
-    }
-
-    fn is_mounted(&self, alloc: Global, path: &str) -> io::Result<bool> {
-        match File::open(self, MOUNTS) {
-            Ok(list) => is_listed(alloc, list, self.resolve(alloc, path)?.as_str()),
-            Err(_) => Ok(false),
         }
     }
 
@@ -180,30 +144,7 @@ impl<R: Files> HostFiles for R {
         self.rename(from, to)
     }
 
-    // A file takes the place of any other, so an empty one keeps the name; one that keeps it may be left by a program that
-    // was killed. A folder takes the place of an empty folder alone.
-    fn give_new_name(&self, from: &str, to: &str) -> io::Result<()> {
-        if self.metadata(from)?.is_dir() {
-            return self.rename(from, to);
-        }
-        match self.make_file(to, 0) {
-            Err(error) if error.kind() != ErrorKind::AlreadyExists || self.is_named(to)? => {
-                return Err(error);
-            }
-            _ => {}
-        }
-        let named = self.rename(from, to);
-        if named.is_err() {
-            let _ = self.remove_file(to);
-        }
-        named
-    }
-
     fn take_name(&self, path: &str) -> io::Result<()> {
         self.remove_file(path)
-    }
-
-    fn take_folder(&self, alloc: Global, path: &str) -> io::Result<()> {
-        self.remove_dir_all(alloc, path)
     }
 }

@@ -16,7 +16,7 @@ returns-in_err-put_over g c =
 pub returns : goal.returns
 returns g c =
     let image = c.args.image.now in
-    sealing g.F.EndedFile.remains c.args.file.now c.put_over.new.self c.finish.new.self image
-    (take 256 (drop 91648 image)) c.finish.result c.requires.size refl
+    sealing g.F.EndedFile.remains c.args.file.now c.put_over.new.self c.sync_whole.new.self image
+    (take 256 (drop 91648 image)) c.sync_whole.result c.requires.size refl
     (omega (arith, c.requires.size, length-take 256 (drop 91648 image), length-drop 91648 image)) c.requires.filled
-    c.in_ok-put_over.ensures.held c.put_over.ensures.remain c.finish.ensures
+    c.in_ok-put_over.ensures.held c.put_over.ensures.remain c.sync_whole.ensures
