@@ -44,6 +44,7 @@ STEPS = {
     'log first': 'a reader reads IMAGE before the log',
     'lock': 'a reader may look before the log stands',
     'backwards': 'a reader reads the first block of the log first',
+    'again': 'a reader takes all whole blocks when it reads them again',
     'damage': 'a log that is damaged before its end is landed',
     'looks': 'a service doesn\'t look for the log\'s name before it lands it',
     'length': 'the length of a new log is not synced first',
@@ -155,18 +156,27 @@ def read_log(data):
     None if there is no base."""
     if len(data) != LENGTH:
         return None
-    image, base, sectors, end = [bytes(WIDTH)] * SECTORS, None, {}, 0
     blocks = [data[q * BLOCK:(q + 1) * BLOCK] for q in range(BLOCKS)]
-    for q, block in enumerate(blocks):
-        if not is_whole(block):
-            break
+    first, end, is_torn = ends_of(blocks)
+    return (replay(blocks[:first]), replay(blocks[:end]), data[-1] != 0, is_torn) if first else None
+
+
+def ends_of(blocks):
+    """How many blocks the base takes, and the whole commits; and whether a torn commit is all that stands after them."""
+    whole = next((q for q, block in enumerate(blocks) if not is_whole(block)), len(blocks))
+    ends = [q + 1 for q in range(whole) if blocks[q][1] == LAST]
+    first, end = (ends[0], ends[-1]) if ends else (0, 0)
+    return first, end, ends_torn(blocks, end)
+
+
+def replay(blocks):
+    """The image with the sectors of these blocks."""
+    image = [bytes(WIDTH)] * SECTORS
+    for block in blocks:
         for j in range(min(block[2], PER)):
             at = HEAD + j * (1 + WIDTH)
-            sectors[block[at] - 1] = bytes(block[at + 1:at + 1 + WIDTH])
-        if block[1] == LAST:
-            image = [sectors.get(i, image[i]) for i in range(SECTORS)]
-            base, sectors, end = base or image, {}, q + 1
-    return None if base is None else (base, image, data[-1] != 0, ends_torn(blocks, end))
+            image[block[at] - 1] = bytes(block[at + 1:at + 1 + WIDTH])
+    return image
 
 
 def is_whole(block):
@@ -220,6 +230,16 @@ class World:
             yield
         return image
 
+    def read_block(self, log, q):
+        """A block of a log, read in pieces."""
+        data, at, end = bytearray(), q * BLOCK, q * BLOCK + BLOCK
+        while at < end:
+            to = min(end, at + self.rng.choice((1, 3, BLOCK)))
+            data += self.disk.seen[log][at:to]
+            at = to
+            yield
+        return data
+
     def view(self):
         """A reader's look: the image that it sees must be one since the last change that was confirmed when it began."""
         disk, least, image = self.disk, self.confirmed, None
@@ -232,27 +252,29 @@ class World:
         else:
             mark = bytes(disk.seen[log][-1:])
             yield
-            data = bytearray(LENGTH)
-            for q in range(BLOCKS + 1) if self.without == 'backwards' else range(BLOCKS, -1, -1):
-                at, end = q * BLOCK, min(LENGTH, q * BLOCK + BLOCK)
-                while at < end:
-                    to = min(end, at + self.rng.choice((1, 3, BLOCK)))
-                    data[at:to] = disk.seen[log][at:to]
-                    at = to
-                    yield
-            # commits may have come while it was read, and then the mark
-            data[-1:] = mark
+            order = range(BLOCKS) if self.without == 'backwards' else range(BLOCKS - 1, -1, -1)
+            blocks = {}
+            for q in order:
+                blocks[q] = yield from self.read_block(log, q)
+            first, end, is_torn = ends_of([blocks[q] for q in range(BLOCKS)])
+            if not first or not is_torn:
+                raise Wrong('a reader is refused')
+            # whole commits stay as they are: they are read again
+            again = []
+            for q in range(BLOCKS if self.without == 'again' else end):
+                block = yield from self.read_block(log, q)
+                if not is_whole(block):
+                    break
+                again.append(block)
             if image is None:
                 image = yield from self.read_image()
-            found = read_log(data)
-            if found is None or not found[3]:
-                raise Wrong('a reader is refused')
+            found = (replay(again[:first]), replay(again), mark != b'\0')
             # a writer judged the log if it landed it meanwhile: it got its mark, or it had that and lost its name
             if found[2]:
                 landed = self.without != 'name again' and disk.names.get('LOG') != log
             else:
                 landed = self.without != 'mark again' and disk.seen[log][-1] != 0
-            if not landed and not is_of(image, *found[:3]):
+            if not landed and not is_of(image, *found):
                 raise Wrong('a reader is refused')
             image = found[1]
         if image not in self.may_be[least:]:

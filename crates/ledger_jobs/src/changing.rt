@@ -78,6 +78,6 @@ where
         (IsRefused what.now image.now) out.old out.new result) }
 {
     let names = told(LogNames::of(rt, rt.alloc(), path))?;
-    let mut folder = told(ImageFolder::new(rt, rt.alloc(), &names, file))?;
+    let mut folder = told(ImageFolder::new(rt, &names, file))?;
     change_end(change_image(rt.alloc(), &mut folder, image, what, out))
 }

@@ -109,7 +109,7 @@ where
     ensures { IfErr result IsUnbegun }
 {
     let image = told(opened_to_change(rt, path))?;
-    let mut folder = told(ImageFolder::new(rt, rt.alloc(), names, image))?;
+    let mut folder = told(ImageFolder::new(rt, names, image))?;
     match land_in(rt.alloc(), &mut folder) {
         Ok(_) => Ok(()),
         Err(fault) => Err(log_refusal(&fault)),
@@ -175,7 +175,7 @@ where
     }
     let names = told(LogNames::of(rt, rt.alloc(), path))?;
     let again = told(opened_to_read(rt, path))?;
-    let mut view = ImageView::new(rt, rt.alloc(), &names, again);
+    let mut view = ImageView::new(rt, &names, again);
     match view_in(rt.alloc(), &mut view) {
         Ok(None) => Ok(None),
         Ok(Some(shop)) => {

@@ -44,6 +44,8 @@ const NAMED: &str = "a file has this name; `ledger list` shows them";
 
 const NO_ROOM: &str = "it has too few free blocks, or no room in its directory; nothing was done";
 
+const NO_MEMORY: &str = "memory was refused; what was answered stays in it, or in its log";
+
 const LOCKED: &str = "the file is locked: `ledger list` prints `<` after its type";
 
 const SHOP_FILE: &str =
@@ -74,7 +76,7 @@ fn about_fault(fault: CommandFault) -> About {
         CommandFault::Geos => About::Image(GEOS),
         CommandFault::Format => About::Image(FORMAT),
         CommandFault::Device => About::Device,
-        CommandFault::NoMemory => About::Nothing,
+        CommandFault::NoMemory => About::Image(NO_MEMORY),
     }
 }
 

@@ -49,7 +49,7 @@ where
     requires log { MayKeepLogOf R.rights rt.now (string_bytes names.now.image) }
 {
     let image = told(opened_to_change(rt, path))?;
-    told(ImageFolder::new(rt, rt.alloc(), names, image))
+    told(ImageFolder::new(rt, names, image))
 }
 
 /// The sectors of the shop that a folder gives, which the image has from then on. `Log` if its log gives none: nothing

@@ -6,9 +6,11 @@ mod Counting
 pub mod Ends
 mod Filled
 mod Images
+mod Known
 mod Laid
 pub mod Marked
 pub mod Moments
+mod Numbers
 pub mod Remembered
 mod Runs
 mod Sealed

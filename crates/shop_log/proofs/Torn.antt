@@ -5,7 +5,7 @@ use Rattle.std.proofs.lemmas.Bool.{and_parts, cases_Bool, cases_lt}
 use Rattle.d64_image.specs.Images.{Image}
 use Rattle.shop_log.specs.Blocks.{IsBlank, IsCommit, block_at, committed, counts, first_commit, is_last, is_whole, replayed, whole_from}
 use Rattle.shop_log.specs.Files.{Mixed}
-use Rattle.shop_log.specs.Recovered.{EndsTorn, IsLeft, IsLog, MayBeTorn, base_end, base_of, blank, commits_end, recovered, whole_blocks}
+use Rattle.shop_log.specs.Recovered.{EndsTorn, IsLeft, IsLog, base_end, base_of, blank, commits_end, recovered, whole_blocks}
 use Rattle.shop_log.proofs.Counting.{Faint, all_or_nothing, blank_counts}
 use Rattle.shop_log.proofs.Runs.{committed_last, committed_more, first_alike, first_few, first_stays, length-block, replayed_alike, replayed_behind, same_parts, slice_index-block, whole_add, whole_below, committed_alike, block_is}
 

@@ -6,5 +6,7 @@ pub mod Logs
 pub mod Marks
 pub mod MemCalls
 pub mod Memory
+pub mod Readers
 pub mod Recovered
+pub mod Salvage
 pub mod Touched

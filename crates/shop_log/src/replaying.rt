@@ -1,24 +1,19 @@
-//! What a log's file stands for.
-ghost use Rattle.std.specs.Prelude.{◌≡◌, ◌↔◌, ◌≤◌, ◌<◌, ◌+◌, ◌*◌, IsTrue, false, length};
+//! The images that the blocks of a log stand for.
+ghost use Rattle.std.specs.Prelude.{◌≡◌, ◌≤◌, ◌⊎◌, IfErr, List, OnErr, OnOk, Some, length, true, ℕ};
 ghost use Rattle.d64_image.specs.Images.{Image};
-ghost use Rattle.shop_log.specs.Blocks.{block_at, committed as committed_in, first_commit, is_last, replayed, written};
-ghost use Rattle.shop_log.specs.Recovered.{base_end, base_of, blank, is_marked as marked, recovered, whole_blocks};
+ghost use Rattle.shop_log.specs.Blocks.{block_at, replayed, written};
+ghost use Rattle.shop_log.specs.Readers.{IsReadAs};
+ghost use Rattle.shop_log.specs.Recovered.{blank};
+ghost use Rattle.shop_log.specs.life.Faults.{IsMisfit};
 
-use crate::blocks::{BLOCK, is_whole_block};
-use crate::log::BLOCKS;
+use crate::life::judging::Misfit;
+use crate::life::landing::LogFault;
+use crate::log_blocks::read_blocks;
+use crate::log_reader::LogReader;
+use std::io;
 
 /// How many sectors a block has room for.
 const PER: usize = 15;
-
-/// Block q of the file.
-pub(crate) fn block(file: &[u8], q: usize) -> [u8; 4096]
-    requires { 4096 * q + 4096 ≤ length file.now }
-    ensures { result ≡ block_at file.now q }
-{
-    let mut block = [0; 4096];
-    block.copy_from_slice(&file[BLOCK * q..BLOCK * q + BLOCK]);
-    block
-}
 
 /// Puts the sectors of a block into the image.
 fn put_block(block: &[u8; 4096], image: &mut [[u8; 256]])
@@ -35,58 +30,6 @@ fn put_block(block: &[u8; 4096], image: &mut [[u8; 256]])
     }
 }
 
-/// Whether a block of the file is the last of its commit.
-fn ends_commit(file: &[u8], q: usize) -> bool
-    requires { 4096 * q + 4096 ≤ length file.now }
-    ensures { result ≡ is_last (block_at file.now q) }
-{
-    file[BLOCK * q + 10] == 2
-}
-
-/// How many of the file's blocks are whole, up to the first that isn't.
-pub(crate) fn count_whole(file: &[u8]) -> usize
-    requires { 4194304 ≤ length file.now }
-    ensures whole { result ≡ whole_blocks file.now }
-    ensures within { result ≤ 1024 }
-{
-    for q in 0..BLOCKS {
-        if !is_whole_block(&block(file, q), q) {
-            return q;
-        }
-    }
-    BLOCKS
-}
-
-/// How many of these whole blocks there are up to the end of the last commit.
-pub(crate) fn count_committed(file: &[u8], whole: usize) -> usize
-    requires { 4096 * whole ≤ length file.now }
-    ensures committed { result ≡ committed_in (block_at file.now) whole }
-    ensures few { result ≤ whole }
-{
-    let mut n = whole;
-    while n > 0 {
-        if ends_commit(file, n - 1) {
-            return n;
-        }
-        n -= 1;
-    }
-    0
-}
-
-/// How many of these whole blocks the first commit takes.
-pub(crate) fn count_first(file: &[u8], whole: usize) -> usize
-    requires { 4096 * whole ≤ length file.now }
-    ensures first { result ≡ first_commit (block_at file.now) whole }
-    ensures few { result ≤ whole }
-{
-    for q in 0..whole {
-        if ends_commit(file, q) {
-            return q + 1;
-        }
-    }
-    0
-}
-
 /// Puts zeros into every sector.
 fn wipe(image: &mut [[u8; 256]])
     requires { length image.old ≡ 683 }
@@ -97,55 +40,55 @@ fn wipe(image: &mut [[u8; 256]])
     }
 }
 
-/// Puts the sectors of the file's first n blocks into an image of zeros.
-pub(crate) fn replay(file: &[u8], n: usize, image: &mut [[u8; 256]])
-    requires within { 4096 * n ≤ length file.now }
+/// Puts the sectors of the log's first n blocks into an image of zeros.
+pub(crate) fn replay<L: LogReader>(log: &mut L, n: usize, image: &mut [[u8; 256]]) -> io::Result<()>
+    requires within { n ≤ 1024 }
     requires sized { length image.old ≡ 683 }
-    ensures { image.new ≡ replayed (block_at file.now) blank n }
+    ensures sized { length image.new ≡ 683 }
+    ensures ok { OnOk result ((f : List ℕ) → L.bytes log.old ≡ Some f → 4194304 ≤ length f
+        → image.new ≡ replayed (block_at f) blank n) }
+    ensures same { L.bytes log.new ≡ L.bytes log.old }
+    ensures cause { OnErr result (L.has_failed log.new ≡ true) }
 {
     wipe(image);
     for q in 0..n {
-        put_block(&block(file, q), image);
+        let block = log.read_block(q)?;
+        put_block(&block, image);
     }
+    Ok(())
 }
 
-/// The image that the log's file stands for: that of its last whole commit. Returns whether it has a base; otherwise
-/// the image is no disk's. A file of fewer than 1,024 blocks has none.
-pub fn recover(file: &[u8], image: &mut [[u8; 256]]) -> bool
-    requires sized { length image.old ≡ 683 }
-    ensures short { length file.now < 4194304 → (result ≡ false) × (image.new ≡ image.old) }
-    ensures based { 4194304 ≤ length file.now → (IsTrue result ↔ (0 < base_end file.now)) }
-    ensures image { 4194304 ≤ length file.now → image.new ≡ recovered file.now }
+/// The image that a log began with, and the one that its whole commits stand for. It takes a block of memory. An error, and
+/// no disk's images, if it has no whole base, or is damaged before its end, or fails.
+pub fn read_images<L: LogReader>(
+    log: &mut L,
+    base: &mut [[u8; 256]],
+    shop: &mut [[u8; 256]],
+) -> Result<(), LogFault>
+    requires base { length base.old ≡ 683 }
+    requires shop { length shop.old ≡ 683 }
+    ensures base { length base.new ≡ 683 }
+    ensures shop { length shop.new ≡ 683 }
+    ensures ok { OnOk result ((f : List ℕ) → L.bytes log.old ≡ Some f → IsReadAs f base.new shop.new) }
+    ensures refused { IfErr result (λ e. IsMisfit e → (f : List ℕ) → L.bytes log.old ≡ Some f
+        → (base shop : Image) → IsReadAs f base shop → ⊥) }
+    ensures same { L.bytes log.new ≡ L.bytes log.old }
+    ensures cause { IfErr result (λ e. IsMisfit e ⊎ (L.has_failed log.new ≡ true)) }
 {
-    if file.len() < BLOCK * BLOCKS {
-        return false;
+    if !log.is_sized()? {
+        return Err(Misfit::NoBase.into());
     }
-    let end = count_committed(file, count_whole(file));
-    replay(file, end, image);
-    end > 0
-}
-
-/// The image that the log began with. Returns whether the file has one; otherwise the image is no disk's.
-pub fn read_base(file: &[u8], image: &mut [[u8; 256]]) -> bool
-    requires sized { length image.old ≡ 683 }
-    ensures short { length file.now < 4194304 → (result ≡ false) × (image.new ≡ image.old) }
-    ensures based { 4194304 ≤ length file.now → (IsTrue result ↔ (0 < base_end file.now)) }
-    ensures image { 4194304 ≤ length file.now → image.new ≡ base_of file.now }
-{
-    if file.len() < BLOCK * BLOCKS {
-        return false;
+    let blocks = read_blocks(log)?;
+    let whole = blocks.count_whole();
+    let first = blocks.count_first(whole);
+    if first == 0 {
+        return Err(Misfit::NoBase.into());
     }
-    let end = count_first(file, count_whole(file));
-    replay(file, end, image);
-    end > 0
-}
-
-/// Whether the image is being copied into its own file: the byte after the blocks isn't 0.
-pub fn is_marked(file: &[u8]) -> bool
-    ensures { result ≡ marked file.now }
-{
-    match file.get(BLOCK * BLOCKS) {
-        Some(&byte) => byte != 0,
-        None => false,
+    let end = blocks.count_committed(whole);
+    if !blocks.ends_torn(end) {
+        return Err(Misfit::Damaged.into());
     }
+    replay(log, first, base)?;
+    replay(log, end, shop)?;
+    Ok(())
 }

@@ -84,6 +84,13 @@ pub(crate) fn folder_of(path: &str) -> &str {
     }
 }
 
+/// A path as a text of its own.
+fn copied(alloc: Global, path: &str) -> io::Result<String> {
+    let mut copy = String::new(alloc);
+    copy.push_str(path)?;
+    Ok(copy)
+}
+
 // A runtime of the system keeps no list of rights: all calls are allowed.
 impl<R: Files> HostFiles for R {
     type File = R::File;

@@ -80,6 +80,14 @@ module _ {D : Type 0} (h : FolderHistory D) where
     pub time : Passes old new
     pub failures : CountsFailure old new result
 
+  -- An open file was closed, and nothing changed, but a failure of the file is one of the folder.
+  pub record IsGivenUp (old new : D) (has_failed : Bool) : Type 0 where
+    pub held : h.held new ≡ h.held old
+    pub outcomes : (s : Folder) → h.may_leave new s → h.may_leave old s
+    pub time : Passes old new
+    pub failed : has_failed ≡ true → h.has_failed new ≡ true
+    pub passed : has_failed ≡ false → h.has_failed new ≡ h.has_failed old
+
 -- nothing changed
 abbrev pub Same : Folder → Folder → Type 0
 Same from s = s ≡ from
@@ -167,14 +175,6 @@ module _ {D F : Type 0} (h : FolderHistory D) (g : FileHistory F) where
     pub failures : CountsFailure h old new result
     -- a failure of the file is one of the folder
     pub file_failures : g.has_failed file ≡ true → h.has_failed new ≡ true
-
-  -- The file of a log in the making was closed: nothing changed, but a failure of the file is one of the folder.
-  pub record IsGivenUp (old new : D) (file : F) : Type 0 where
-    pub held : h.held new ≡ h.held old
-    pub outcomes : (s : Folder) → h.may_leave new s → h.may_leave old s
-    pub time : Passes h old new
-    pub failed : g.has_failed file ≡ true → h.has_failed new ≡ true
-    pub passed : g.has_failed file ≡ false → h.has_failed new ≡ h.has_failed old
 
   -- The log's file was closed, and nothing else was asked of the files.
   pub record IsClosedAlone (old : D) (file : F) (new : D) : Type 0 where

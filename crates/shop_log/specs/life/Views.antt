@@ -56,11 +56,6 @@ pub record IsLogViewed {V : Type 0} (seen : V → Option Seen) (s : Seen) (new :
   -- and one was, if nothing has changed since
   pub still : seen new ≡ Some s → SeenGives s shop
 
--- Whether there is a log, and then the image that it gives.
-abbrev pub IsViewed : {V : Type 0} → (V → Option Seen) → Seen → V → Bool → Image → Type 0
-IsViewed seen s new false shop = s.log ≡ None
-IsViewed seen s new true shop = IsLogViewed seen s new shop
-
 -- of what the system has nothing is known
 abbrev pub unseen : {V : Type 0} → V → Option Seen
 unseen _ = None

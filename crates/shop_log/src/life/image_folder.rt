@@ -7,12 +7,12 @@ ghost use Rattle.std.proofs.Props.{props};
 
 use crate::life::log_folder::LogFolder;
 use crate::life::log_names::{LogNames, forget_making, see_log, sync_names};
+use crate::life::open_log::OpenLog;
 use crate::life::system_log::SystemLog;
 use crate::log::LOG_BYTES;
 use image_file::{
     EndedFile, HostFiles, Identity, opened_to_change, opened_to_read, private_mode, regular,
 };
-use std::alloc::Global;
 use std::cell::Cell;
 use std::fs::OpenFile;
 use std::io::{self, Read, Seek, SeekFrom};
@@ -25,20 +25,12 @@ use std::os::unix::fs::MetadataExt;
 #[derive(Drop)]
 pub struct ImageFolder<'a, R: HostFiles> {
     rt: &'a R,
-    alloc: Global,
     names: &'a LogNames,
     image: R::File,
     // the file that is the log
     log: Option<Identity>,
     // the log may be kept
     ghost keeps: { MayKeepLogOf R.rights rt.now (string_bytes names.now.image) } by { Prim.hlevel props },
-}
-
-/// The bytes of a log: all of them, or one more than a log has.
-pub(crate) fn log_bytes<F: Read + Drop>(alloc: Global, file: &mut F) -> io::Result<Vec<u8>> {
-    let mut bytes = Vec::with_capacity(alloc, LOG_BYTES + 1)?;
-    file.take(LOG_BYTES as u64 + 1).read_to_end(&mut bytes)?;
-    Ok(bytes)
 }
 
 /// The log's file, open to be read. None if there is no log.
@@ -67,12 +59,7 @@ where
 {
     /// The folder of the image whose file this is, open to be read and written. `InvalidInput` if it isn't a regular file, or
     /// has a second name, by which it would have another log.
-    pub fn new(
-        rt: &'a R,
-        alloc: Global,
-        names: &'a LogNames,
-        image: R::File,
-    ) -> io::Result<ImageFolder<'a, R>>
+    pub fn new(rt: &'a R, names: &'a LogNames, image: R::File) -> io::Result<ImageFolder<'a, R>>
         requires { MayKeepLogOf R.rights rt.now (string_bytes names.now.image) }
     {
         if regular(OpenFile::metadata(&image))?.nlink() > 1 {
@@ -80,7 +67,6 @@ where
         }
         Ok(ImageFolder {
             rt,
-            alloc,
             names,
             image,
             log: None,
@@ -124,6 +110,8 @@ impl<'a, R: HostFiles> LogFolder<SystemLog<'a, R>> for ImageFolder<'a, R>
 where
     R::File: EndedFile + OpenFile,
 {
+    type Reader = OpenLog<R::File>;
+
     ghost history = { unknown_folder };
 
     ghost IsAway = { λ _ file. IsMissing R.stands file.rt.now file.name.now };
@@ -140,14 +128,18 @@ where
         self.image.sync_whole()
     }
 
-    fn read_log(&mut self) -> io::Result<Option<Vec<u8>>> {
+    fn read_log(&mut self) -> io::Result<Option<OpenLog<R::File>>> {
         match log_to_read(self.rt, self.names)? {
-            Some(mut file) => {
+            Some(file) => {
                 self.know(identity_of(&file)?)?;
-                Ok(Some(log_bytes(self.alloc, &mut file)?))
+                Ok(Some(OpenLog { file }))
             }
             None => Ok(None),
         }
+    }
+
+    fn leave_log(&mut self, log: OpenLog<R::File>) {
+        drop(log);
     }
 
     fn open_log(&mut self) -> io::Result<SystemLog<'a, R>> {

@@ -1,13 +1,15 @@
 //! Whether a log is that of an image.
-ghost use Rattle.std.specs.Prelude.{◌≡◌, ◌↔◌, ◌<◌, ◌⊎◌, ℕ, IsTrue, OnErr, OnOk, length, slice_index};
+ghost use Rattle.std.specs.Prelude.{◌≡◌, ◌↔◌, ◌<◌, ◌⊎◌, ℕ, IfErr, IsTrue, List, OnErr, OnOk, Some, length, slice_index, true};
 ghost use Rattle.d64_image.specs.Images.{Image};
-ghost use Rattle.shop_log.specs.Recovered.{EndsTorn, base_end, base_of, commits_end, recovered};
+ghost use Rattle.shop_log.specs.Readers.{IsReadAs};
+ghost use Rattle.shop_log.specs.Recovered.{is_marked};
+ghost use Rattle.shop_log.specs.life.Faults.{IsMisfit};
 ghost use Rattle.shop_log.specs.life.Mixes.{IsMixOf};
 ghost use Rattle.shop_log.specs.life.Shops.{LogGives};
 
-use crate::log::LOG_BYTES;
-use crate::replaying::{count_committed, count_first, count_whole, is_marked, replay};
-use crate::torn_ends::ends_torn;
+use crate::life::landing::LogFault;
+use crate::log_reader::LogReader;
+use crate::replaying::read_images;
 use d64_image::SECTORS;
 use thiserror::Error;
 
@@ -61,57 +63,50 @@ fn is_mix_of(image: &[[u8; 256]], base: &[[u8; 256]], shop: &[[u8; 256]]) -> boo
     true
 }
 
-/// The image that a log began with, and the one that its whole commits stand for. An error, and no disk's images, if it
-/// has no whole base, or is damaged before its end.
-pub(crate) fn read_both(
-    log: &[u8],
-    base: &mut [[u8; 256]],
-    shop: &mut [[u8; 256]],
+/// An error if a log gives no image beside this one, which neither is its base, nor a mix of that and the image that the
+/// log stands for, if it is marked.
+pub(crate) fn see_own(
+    marked: bool,
+    image: &[[u8; 256]],
+    base: &[[u8; 256]],
+    shop: &[[u8; 256]],
 ) -> Result<(), Misfit>
-    requires base { length base.old ≡ 683 }
-    requires shop { length shop.old ≡ 683 }
-    ensures base { length base.new ≡ 683 }
-    ensures shop { length shop.new ≡ 683 }
-    ensures ok { OnOk result ((length log.now ≡ 4198400) × (0 < base_end log.now) × (base.new ≡ base_of log.now)
-        × (shop.new ≡ recovered log.now) × EndsTorn log.now (commits_end log.now)) }
-    ensures err { OnErr result (length log.now ≡ 4198400 → 0 < base_end log.now → EndsTorn log.now (commits_end log.now) → ⊥) }
+    requires image { length image.now ≡ 683 }
+    requires base { length base.now ≡ 683 }
+    requires shop { length shop.now ≡ 683 }
+    ensures ok { OnOk result ((f : List ℕ) → marked ≡ is_marked f → IsReadAs f base.now shop.now
+        → LogGives f image.now shop.now) }
+    ensures err { OnErr result ((f : List ℕ) → marked ≡ is_marked f → IsReadAs f base.now shop.now
+        → (given : Image) → LogGives f image.now given → ⊥) }
 {
-    if log.len() != LOG_BYTES {
-        return Err(Misfit::NoBase);
+    if is_same(image, base) || (marked && is_mix_of(image, base, shop)) {
+        return Ok(());
     }
-    let whole = count_whole(log);
-    let first = count_first(log, whole);
-    if first == 0 {
-        return Err(Misfit::NoBase);
-    }
-    let end = count_committed(log, whole);
-    if !ends_torn(log, end) {
-        return Err(Misfit::Damaged);
-    }
-    replay(log, first, base);
-    replay(log, end, shop);
-    Ok(())
+    Err(Misfit::Foreign)
 }
 
 /// The image that a log gives which stands beside this IMAGE: that of its whole commits. A log with no whole base gives
-/// none, and so does one that is damaged before its end, and a log of another image. `base` is room for the log's base. At an error neither is a disk's image.
-pub fn judge(
-    log: &[u8],
+/// none, and so does one that is damaged before its end, and a log of another image. `base` is room for the log's base. At
+/// an error neither is a disk's image.
+pub fn judge<L: LogReader>(
+    log: &mut L,
     image: &[[u8; 256]],
     base: &mut [[u8; 256]],
     shop: &mut [[u8; 256]],
-) -> Result<(), Misfit>
+) -> Result<(), LogFault>
     requires image { length image.now ≡ 683 }
     requires base { length base.old ≡ 683 }
     requires shop { length shop.old ≡ 683 }
     ensures base { length base.new ≡ 683 }
     ensures shop { length shop.new ≡ 683 }
-    ensures ok { OnOk result (LogGives log.now image.now shop.new) }
-    ensures err { OnErr result ((given : Image) → LogGives log.now image.now given → ⊥) }
+    ensures ok { OnOk result ((f : List ℕ) → L.bytes log.old ≡ Some f → LogGives f image.now shop.new) }
+    ensures refused { IfErr result (λ e. IsMisfit e → (f : List ℕ) → L.bytes log.old ≡ Some f
+        → (given : Image) → LogGives f image.now given → ⊥) }
+    // an error is returned only if it gives none, or after a failure of the log
+    ensures cause { IfErr result (λ e. IsMisfit e ⊎ (L.has_failed log.new ≡ true)) }
 {
-    read_both(log, base, shop)?;
-    if is_same(image, base) || (is_marked(log) && is_mix_of(image, base, shop)) {
-        return Ok(());
-    }
-    Err(Misfit::Foreign)
+    let marked = log.is_marked()?;
+    read_images(log, base, shop)?;
+    see_own(marked, image, base, shop)?;
+    Ok(())
 }

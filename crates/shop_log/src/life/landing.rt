@@ -1,6 +1,7 @@
 //! A log whose image is copied into IMAGE, and which is then removed.
-ghost use Rattle.std.specs.Prelude.{◌≡◌, ◌⊎◌, IfErr, IfOk, List, OnErr, OnOk, Some, ℕ, length, option_map, true};
+ghost use Rattle.std.specs.Prelude.{◌≡◌, ◌⊎◌, IfErr, IfOk, List, OnErr, OnOk, Some, ℕ, length, true};
 ghost use Rattle.d64_image.specs.Images.{Image};
+ghost use Rattle.shop_log.specs.Readers.{IsOpened};
 ghost use Rattle.shop_log.specs.life.Bringing.{IsFound, IsSettledAs, RestsAlone};
 ghost use Rattle.shop_log.specs.life.Faults.{IsMisfit};
 ghost use Rattle.shop_log.specs.declared.life.landing.LogFault.TheVariants.{File, Unfit};
@@ -55,18 +56,18 @@ fn settle<F: LogFile, D: LogFolder<F>>(folder: &mut D) -> io::Result<()>
     folder.sync_folder()
 }
 
-/// Settles the folder, and reads IMAGE and the log, if there is one.
+/// Settles the folder, reads IMAGE, and opens the log to be read, if there is one.
 fn find<F: LogFile, D: LogFolder<F>>(
     folder: &mut D,
     now: &mut [[u8; 256]],
-) -> io::Result<Option<Vec<u8>>>
+) -> io::Result<Option<D::Reader>>
     requires sized { length now.old ≡ 683 }
     ensures sized { length now.new ≡ 683 }
     ensures any_moment { (shops : List Image) → AllLeft D.history folder.old (GivesOneOf shops)
         → LeavesFolders D.history folder.old folder.new (GivesOneOf shops) }
     ensures outcomes { (s : Folder) → D.history.may_leave folder.new s → D.history.may_leave folder.old s }
     ensures read { IfOk result (λ log. (s : Folder) → D.history.held folder.old ≡ Some s
-        → (D.history.held folder.new ≡ Some s) × (now.new ≡ s.image) × (option_map (λ bytes. bytes.items) log ≡ s.log)) }
+        → (D.history.held folder.new ≡ Some s) × (now.new ≡ s.image) × IsOpened D.Reader.bytes log s.log) }
     ensures settled { OnOk result ((s : Folder) → D.history.held folder.old ≡ Some s → AllLeft D.history folder.new (IsSettledAs s)) }
     ensures cause { OnErr result (D.history.has_failed folder.new ≡ true) }
 {
@@ -100,7 +101,7 @@ fn land_found<F: LogFile, D: LogFolder<F>>(
 /// Checks the log that was found, and lands it if it gives an image.
 fn land_log<F: LogFile, D: LogFolder<F>>(
     folder: &mut D,
-    log: &[u8],
+    mut log: D::Reader,
     now: &[[u8; 256]],
     base: &mut [[u8; 256]],
     shop: &mut [[u8; 256]],
@@ -110,15 +111,19 @@ fn land_log<F: LogFile, D: LogFolder<F>>(
     requires shop { length shop.old ≡ 683 }
     ensures base { length base.new ≡ 683 }
     ensures sized { length shop.new ≡ 683 }
-    ensures any_moment { (shops : List Image) (s : Folder) → IsFound D.history folder.old shops s → s.log ≡ Some log.now
-        → now.now ≡ s.image → LeavesFolders D.history folder.old folder.new (GivesOneOf shops) }
-    ensures ok { OnOk result ((shops : List Image) (s : Folder) → IsFound D.history folder.old shops s
-        → s.log ≡ Some log.now → now.now ≡ s.image → RestsAlone D.history folder.new shop.new × Gives s shop.new) }
-    ensures refused { IfErr result (λ e. IsMisfit e → (folder.new ≡ folder.old)
-        × ((given : Image) → LogGives log.now now.now given → ⊥)) }
+    ensures any_moment { (shops : List Image) (s : Folder) (f : List ℕ) → IsFound D.history folder.old shops s
+        → D.Reader.bytes log ≡ Some f → s.log ≡ Some f → now.now ≡ s.image
+        → LeavesFolders D.history folder.old folder.new (GivesOneOf shops) }
+    ensures ok { OnOk result ((shops : List Image) (s : Folder) (f : List ℕ) → IsFound D.history folder.old shops s
+        → D.Reader.bytes log ≡ Some f → s.log ≡ Some f → now.now ≡ s.image
+        → RestsAlone D.history folder.new shop.new × Gives s shop.new) }
+    ensures refused { IfErr result (λ e. IsMisfit e → (D.history.held folder.new ≡ D.history.held folder.old)
+        × ((f : List ℕ) → D.Reader.bytes log ≡ Some f → (given : Image) → LogGives f now.now given → ⊥)) }
     ensures cause { IfErr result (λ e. IsMisfit e ⊎ (D.history.has_failed folder.new ≡ true)) }
 {
-    judge(log, now, base, shop)?;
+    let judged = judge(&mut log, now, base, shop);
+    folder.leave_log(log);
+    judged?;
     land_found(folder, now, shop)?;
     Ok(())
 }
@@ -150,7 +155,7 @@ pub fn land<F: LogFile, D: LogFolder<F>>(
     ensures cause { IfErr result (λ e. IsMisfit e ⊎ (D.history.has_failed folder.new ≡ true)) }
 {
     match find(folder, now)? {
-        Some(log) => land_log(folder, log.as_slice(), now, base, shop),
+        Some(log) => land_log(folder, log, now, base, shop),
         None => {
             shop.copy_from_slice(now);
             Ok(())

@@ -1,15 +1,20 @@
 //! The folder in which an image stands, as its log's life sees it.
-ghost use Rattle.std.specs.Prelude.{◌≡◌, ◌<◌, [], IfOk, IsErr, List, None, OnErr, OnOk, Some, length, option_map, true, ℕ};
+ghost use Rattle.std.specs.Prelude.{◌≡◌, ◌<◌, [], IfOk, IsErr, List, None, OnErr, OnOk, Some, length, true, ℕ};
 ghost use Rattle.shop_log.specs.life.Folders.{Acts, Brings, Folder, FolderHistory, HasImage, HasNames, IsGivenUp, IsImageWritten, IsMaking, IsNaming, IsRemoving, IsReturned, LogOf, Same, being_made, named, unlogged, with_sector};
 ghost use Rattle.shop_log.specs.Files.{Only};
+ghost use Rattle.shop_log.specs.Readers.{IsOpened};
 
 use crate::log_file::LogFile;
+use crate::log_reader::LogReader;
 use std::io;
 
 /// The folder of an image. It has IMAGE, its log `IMAGE-log`, and `IMAGE-log.new`, a log in the making. Its history names
 /// what it holds and what a power loss may leave of it, if that is known; of a real folder it isn't. While a file of it
 /// is open, the folder speaks of the log as it was when the file was opened or got its name.
 pub trait LogFolder<F: LogFile> {
+    /// The log, open to be read.
+    type Reader: LogReader;
+
     /// What a folder of this type holds, and what a power loss may leave of it.
     ghost history: { FolderHistory Self };
 
@@ -33,13 +38,17 @@ pub trait LogFolder<F: LogFile> {
     fn sync_image(&mut self) -> io::Result<()>
         ensures { Brings history self.old self.new HasImage result };
 
-    /// Reads the whole log; None if there is none.
-    fn read_log(&mut self) -> io::Result<Option<Vec<u8>>>
+    /// Opens the log to be read; None if there is none.
+    fn read_log(&mut self) -> io::Result<Option<Self::Reader>>
         ensures log { IfOk result (λ log. (s : Folder) → history.held self.old ≡ Some s
-            → option_map (λ bytes. bytes.items) log ≡ s.log) }
+            → IsOpened Self.Reader.bytes log s.log) }
         ensures acts { Acts history self.old self.new (λ s. s) Same result };
 
-    /// Opens the log.
+    /// Closes the log that was read.
+    fn leave_log(&mut self, log: Self::Reader)
+        ensures { IsGivenUp history self.old self.new (Self.Reader.has_failed log) };
+
+    /// Opens the log to be changed.
     fn open_log(&mut self) -> io::Result<F>
         ensures file { IfOk result (LogOf history F.history self.old) }
         ensures lent { IfOk result (λ file. F.history.moment file ≡ history.lent self.new) }
@@ -59,7 +68,7 @@ pub trait LogFolder<F: LogFile> {
 
     /// Closes a log in the making whose making failed. What has its name stays.
     fn leave_making(&mut self, file: F)
-        ensures { IsGivenUp history F.history self.old self.new file };
+        ensures { IsGivenUp history self.old self.new (F.history.has_failed file) };
 
     /// Gives the name of the log to `IMAGE-log.new`, whose file this is, in place of one that may have it. The file must
     /// be synced: of another one nothing is said.

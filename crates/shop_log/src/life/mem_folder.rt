@@ -180,6 +180,8 @@ impl MemFolder {
 impl LogFolder<MemLog> for MemFolder {
     ghost use Rattle.shop_log.specs.life.MemFolders.{folder_in_memory};
 
+    type Reader = Vec<u8>;
+
     ghost history = { folder_in_memory };
 
     fn read_image(&mut self, image: &mut [[u8; 256]]) -> io::Result<()> {
@@ -222,6 +224,10 @@ impl LogFolder<MemLog> for MemFolder {
         let copy = copy_of(self.alloc, log.as_slice())?;
         self.failed = false;
         Ok(Some(copy))
+    }
+
+    fn leave_log(&mut self, log: Vec<u8>) {
+        drop(log);
     }
 
     fn open_log(&mut self) -> io::Result<MemLog> {

@@ -1,5 +1,5 @@
 //! Functions that take the memory for their images.
-ghost use Rattle.std.specs.Prelude.{◌≡◌, IfErr, IfOk, IfSome, IsNone, List, None, Some, length, true};
+ghost use Rattle.std.specs.Prelude.{◌≡◌, IfErr, IfOk, IfSome, IsNone, List, None, Some, length, true, ℕ};
 ghost use Rattle.d64_image.specs.Images.{Image};
 ghost use Rattle.shop_log.specs.life.Bringing.{RestsAlone};
 ghost use Rattle.shop_log.specs.life.Faults.{IsMisfit};
@@ -53,17 +53,17 @@ pub fn land_in<F: LogFile, D: LogFolder<F>>(
     }
 }
 
-/// Looks at an image through its log, which was read. Returns the image that the log gives.
-fn view_read<V: ViewsImage>(
+/// Looks at an image through its log, which was opened. Returns the image that the log gives.
+fn view_opened<V: ViewsImage>(
     alloc: Global,
     folder: &mut V,
-    log: &[u8],
+    log: &mut V::Log,
 ) -> Result<Vec<[u8; 256]>, LogFault>
     ensures sized { IfOk result (λ shop. length shop.items ≡ 683) }
-    ensures ok { IfOk result (λ shop. (s t : Seen) → V.seen folder.old ≡ Some t → Goes s t → s.log ≡ Some log.now
-        → s.named ≡ true → IsLogViewed V.seen s folder.new shop.items) }
-    ensures refused { IfErr result (λ e. IsMisfit e → (s t : Seen) → V.seen folder.old ≡ Some t → Goes s t
-        → s.log ≡ Some log.now → s.named ≡ true → (given : Image) → SeenGives s given → ⊥) }
+    ensures ok { IfOk result (λ shop. (s t : Seen) (f : List ℕ) → V.seen folder.old ≡ Some t → Goes s t
+        → V.Log.bytes log.old ≡ Some f → s.log ≡ Some f → s.named ≡ true → IsLogViewed V.seen s folder.new shop.items) }
+    ensures refused { IfErr result (λ e. IsMisfit e → (s t : Seen) (f : List ℕ) → V.seen folder.old ≡ Some t → Goes s t
+        → V.Log.bytes log.old ≡ Some f → s.log ≡ Some f → s.named ≡ true → (given : Image) → SeenGives s given → ⊥) }
 {
     let mut now = image_room(alloc)?;
     let mut base = image_room(alloc)?;
@@ -75,7 +75,7 @@ fn view_read<V: ViewsImage>(
         base.as_mut_slice(),
         shop.as_mut_slice(),
     ) {
-        Ok(_) => Ok(shop),
+        Ok(()) => Ok(shop),
         Err(fault) => Err(fault),
     }
 }
@@ -95,9 +95,9 @@ pub fn view_in<V: ViewsImage>(
         → (given : Image) → SeenGives s given → ⊥) }
     ensures without { V.HasNoLog folder.old → IfOk result IsNone }
 {
-    let log = folder.read_log()?;
+    let log = folder.open_log()?;
     match log {
-        Some(bytes) => match view_read(alloc, folder, bytes.as_slice()) {
+        Some(mut log) => match view_opened(alloc, folder, &mut log) {
             Ok(shop) => Ok(Some(shop)),
             Err(fault) => Err(fault),
         },

@@ -3,7 +3,6 @@ use crate::comparing::{same, same_at};
 use crate::logged::logs::{
     began_with, begun, change, commit, head, numbered, stands_for, sum, two_touched, without,
 };
-use shop_log::is_marked;
 
 /// Sums of the image that the log began with, and of the one after the commit.
 static BEFORE: [u8; 4] = [0xe2, 0x02, 0xe0, 0x01];
@@ -93,10 +92,9 @@ fn a_torn_commit_does_not_count(rt: HostRuntime) {
 fn a_mark_closes_the_log(rt: HostRuntime) {
     let image = numbered(&rt);
     let mut log = begun(&rt, image.as_slice()).expect(&rt, "a log");
-    same(&rt, is_marked(log.file().bytes()), false);
+    same(&rt, log.file().bytes().get(4_194_304).copied(), Some(0));
     same(&rt, log.mark().is_ok(), true);
     let bytes = log.file().bytes();
-    same(&rt, is_marked(bytes), true);
     same(&rt, bytes.get(4_194_304).copied(), Some(1));
     same(&rt, stands_for(&rt, bytes), (true, BEFORE));
     same(&rt, commit(&mut log, image.as_slice(), &[true; 683]), false);

@@ -1,6 +1,6 @@
 //! The images and logs of the rows. A step that can't be had ends as a value that no row wants.
 use sha2::{Digest, Sha256};
-use shop_log::{Log, MemLog, read_base, recover};
+use shop_log::{Log, MemLog, read_images, salvage};
 use std::process::Abort;
 
 /// An image of zeros.
@@ -86,15 +86,18 @@ pub(crate) fn head(bytes: &[u8], from: usize) -> [u8; 20] {
 /// Whether a log has a base, and the sum of the image that it stands for.
 pub(crate) fn stands_for(rt: &(impl Abort + AllocGlobal), file: &[u8]) -> (bool, [u8; 4]) {
     let mut image = blank(rt);
-    let based = image.len() == 683 && recover(file, image.as_mut_slice());
+    let mut log = Vec::from_slice(rt.alloc(), file).expect(rt, "there is memory");
+    let based = image.len() == 683 && salvage(&mut log, image.as_mut_slice()).is_ok();
     (based, sum(image.as_slice().as_flattened(), 0, 174_848))
 }
 
-/// Whether the file has a base, and the sum of the image that it began with.
+/// Whether a log is whole, and the sum of the image that it began with.
 pub(crate) fn began_with(rt: &(impl Abort + AllocGlobal), file: &[u8]) -> (bool, [u8; 4]) {
-    let mut image = blank(rt);
-    let based = image.len() == 683 && read_base(file, image.as_mut_slice());
-    (based, sum(image.as_slice().as_flattened(), 0, 174_848))
+    let (mut base, mut image) = (blank(rt), blank(rt));
+    let mut log = Vec::from_slice(rt.alloc(), file).expect(rt, "there is memory");
+    let sized = base.len() == 683 && image.len() == 683;
+    let based = sized && read_images(&mut log, base.as_mut_slice(), image.as_mut_slice()).is_ok();
+    (based, sum(base.as_slice().as_flattened(), 0, 174_848))
 }
 
 /// The bytes with a 0 at this place.

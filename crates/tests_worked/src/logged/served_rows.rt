@@ -6,7 +6,7 @@ use crate::logged::talks::{Heard, Talk};
 use d64_image::MemDisk;
 use host_session::{Printer, Session};
 use line_server::{Room, serve_batches};
-use shop_log::{Log, MemLog, recover};
+use shop_log::{Log, MemLog, salvage};
 use std::cell::Cell;
 use std::process::Abort;
 
@@ -29,7 +29,10 @@ fn log_of(rt: &(impl Abort + AllocGlobal), disk: &MemDisk) -> Log<MemLog> {
 /// The disk that a log's bytes stand for.
 fn disk_in(rt: &(impl Abort + AllocGlobal), bytes: &[u8]) -> MemDisk {
     let mut image = vec![in rt.alloc(); [0; 256]; 683].expect(rt, "there is memory");
-    let _ = recover(bytes, image.as_mut_slice());
+    let mut log = Vec::from_slice(rt.alloc(), bytes).expect(rt, "there is memory");
+    if image.len() == 683 {
+        let _ = salvage(&mut log, image.as_mut_slice());
+    }
     MemDisk::load(rt.alloc(), image.as_slice().as_flattened()).expect(rt, "an image")
 }
 

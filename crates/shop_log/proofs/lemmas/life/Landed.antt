@@ -1,24 +1,15 @@
 -- A folder that is settled and read, and a log that is landed.
-use Rattle.std.proofs.Common.{◌≡◌, ◌∙◌, ℕ, Global, List, Vec, ap, refl, subst, sym}
-use Rattle.std.specs.Prelude.{Contains, Err, IfErr, IfOk, None, Ok, OnOk, Option, Result, Some, option_map}
+use Rattle.std.proofs.Common.{◌≡◌, ◌∙◌, ℕ, Bool, List, refl, subst, sym}
+use Rattle.std.specs.Prelude.{Contains, Err, IfErr, IfOk, None, Ok, OnOk, Option, Result, Some}
 use Rattle.d64_image.specs.Images.{Image}
 use Rattle.shop_log.specs.Recovered.{base_of}
 use Rattle.shop_log.specs.life.Bringing.{IsBrought, IsFound, IsLanding, IsMarkedIn, IsSettledAs, RestsAlone, marked_log}
-use Rattle.shop_log.specs.life.Folders.{Acts, AllLeft, Brings, Folder, FolderHistory, HasImage, HasNames, LeavesFolders, Same, with_image, with_log}
+use Rattle.shop_log.specs.life.Folders.{Acts, AllLeft, Brings, Folder, FolderHistory, HasImage, HasNames, IsGivenUp, LeavesFolders, Same, with_image, with_log}
 use Rattle.shop_log.specs.life.Mixes.{IsMixOf}
 use Rattle.shop_log.specs.life.Shops.{Gives, GivesOneOf, LogGives, given_by}
 use Rattle.shop_log.proofs.lemmas.life.Mixed.{mix_gives}
 use Rattle.shop_log.proofs.lemmas.life.Marks.{gives_log, marked_gives}
-use Rattle.shop_log.proofs.lemmas.life.Steps.{joined, weaker}
-
--- what was read of the log
-pub log_of : (o : Option (Vec ℕ Global)) (v : Vec ℕ Global) (l : Option (List ℕ)) → o ≡ Some v
-    → option_map (λ (b : Vec ℕ Global). b.items) o ≡ l → Some v.items ≡ l
-log_of o v l is same = sym (ap (option_map (λ (b : Vec ℕ Global). b.items)) is) ∙ same
-
-pub none_of : (o : Option (Vec ℕ Global)) (l : Option (List ℕ)) → o ≡ None
-    → option_map (λ (b : Vec ℕ Global). b.items) o ≡ l → None ≡ l
-none_of o l is same = sym (ap (option_map (λ (b : Vec ℕ Global). b.items)) is) ∙ same
+use Rattle.shop_log.proofs.lemmas.life.Steps.{goes_on, joined, started, weaker}
 
 module _ {D : Type 0} (h : FolderHistory D) where
   pub settled : {E : Type 0} (old mid new : D) → h.held mid ≡ h.held old
@@ -120,11 +111,26 @@ module _ {D : Type 0} (h : FolderHistory D) where
       stays ok new alone
   land_ok old a b new now shop marking marked moments stays ok (Err e) alone = tt
 
+  -- a log that was read is closed
+  module _ (old mid : D) (has_failed : Bool) (up : IsGivenUp h old mid has_failed) (shops : List Image) (s : Folder)
+      (there : IsFound h old shops s) where
+    pub left_found : IsFound h mid shops s
+    left_found = record {
+      held = up.held ∙ there.held;
+      gives = there.gives;
+      left = λ o may. there.left o (up.outcomes o may);
+      settled = λ o may. there.settled o (up.outcomes o may);
+    }
+
+    pub left_moments : LeavesFolders h old mid (GivesOneOf shops)
+    left_moments = goes_on h old old mid (GivesOneOf shops) (started h old (GivesOneOf shops) there.left) up.time left_found.left
+
   -- the folder was read, and it has a log
-  module _ (old mid : D) (now : Image) (items bytes : List ℕ) (value : bytes ≡ items)
+  module _ (old mid : D) (now : Image) (known : Option (List ℕ))
       (finding : (shops : List Image) → AllLeft h old (GivesOneOf shops) → LeavesFolders h old mid (GivesOneOf shops))
       (outcomes : (s : Folder) → h.may_leave mid s → h.may_leave old s)
-      (read : (s : Folder) → h.held old ≡ Some s → (h.held mid ≡ Some s) × (now ≡ s.image) × (Some items ≡ s.log))
+      (read : (s : Folder) → h.held old ≡ Some s → (h.held mid ≡ Some s) × (now ≡ s.image))
+      (opened : (s : Folder) → h.held old ≡ Some s → (f : List ℕ) × (s.log ≡ Some f) × (known ≡ Some f))
       (settles : (s : Folder) → h.held old ≡ Some s → AllLeft h mid (IsSettledAs s)) where
     there_is : (shops : List Image) (s : Folder) → h.held old ≡ Some s → GivesOneOf shops s → AllLeft h old (GivesOneOf shops)
         → IsFound h mid shops s
@@ -135,40 +141,41 @@ module _ {D : Type 0} (h : FolderHistory D) where
       settled = settles s held;
     }
 
-    has_log : (s : Folder) → h.held old ≡ Some s → s.log ≡ Some bytes
-    has_log s held = sym (read s held).2 ∙ ap Some (sym value)
-
     pub some_moments : (new : D)
-        → ((shops : List Image) (s : Folder) → IsFound h mid shops s → s.log ≡ Some bytes → now ≡ s.image
-        → LeavesFolders h mid new (GivesOneOf shops))
+        → ((shops : List Image) (s : Folder) (f : List ℕ) → IsFound h mid shops s → known ≡ Some f → s.log ≡ Some f
+        → now ≡ s.image → LeavesFolders h mid new (GivesOneOf shops))
         → (shops : List Image) (s : Folder) → h.held old ≡ Some s → GivesOneOf shops s → AllLeft h old (GivesOneOf shops)
         → LeavesFolders h old new (GivesOneOf shops)
-    some_moments new landing shops s held gives all = joined h old mid new (GivesOneOf shops) (finding shops all)
-        (landing shops s (there_is shops s held gives all) (has_log s held) (read s held).1)
+    some_moments new landing shops s held gives all =
+        let log = opened s held in
+        joined h old mid new (GivesOneOf shops) (finding shops all)
+        (landing shops s log.0 (there_is shops s held gives all) log.2 log.1 (read s held).1)
 
     pub some_ok : {T E : Type 0} (new : D) (shop : Image) (r : Result T E)
-        → OnOk r ((shops : List Image) (s : Folder) → IsFound h mid shops s → s.log ≡ Some bytes → now ≡ s.image
-        → RestsAlone h new shop × Gives s shop)
+        → OnOk r ((shops : List Image) (s : Folder) (f : List ℕ) → IsFound h mid shops s → known ≡ Some f → s.log ≡ Some f
+        → now ≡ s.image → RestsAlone h new shop × Gives s shop)
         → OnOk r ((shops : List Image) (s : Folder) → h.held old ≡ Some s → GivesOneOf shops s
         → AllLeft h old (GivesOneOf shops) → RestsAlone h new shop × Gives s shop)
     some_ok new shop (Ok x) landed = λ shops s held gives all.
-        landed shops s (there_is shops s held gives all) (has_log s held) (read s held).1
+        let log = opened s held in landed shops s log.0 (there_is shops s held gives all) log.2 log.1 (read s held).1
     some_ok new shop (Err e) landed = tt
 
     pub some_refused : {T E : Type 0} (IsMisfit : E → Type 0) (new : D) (r : Result T E)
-        → IfErr r (λ e. IsMisfit e → (new ≡ mid) × ((given : Image) → LogGives bytes now given → ⊥))
+        → IfErr r (λ e. IsMisfit e → (h.held new ≡ h.held mid)
+        × ((f : List ℕ) → known ≡ Some f → (given : Image) → LogGives f now given → ⊥))
         → IfErr r (λ e. IsMisfit e → (s : Folder) → h.held old ≡ Some s
         → (h.held new ≡ Some s) × ((given : Image) → Gives s given → ⊥))
     some_refused IsMisfit new (Ok x) refused = tt
-    some_refused IsMisfit new (Err e) refused = λ misfit s held. (
-      ap h.held (refused misfit).0 ∙ (read s held).0,
-      λ given gives. (refused misfit).1 given
-          (subst (λ (i : Image). LogGives bytes i given) (sym (read s held).1) (gives_log s bytes given (has_log s held) gives)),
-    )
+    some_refused IsMisfit new (Err e) refused = λ misfit s held.
+        let log = opened s held in (
+          (refused misfit).0 ∙ (read s held).0,
+          λ given gives. (refused misfit).1 log.0 log.2 given
+              (subst (λ (i : Image). LogGives log.0 i given) (sym (read s held).1) (gives_log s log.0 given log.1 gives)),
+        )
 
   -- or it has none
   pub none_ok : (old mid : D) (now shop : Image) → shop ≡ now
-      → ((s : Folder) → h.held old ≡ Some s → (h.held mid ≡ Some s) × (now ≡ s.image) × (None ≡ s.log))
+      → ((s : Folder) → h.held old ≡ Some s → (h.held mid ≡ Some s) × (now ≡ s.image) × (s.log ≡ None))
       → ((s : Folder) → h.held old ≡ Some s → AllLeft h mid (IsSettledAs s))
       → (s : Folder) → h.held old ≡ Some s → RestsAlone h mid shop × Gives s shop
   none_ok old mid now shop same read settles s held =
@@ -176,10 +183,10 @@ module _ {D : Type 0} (h : FolderHistory D) where
         record {
           some = s;
           held = (read s held).0;
-          is = (is, sym (read s held).2);
-          left = λ o may. let as_read = settles s held o may in (as_read.0 ∙ is, as_read.1.none (sym (read s held).2));
+          is = (is, (read s held).2);
+          left = λ o may. let as_read = settles s held o may in (as_read.0 ∙ is, as_read.1.none (read s held).2);
         },
-        subst (λ (l : Option (List ℕ)). given_by l s.image shop) (read s held).2 is,
+        subst (λ (l : Option (List ℕ)). given_by l s.image shop) (sym (read s held).2) is,
       )
 
   -- the log was judged, and lands

@@ -1,10 +1,10 @@
 -- A log that is read, and then the image and the log's mark, while a writer may go on.
-use Rattle.std.proofs.Common.{◌≡◌, ◌<◌, ◌∙◌, ℕ, Bool, List, Option, Some, ap, false, inr, length, refl, subst, sym, true, ⊎_elim}
+use Rattle.std.proofs.Common.{◌≡◌, ◌∙◌, ℕ, Bool, List, Option, Some, ap, false, inr, refl, subst, sym, true, ⊎_elim}
 use Rattle.std.proofs.lemmas.Bool.{false≢true}
 use Rattle.std.proofs.lemmas.Option.{same_Some}
 use Rattle.std.specs.Prelude.{Err, IfErr, Ok, Result}
 use Rattle.d64_image.specs.Images.{Image}
-use Rattle.shop_log.specs.Recovered.{EndsTorn, base_end, base_of, commits_end, is_marked, recovered}
+use Rattle.shop_log.specs.Recovered.{base_of, is_marked, recovered}
 use Rattle.shop_log.specs.life.Mixes.{IsMixOf}
 use Rattle.shop_log.specs.life.Shops.{LogGives, given_by}
 use Rattle.shop_log.specs.life.Views.{Goes, GoesTo, HasLanded, HasMark, IsLogViewed, Lands, Seen, SeenGives}
@@ -13,6 +13,9 @@ use Rattle.shop_log.proofs.lemmas.life.Mixed.{mix_back, mix_gives, mix_more}
 pub if_err : {T E : Type 0} (Q : E → Type 0) (P : Type 0) (r : Result T E) → P → IfErr r (λ e. Q e → P)
 if_err Q P (Ok x) p = tt
 if_err Q P (Err e) p = λ q. p
+
+pub if_err_of : {T E : Type 0} (P : E → Type 0) (r : Result T E) (e : E) → r ≡ Err e → P e → IfErr r P
+if_err_of P r e is p = subst (λ x. IfErr x P) (sym is) p
 
 module _ (s t u : Seen) (l : Bool) (f : List ℕ) (log : s.log ≡ Some f) (name : s.named ≡ true) (one : Goes s t)
     (two : Goes t u) (looked : HasLanded u (is_marked f) l) where
@@ -138,10 +141,6 @@ module _ {V : Type 0} (seen : V → Option Seen) (v0 v1 v2 : V) (m l : Bool) (f 
           still = λ same. was_given s t u.0 l f log name one u.2 look not w.0 w.2 (same_Some w.0 s (sym w.1 ∙ same)) shop
               (subst (λ (i : Image). LogGives f i shop) (image t at) gives);
         }
-
-  -- it was only read
-  pub none_read : (length f ≡ 4198400 → 0 < base_end f → EndsTorn f (commits_end f) → ⊥) → (given : Image) → SeenGives s given → ⊥
-  none_read never given gives = let is = is_given given gives in never is.size is.based is.ends
 
   pub landed_viewed : l ≡ true → (shop : Image) → shop ≡ recovered f → IsLogViewed seen s v2 shop
   landed_viewed landed shop is =

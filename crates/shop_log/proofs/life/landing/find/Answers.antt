@@ -1,5 +1,5 @@
 -- The folder is settled, and read.
-use Rattle.std.specs.Prelude.{◌≡◌, option_map}
+use Rattle.shop_log.specs.Readers.{IsOpened}
 use Rattle.shop_log.proofs.lemmas.life.Landed.{found_read, found_settled}
 use Rattle.shop_log.proofs.life.landing.find.Goals as goal
 
@@ -7,10 +7,10 @@ pub returns-clause-read : goal.returns-clause-read
 returns-clause-read g c = found_read g.D.LogFolder.history c.args.folder.now c.settle.new.folder c.read_image.new.self
     c.read_log.new.self c.read_image.new.image c.settle.ensures.held c.settle.ensures.outcomes c.in_ok-settle.ensures.ok
     c.read_image.result c.read_image.ensures.acts c.in_ok-read_image.ensures.image c.in_ok-read_image.ensures.acts.ok
-    (λ log s. option_map (λ bytes. bytes.items) log ≡ s.log) c.read_log.result c.read_log.ensures.log c.read_log.ensures.acts
+    (λ log s. IsOpened g.D.Reader.LogReader.bytes log s.log) c.read_log.result c.read_log.ensures.log c.read_log.ensures.acts
 
 pub returns-clause-settled : goal.returns-clause-settled
 returns-clause-settled g c = found_settled g.D.LogFolder.history c.args.folder.now c.settle.new.folder c.read_image.new.self
     c.read_log.new.self c.read_image.new.image c.settle.ensures.held c.settle.ensures.outcomes c.in_ok-settle.ensures.ok
     c.read_image.result c.read_image.ensures.acts c.in_ok-read_image.ensures.image c.in_ok-read_image.ensures.acts.ok
-    (λ log s. option_map (λ bytes. bytes.items) log ≡ s.log) c.read_log.result c.read_log.ensures.acts
+    (λ log s. IsOpened g.D.Reader.LogReader.bytes log s.log) c.read_log.result c.read_log.ensures.acts

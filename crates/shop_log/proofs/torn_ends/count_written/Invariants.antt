@@ -1,9 +1,0 @@
-use Rattle.std.proofs.Common.{◌≡◌, ◌≤◌, ◌<◌, ℕ}
-use Rattle.shop_log.specs.Blocks.{IsBlank, block_at}
-use Rattle.shop_log.proofs.torn_ends.count_written.Given as goal
-
-abbrev pub invariant-loop-n : goal.invariant-loop-n
-invariant-loop-n l = record { from : l.end ≤ l.n; few : l.n ≤ 1024; blank : (q : ℕ) → l.n ≤ q → q < 1024 → IsBlank (block_at l.file q) }
-
-abbrev pub decreases-loop-n : goal.decreases-loop-n
-decreases-loop-n l = l.n
