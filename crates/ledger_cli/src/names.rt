@@ -78,7 +78,7 @@ pub(crate) fn taking_records<'a>(
 
 /// The job that changes an image so, or only prints what that would print.
 fn edited<'a>(matches: &ArgMatches<'a>, image: &'a str, edit: Edit<'a>) -> Job<'a>
-    ensures { result ≡ jobs.Change image.entry (effect_in (rows_of (found_of matches.now))) edit }
+    ensures { result ≡ jobs.Change image.entry (effect_in (rows_of (found_of matches.now))) edit.entry }
 {
     Job::Change {
         image,
