@@ -17,16 +17,16 @@ module _ {F W : Type 0} (position : F → Option ℕ) (bytes contents : F → Op
     written : (file after : F) (old new : W) (r : Result ℕ Stop)
         → IsChangeWritten position bytes contents told Is Refuses file after old new r
         → IsChangeWritten position bytes contents told Then Why' file after old new r
-    written file after old new (Ok left) (made, is, rest) = (made, f made is, rest)
-    written file after old new (Err (stops.Refused why)) (is, rest) = (g why is, rest)
-    written file after old new (Err stops.Device) (made, is, rest) = (made, f made is, rest)
-    written file after old new (Err stops.Output) (made, is, rest) = (made, f made is, rest)
+    written file after old new (Ok left) (made, is, same, handed, printed) = (made, f made is, same, handed, printed)
+    written file after old new (Err (stops.Refused why)) (is, same, silent) = (g why is, same, silent)
+    written file after old new (Err stops.Device) (made, is, part, silent) = (made, f made is, part, silent)
+    written file after old new (Err stops.Output) (made, is, handed, part) = (made, f made is, handed, part)
 
     pub job-weaker : (effect : Effect) (file after : Option F) (old new : W) (end : JobEnd)
         → IsChangeJob position bytes contents told effect Is Refuses file after old new end
         → IsChangeJob position bytes contents told effect Then Why' file after old new end
     job-weaker Written None after old new end is = is
-    job-weaker Written (Some file) after old new end (left, same, ended, ends, is) =
-        (left, same, ended, ends, written file left old new ended is)
-    job-weaker Printed file after old new end (same, ended, ends, is) =
-        (same, ended, ends, (told-weaker told Is Then Refuses Why' old new f g ended is.0, is.1))
+    job-weaker Written (Some file) after old new end (left, same, (ended, ends, is)) =
+        (left, same, (ended, ends, written file left old new ended is))
+    job-weaker Printed file after old new end (same, (ended, ends, is)) =
+        (same, (ended, ends, (told-weaker told Is Then Refuses Why' old new f g ended is.0, is.1)))
