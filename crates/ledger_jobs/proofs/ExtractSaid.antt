@@ -1,5 +1,5 @@
 -- Files that were made in a folder that is unknown.
-use Rattle.std.proofs.Common.{ℕ, List, Option, None, Some, Result, Ok, Err, inl, inr, refl}
+use Rattle.std.proofs.Common.{ℕ, List, Option, None, Result, Ok, Err, inl, inr, refl}
 use Rattle.std.specs.Prelude.{MatchResult}
 use Rattle.command_faults.specs.declared.faults.CommandFault.{CommandFault}
 use Rattle.command_faults.specs.declared.faults.CommandFault.TheVariants as faults

@@ -1,5 +1,5 @@
 -- A run over a log, from how the service ended.
-use Rattle.std.proofs.Common.{◌≡◌, ℕ, List, Result, Ok, Err, inl, inr, length, refl, subst}
+use Rattle.std.proofs.Common.{◌≡◌, ℕ, List, Result, Err, inl, inr, length, refl, subst}
 use Rattle.d64_image.specs.Images.{Image}
 use Rattle.d64_image.specs.Memory.{disk_image, sectors_in}
 use Rattle.d64_image.specs.declared.mem_disk.MemDisk.{MemDisk}

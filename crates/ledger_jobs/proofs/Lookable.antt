@@ -1,5 +1,5 @@
 -- What a job's first file may be read for a person may be looked at too.
-use Rattle.std.specs.Prelude.{List, None, Option, Some, IfSome, option_map, ℕ}
+use Rattle.std.specs.Prelude.{None, Option, Some, IfSome, option_map}
 use Rattle.image_file.specs.paths.Rights.{Rights}
 use Rattle.ledger_jobs.specs.Rights.{MayExplain, MayLook, first_file}
 use Rattle.ledger_jobs.specs.declared.jobs.Job.{Job}

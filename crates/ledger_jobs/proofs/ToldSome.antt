@@ -1,6 +1,6 @@
 -- What an output was passed of a play over a file, however it ended, or while a file was there: replies, the last of them
 -- perhaps in part.
-use Rattle.std.proofs.Common.{◌≡◌, ◌++◌, ◌∷◌, [], ℕ, Bool, List, Result, Ok, Err, inl, inr, refl, ⊎_elim}
+use Rattle.std.proofs.Common.{◌++◌, ◌∷◌, [], ℕ, Bool, List, Result, Ok, Err, inl, inr, refl, ⊎_elim}
 use Rattle.command_faults.specs.declared.faults.CommandFault.{CommandFault}
 use Rattle.command_faults.specs.declared.faults.CommandFault.TheVariants as faults
 use Rattle.d64_image.specs.FileDisks.{FileDisk, in_run}

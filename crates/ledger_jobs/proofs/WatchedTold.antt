@@ -1,8 +1,8 @@
 -- What was told of an output is told of one that looks for a file first.
-use Rattle.std.proofs.Common.{◌≡◌, ◌∙◌, List, ◌∷◌, [], ◌++◌, Bool, true, false, Err, Ok, Result, arith, inl, inr, refl, sym}
+use Rattle.std.proofs.Common.{◌≡◌, ◌∙◌, true, false, Err, Ok, Result, arith, inl, inr, refl, sym}
 use Rattle.request_cards.specs.declared.reply.Reply.{Reply}
 use Rattle.host_session.specs.events.Instants.{Instant}
-use Rattle.host_session.specs.events.Telling.{IsTold, Output}
+use Rattle.host_session.specs.events.Telling.{IsTold}
 use Rattle.line_server.specs.Answering.{Answering, answered}
 use Rattle.ledger_jobs.specs.WatchedFiles.{media_for, while_there}
 use Rattle.ledger_jobs.specs.declared.watched_files.WhileThere.{WhileThere}

@@ -1,6 +1,6 @@
 -- How a job ends, and the program's exit status then. All of it is our own.
 use Rattle.std.specs.Prelude.{◌≡◌, ℕ, Bool, true, false, if◌then◌else◌, List, [], ◌++◌, Option, Some, None}
-use Rattle.std.specs.Prelude.{Result, Ok, Err, IsErr, codes, decimal, nat_eq}
+use Rattle.std.specs.Prelude.{Result, Ok, Err, IsErr, codes, decimal}
 use Rattle.std.specs.IoError.{error_kind}
 use Rattle.std.specs.declared.fs.locks.TryLockError.{TryLockError}
 use Rattle.std.specs.declared.fs.locks.TryLockError.TheVariants as locks

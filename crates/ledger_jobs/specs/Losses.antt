@@ -1,5 +1,5 @@
 -- What becomes of a disk that has lost a part of a file. All of it is our own.
-use Rattle.std.specs.Prelude.{◌≡◌, ◌⊎◌, List, ℕ, Option, Some, None, Result, Ok, Err, length}
+use Rattle.std.specs.Prelude.{◌≡◌, ◌⊎◌, List, ℕ, Option, Some, None, Result, Err, length}
 use Rattle.d64_image.specs.declared.place.Place.{Place}
 use Rattle.command_faults.specs.declared.faults.CommandFault.{CommandFault}
 use Rattle.damaged_files.specs.cut.Told.{IsCutShort, IsToldOfImage}

@@ -1,5 +1,5 @@
 -- What a job may do with the files that its words name, and with the logs beside them. Our own.
-use Rattle.std.specs.Prelude.{◌≡◌, ◌≢◌, ⊤, ℕ, All, IfSome, List, None, Option, Some, ◌++◌, codes}
+use Rattle.std.specs.Prelude.{◌≢◌, ⊤, ℕ, All, IfSome, List, None, Option, Some, ◌++◌, codes}
 use Rattle.keeper_commands.specs.rescue.Folders.{StaysInside}
 use Rattle.ledger_jobs.specs.declared.jobs.Edit.{Edit}
 use Rattle.ledger_jobs.specs.declared.jobs.Edit.TheVariants as edits

@@ -1,5 +1,5 @@
 -- How the run ended is how the service did.
-use Rattle.std.proofs.Common.{Err, Ok, refl, subst, sym}
+use Rattle.std.proofs.Common.{Ok, refl, subst, sym}
 use Rattle.command_faults.specs.declared.faults.CommandFault.{CommandFault}
 use Rattle.ledger_jobs.specs.LoggedRuns.{IsLoggedFault}
 use Rattle.ledger_jobs.proofs.Logged.{logged_fault, logged_to, unloaded}

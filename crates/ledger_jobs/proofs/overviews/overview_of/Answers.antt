@@ -1,6 +1,6 @@
 -- Why an image can't be read is told after its name.
 use Rattle.std.proofs.Common.{◌≡◌, [], List, Option, Result, Ok, Err, subst, sym, ℕ}
-use Rattle.std.specs.Prelude.{IfOk, string_bytes, vec_items}
+use Rattle.std.specs.Prelude.{IfOk, vec_items}
 use Rattle.command_faults.specs.declared.faults.CommandFault.{CommandFault}
 use Rattle.ledger_jobs.specs.EachImage.{as_loaded}
 use Rattle.ledger_jobs.specs.Overviews.{IsOverviewOf, IsToldAs}

@@ -1,5 +1,5 @@
 -- The sheet was printed, and its status is told.
-use Rattle.std.proofs.Common.{map, ℕ}
+use Rattle.std.proofs.Common.{map}
 use Rattle.ledger_jobs.specs.HostFiles.{IsReadAt}
 use Rattle.ledger_jobs.specs.SheetPages.{IsSheetPrinted}
 use Rattle.ledger_jobs.proofs.EachTold.{several-done}

@@ -1,5 +1,4 @@
 -- How the run ended is how its command did.
-use Rattle.std.proofs.Common.{List, Option, ℕ}
 use Rattle.std.specs.Io.KnownBytes.{Appends}
 use Rattle.shop_commands.specs.DryRuns.{dry_report}
 use Rattle.ledger_jobs.proofs.Looked.{dry-printed}
