@@ -5,10 +5,10 @@ use Rattle.disk_changes.specs.declared.changes.Why.{Why}
 use Rattle.folder_changes.specs.declared.stops.Stop.{Stop}
 use Rattle.folder_changes.specs.declared.stops.Stop.TheVariants as stops
 use Rattle.ledger_cli.specs.Changed.{IsChangeJob, IsChangeWritten}
-use Rattle.ledger_jobs.proofs.ChangedOver.{told-weaker}
-use Rattle.ledger_jobs.specs.Ends.{JobEnd}
-use Rattle.ledger_jobs.specs.declared.jobs.Effect.{Effect}
-use Rattle.ledger_jobs.specs.declared.jobs.Effect.TheVariants.{Printed, Written}
+use Rattle.image_edits.proofs.ChangedOver.{told-weaker}
+use Rattle.opened_files.specs.Ends.{JobEnd}
+use Rattle.image_edits.specs.declared.edit.Effect.{Effect}
+use Rattle.image_edits.specs.declared.edit.Effect.TheVariants.{Printed, Written}
 
 module _ {F W : Type 0} (position : F → Option ℕ) (bytes contents : F → Option (List ℕ)) (told : W → Option (List ℕ))
     (Is Then : Changed → Type 0) (Refuses Why' : Why → Type 0) (f : (made : Changed) → Is made → Then made)

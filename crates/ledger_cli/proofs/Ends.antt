@@ -5,7 +5,7 @@ use Rattle.std.specs.Prelude.{◌≡◌, IfErr, IsOk, OnErr, OnOk, length}
 use Rattle.std.specs.Io.KnownBytes.{Appends}
 use Rattle.host_session.specs.declared.events.sinks.NotTaken.{NotTaken}
 use Rattle.line_text.specs.Handed.{AppendsPart}
-use Rattle.ledger_jobs.specs.Ends.{JobEnd, refusal_line}
+use Rattle.opened_files.specs.Ends.{JobEnd, refusal_line}
 use Rattle.ledger_cli.specs.Runs.{IsEndTold}
 
 -- bytes that were told whole, or in part

@@ -4,14 +4,14 @@ use Rattle.std.specs.Prelude.{Err, IfOk, MatchResult, Result, codes}
 use Rattle.clap.specs.Words.{Row, Text}
 use Rattle.command_table.specs.Grammar.{value}
 use Rattle.ledger_jobs.specs.Jobs.{IsFit}
-use Rattle.ledger_jobs.specs.Names.{IsNameOf, name_bytes}
+use Rattle.opened_files.specs.Names.{IsNameOf, name_bytes}
 use Rattle.ledger_jobs.specs.declared.jobs.Job.{Job}
-use Rattle.ledger_jobs.specs.declared.names.Name.{Name}
+use Rattle.opened_files.specs.declared.names.Name.{Name}
 use Rattle.ledger_cli.specs.Jobs.{AreRefusedColumns, IsJob, IsNoJob, IsRefusedName}
 use Rattle.ledger_cli.specs.Forms.{candidates_in}
 use Rattle.ledger_cli.specs.Positions.{HasNoColumns}
 use Rattle.ledger_jobs.specs.declared.jobs.Job.TheVariants as jobs
-use Rattle.ledger_jobs.specs.declared.jobs.Look.TheVariants as looks
+use Rattle.image_looks.specs.declared.kinds.Look.TheVariants as looks
 use Rattle.ledger_cli.specs.declared.faults.JobFault.TheVariants as faults
 use Rattle.ledger_cli.specs.Names.{HasNoName, IsMakingJob, IsNamedJob, IsNewDiskJob, IsPuttingJob, IsRecordsJob}
 use Rattle.ledger_cli.specs.Names.{IsRenamingJob, IsStoringJob}

@@ -5,8 +5,8 @@ use Rattle.d64_image.specs.declared.mirror.Mirror.{Mirror}
 use Rattle.ledger_cli.specs.Runs.{IsOverFile}
 use Rattle.ledger_cli.specs.Streams.{IsBegun, WhyUnbegun, stream_file}
 use Rattle.command_faults.specs.declared.faults.CommandFault.{CommandFault}
-use Rattle.ledger_jobs.specs.Ends.{JobEnd}
-use Rattle.ledger_jobs.specs.declared.refusals.Refusal.TheVariants as refusals
+use Rattle.opened_files.specs.Ends.{JobEnd}
+use Rattle.opened_files.specs.declared.refusals.Refusal.TheVariants as refusals
 
 module _ {F W : Type 0} (image : List ℕ) (file after : Option F) (old new : W) (end : JobEnd)
     (P : DeviceAsFile (Mirror F) → DeviceAsFile (Mirror F) → Type 0) where

@@ -12,7 +12,7 @@ use Rattle.ledger_cli.specs.Flags.{is_given}
 use Rattle.ledger_cli.specs.Forms.{effect_in, loss_in, unowned_in}
 use Rattle.ledger_cli.specs.Numbers.{tills_in}
 use Rattle.ledger_jobs.specs.Jobs.{IsFit}
-use Rattle.ledger_jobs.specs.declared.jobs.Edit.TheVariants as edits
+use Rattle.image_edits.specs.declared.edit.Edit.TheVariants as edits
 use Rattle.ledger_jobs.specs.declared.jobs.Job.{Job}
 use Rattle.ledger_jobs.specs.declared.jobs.Job.TheVariants as jobs
 use Rattle.ledger_cli.specs.declared.faults.JobFault.{JobFault}

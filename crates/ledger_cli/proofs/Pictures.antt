@@ -5,7 +5,7 @@ use Rattle.clap.specs.Words.{Row, Text, found_of, rows_of}
 use Rattle.clap.specs.declared.parser.matches.ArgMatches.{ArgMatches}
 use Rattle.command_table.specs.Grammar.{value}
 use Rattle.ledger_jobs.specs.Jobs.{IsFit}
-use Rattle.ledger_jobs.specs.declared.jobs.Look.TheVariants as looks
+use Rattle.image_looks.specs.declared.kinds.Look.TheVariants as looks
 use Rattle.ledger_jobs.specs.declared.jobs.Job.{Job}
 use Rattle.ledger_jobs.specs.declared.jobs.Job.TheVariants as jobs
 use Rattle.ledger_cli.specs.Images.{IsNoPicture, IsPictureJob}

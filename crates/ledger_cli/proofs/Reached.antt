@@ -9,8 +9,8 @@ use Rattle.host_session.specs.shop.Shop.{IsShop, Shop}
 use Rattle.shop_commands.specs.Plays.{IsFileFault, IsPlayEnd, IsPlayedOver, IsUntouched}
 use Rattle.command_faults.specs.declared.faults.CommandFault.{CommandFault}
 use Rattle.command_faults.specs.declared.faults.CommandFault.TheVariants as faults
-use Rattle.ledger_jobs.specs.Ends.{Ended}
-use Rattle.ledger_jobs.specs.Runs.{IsPlayRun}
+use Rattle.opened_files.specs.Ends.{Ended}
+use Rattle.shop_jobs.specs.Runs.{IsPlayRun}
 use Rattle.disk_layout.specs.declared.faults.Fault.{Fault}
 
 -- a run of a script on a shop, once what it told is handed on

@@ -5,8 +5,8 @@ use Rattle.clap.specs.Words.{Row, Text, found_of, rows_of}
 use Rattle.clap.specs.declared.parser.matches.ArgMatches.{ArgMatches}
 use Rattle.ledger_jobs.specs.Jobs.{IsFit}
 use Rattle.ledger_jobs.specs.declared.jobs.Job.{Job}
-use Rattle.ledger_jobs.specs.declared.jobs.Look.{Look}
-use Rattle.ledger_jobs.specs.declared.jobs.Look.TheVariants as looks
+use Rattle.image_looks.specs.declared.kinds.Look.{Look}
+use Rattle.image_looks.specs.declared.kinds.Look.TheVariants as looks
 use Rattle.ledger_cli.specs.Flags.{is_given}
 use Rattle.ledger_cli.specs.Images.{IsCheckJob, IsLookJob}
 use Rattle.ledger_cli.specs.Looks.{IsAlone, IsAskedBy, IsOne, check_in, word_of}

@@ -8,11 +8,11 @@ use Rattle.disk_changes.specs.declared.changes.Why.{Why}
 use Rattle.folder_changes.specs.declared.stops.Stop.{Stop}
 use Rattle.folder_changes.specs.declared.stops.Stop.TheVariants as stops
 use Rattle.ledger_cli.specs.Making.{AreWrittenInPart, IsImageHanded, image_writes}
-use Rattle.ledger_jobs.specs.Changes.{IsShownEnd, as_change}
-use Rattle.ledger_jobs.specs.Ends.{EndsAs, JobEnd}
-use Rattle.ledger_jobs.specs.declared.jobs.Effect.{Effect}
-use Rattle.ledger_jobs.specs.declared.jobs.Effect.TheVariants.{Printed, Written}
-use Rattle.ledger_jobs.specs.declared.refusals.Refusal.TheVariants as refusals
+use Rattle.image_edits.specs.Changes.{IsShownEnd, as_change}
+use Rattle.opened_files.specs.Ends.{EndsAs, JobEnd}
+use Rattle.image_edits.specs.declared.edit.Effect.{Effect}
+use Rattle.image_edits.specs.declared.edit.Effect.TheVariants.{Printed, Written}
+use Rattle.opened_files.specs.declared.refusals.Refusal.TheVariants as refusals
 use Rattle.line_text.specs.Handed.{AppendsPart}
 
 module _ {F W : Type 0} (position : F → Option ℕ) (bytes contents : F → Option (List ℕ)) (told : W → Option (List ℕ))

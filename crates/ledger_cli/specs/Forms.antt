@@ -2,30 +2,30 @@
 use Rattle.std.specs.Prelude.{◌≡◌, List, Option, Some, None, Result, Ok, Err, codes, if◌then◌else◌}
 use Rattle.std.specs.Borrow.{Bor}
 use Rattle.clap.specs.Words.{Row, Text}
-use Rattle.ledger_jobs.specs.declared.jobs.Effect.{Effect}
+use Rattle.image_edits.specs.declared.edit.Effect.{Effect}
 use Rattle.ledger_jobs.specs.declared.jobs.Job.{Job}
-use Rattle.ledger_jobs.specs.declared.jobs.Loss.{Loss}
-use Rattle.ledger_jobs.specs.declared.jobs.Unowned.{Unowned}
+use Rattle.opened_files.specs.declared.losses.Loss.{Loss}
+use Rattle.image_edits.specs.declared.edit.Unowned.{Unowned}
 use Rattle.keeper_commands.specs.declared.rescue.choices.Choice.{Choice}
 use Rattle.keeper_commands.specs.declared.finding.Candidates.{Candidates}
 use Rattle.keeper_commands.specs.declared.forms.ByteForm.{ByteForm}
 use Rattle.keeper_commands.specs.declared.forms.RecordForm.{RecordForm}
-use Rattle.ledger_jobs.specs.declared.jobs.Columns.{Columns}
+use Rattle.image_edits.specs.declared.edit.Columns.{Columns}
 use Rattle.line_text.specs.declared.petscii.characters.CharacterSet.{CharacterSet}
 use Rattle.line_text.specs.declared.petscii.characters.CharacterSet.TheVariants.{Graphics, Mixed}
 use Rattle.disk_reports.specs.declared.texts.NameForm.{NameForm}
 use Rattle.ledger_cli.specs.Flags.{is_given}
 use Rattle.ledger_cli.specs.Positions.{AsksForColumns, AsksForNone, HasNoColumns}
 use Rattle.ledger_cli.specs.declared.faults.JobFault.{JobFault}
-use Rattle.ledger_jobs.specs.declared.jobs.Edit.TheVariants as edits
-use Rattle.ledger_jobs.specs.declared.jobs.Effect.TheVariants as effects
+use Rattle.image_edits.specs.declared.edit.Edit.TheVariants as edits
+use Rattle.image_edits.specs.declared.edit.Effect.TheVariants as effects
 use Rattle.ledger_jobs.specs.declared.jobs.Job.TheVariants as jobs
-use Rattle.ledger_jobs.specs.declared.jobs.Loss.TheVariants as losses
-use Rattle.ledger_jobs.specs.declared.jobs.Unowned.TheVariants as unowneds
+use Rattle.opened_files.specs.declared.losses.Loss.TheVariants as losses
+use Rattle.image_edits.specs.declared.edit.Unowned.TheVariants as unowneds
 use Rattle.keeper_commands.specs.declared.finding.Candidates.TheVariants.{All, Closed}
 use Rattle.keeper_commands.specs.declared.forms.ByteForm.TheVariants as bytes
 use Rattle.keeper_commands.specs.declared.forms.RecordForm.TheVariants as records
-use Rattle.ledger_jobs.specs.declared.jobs.Columns.TheVariants as columns
+use Rattle.image_edits.specs.declared.edit.Columns.TheVariants as columns
 use Rattle.disk_reports.specs.declared.texts.NameForm.TheVariants as names
 
 -- the set of the text that is asked for: with --mixed the one with small letters, with only --text the other

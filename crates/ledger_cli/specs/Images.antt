@@ -7,8 +7,8 @@ use Rattle.clap.specs.declared.error.Error.{Error}
 use Rattle.clap.specs.Words.{HasKind, Row, Text}
 use Rattle.command_table.specs.Grammar.{value, values}
 use Rattle.ledger_jobs.specs.declared.jobs.Job.{Job}
-use Rattle.ledger_jobs.specs.declared.jobs.Look.{Look}
-use Rattle.ledger_jobs.specs.declared.jobs.Look.TheVariants as looks
+use Rattle.image_looks.specs.declared.kinds.Look.{Look}
+use Rattle.image_looks.specs.declared.kinds.Look.TheVariants as looks
 use Rattle.ledger_cli.specs.declared.faults.JobFault.{JobFault}
 use Rattle.ledger_cli.specs.Looks.{IsForOne, IsOne, check_in}
 use Rattle.ledger_cli.specs.Flags.{is_given}

@@ -2,9 +2,9 @@
 use Rattle.std.specs.Prelude.{◌≡◌, ◌<◌, List, Some, codes, false, if◌then◌else◌, length, true, ⊤}
 use Rattle.clap.specs.Words.{Row, Text}
 use Rattle.command_table.specs.Grammar.{value, values}
-use Rattle.ledger_jobs.specs.Names.{IsNameOf, name_bytes}
-use Rattle.ledger_jobs.specs.declared.jobs.Look.{Look}
-use Rattle.ledger_jobs.specs.declared.jobs.Look.TheVariants as looks
+use Rattle.opened_files.specs.Names.{IsNameOf, name_bytes}
+use Rattle.image_looks.specs.declared.kinds.Look.{Look}
+use Rattle.image_looks.specs.declared.kinds.Look.TheVariants as looks
 use Rattle.ledger_cli.specs.Flags.{is_given}
 use Rattle.ledger_cli.specs.Forms.{IsRecordForm, byte_form_in, candidates_in, name_form_in}
 use Rattle.ledger_cli.specs.Numbers.{place_in}

@@ -10,16 +10,16 @@ use Rattle.keeper_commands.specs.Makes.{IsNewName}
 use Rattle.rel_records.specs.File.{IsLength}
 use Rattle.command_table.specs.Grammar.{value}
 use Rattle.ledger_jobs.specs.declared.jobs.Job.{Job}
-use Rattle.ledger_jobs.specs.Names.{IsNameOf, name_bytes}
+use Rattle.opened_files.specs.Names.{IsNameOf, name_bytes}
 use Rattle.ledger_cli.specs.declared.faults.JobFault.{JobFault}
-use Rattle.ledger_jobs.specs.declared.names.Name.{Name}
+use Rattle.opened_files.specs.declared.names.Name.{Name}
 use Rattle.ledger_cli.specs.Numbers.{length_in}
 use Rattle.ledger_cli.specs.Forms.{AreColumns, IsRecordForm, candidates_in, effect_in, loss_in}
 use Rattle.ledger_cli.specs.Positions.{HasNoColumns}
 use Rattle.keeper_commands.specs.declared.forms.RecordForm.{RecordForm}
-use Rattle.ledger_jobs.specs.declared.jobs.Columns.{Columns}
-use Rattle.ledger_jobs.specs.declared.jobs.Edit.TheVariants as edits
-use Rattle.ledger_jobs.specs.declared.jobs.Look.TheVariants as looks
+use Rattle.image_edits.specs.declared.edit.Columns.{Columns}
+use Rattle.image_edits.specs.declared.edit.Edit.TheVariants as edits
+use Rattle.image_looks.specs.declared.kinds.Look.TheVariants as looks
 use Rattle.ledger_jobs.specs.declared.jobs.Job.TheVariants as jobs
 use Rattle.ledger_cli.specs.declared.faults.JobFault.TheVariants as faults
 

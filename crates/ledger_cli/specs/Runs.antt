@@ -9,17 +9,17 @@ use Rattle.host_session.specs.runs.Outputs.{written}
 use Rattle.line_text.specs.Handed.{AppendsPart}
 use Rattle.command_faults.specs.declared.faults.CommandFault.{CommandFault}
 use Rattle.command_faults.specs.declared.faults.CommandFault.TheVariants as faults
-use Rattle.ledger_jobs.specs.Comparisons.{IsComparingRun}
-use Rattle.ledger_jobs.specs.Ends.{EndsAs, JobEnd, as_job, as_run, end_status, refusal_line}
-use Rattle.ledger_jobs.specs.Edits.{IsEdited, IsUnedited}
-use Rattle.ledger_jobs.specs.Names.{name_bytes}
-use Rattle.ledger_jobs.specs.NewDisks.{IsNewImage}
+use Rattle.image_looks.specs.Comparisons.{IsComparingRun}
+use Rattle.opened_files.specs.Ends.{EndsAs, JobEnd, as_job, as_run, end_status, refusal_line}
+use Rattle.image_edits.specs.Edits.{IsEdited, IsUnedited}
+use Rattle.opened_files.specs.Names.{name_bytes}
+use Rattle.image_edits.specs.NewDisks.{IsNewImage}
 use Rattle.shop_commands.specs.Images.{AreFreshBytes}
-use Rattle.ledger_jobs.specs.Looks.{IsLook}
-use Rattle.ledger_jobs.specs.Runs.{IsDryRun, IsPlayRun}
+use Rattle.image_looks.specs.Looks.{IsLook}
+use Rattle.shop_jobs.specs.Runs.{IsDryRun, IsPlayRun}
 use Rattle.ledger_jobs.specs.declared.jobs.Job.{Job}
 use Rattle.ledger_jobs.specs.declared.jobs.Job.TheVariants as jobs
-use Rattle.ledger_jobs.specs.declared.refusals.Refusal.TheVariants as refusals
+use Rattle.opened_files.specs.declared.refusals.Refusal.TheVariants as refusals
 
 -- A job that writes an image wasn't begun: the file and the output are as they were.
 pub record IsUnbegun {F W : Type 0} (image : List ℕ) (file after : Option F) (old new : W) (end : JobEnd) : Type 0 where

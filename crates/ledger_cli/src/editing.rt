@@ -1,10 +1,10 @@
 //! A change of an image's files, over the image's file.
 ghost use Rattle.ledger_cli.specs.Changed.{IsChangeJob};
-ghost use Rattle.ledger_jobs.specs.Edits.{IsEdited, IsFitEdit, IsUnedited};
+ghost use Rattle.image_edits.specs.Edits.{IsEdited, IsFitEdit, IsUnedited};
 
 use crate::changed::change_over;
 use crate::changing::Ended;
-use ledger_jobs::{Edit, Effect};
+use image_edits::{Edit, Effect};
 use std::alloc::Global;
 use std::io::{Seek, Write};
 

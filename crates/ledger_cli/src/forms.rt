@@ -13,7 +13,10 @@ use crate::values::is_given;
 use clap::ArgMatches;
 use disk_reports::NameForm;
 use keeper_commands::{ByteForm, Candidates, Choice, RecordForm};
-use ledger_jobs::{Columns, Edit, Effect, Job, Look, Loss, Unowned};
+use image_edits::{Columns, Edit, Effect, Unowned};
+use ledger_jobs::Job;
+use image_looks::Look;
+use opened_files::Loss;
 use line_text::CharacterSet;
 
 /// What is done if the disk has lost a part of a file.

@@ -7,12 +7,12 @@ ghost use Rattle.ledger_cli.specs.Forms.{byte_form_in, candidates_in, effect_in,
 ghost use Rattle.clap.specs.Words.{found_of, rows_of};
 ghost use Rattle.line_text.specs.bytes.Texts.{AreBytes};
 ghost use Rattle.keeper_commands.specs.Makes.{IsNewName};
-ghost use Rattle.ledger_jobs.specs.Names.{IsNameOf, name_bytes};
+ghost use Rattle.opened_files.specs.Names.{IsNameOf, name_bytes};
 ghost use Rattle.ledger_cli.specs.Names.{IsMakingJob, IsStoringJob, IsNamedJob, IsRecordsJob, IsRenamingJob, IsNewDiskJob, IsIdOf};
 ghost use Rattle.ledger_cli.specs.Names.{IsPuttingJob, type_named as named_type};
-ghost use Rattle.ledger_jobs.specs.declared.jobs.Edit.TheVariants as edits;
+ghost use Rattle.image_edits.specs.declared.edit.Edit.TheVariants as edits;
 ghost use Rattle.ledger_jobs.specs.declared.jobs.Job.TheVariants as jobs;
-ghost use Rattle.ledger_jobs.specs.declared.jobs.Look.TheVariants as looks;
+ghost use Rattle.image_looks.specs.declared.kinds.Look.TheVariants as looks;
 
 use crate::faults::JobFault;
 use crate::forms::{byte_form, candidates, columns, effect, loss, record_form};
@@ -21,7 +21,10 @@ use crate::values::value_of;
 use clap::ArgMatches;
 use file_changes::FileType;
 use keeper_commands::RecordForm;
-use ledger_jobs::{Columns, Edit, Job, Look, Name};
+use image_edits::{Columns, Edit};
+use ledger_jobs::Job;
+use image_looks::Look;
+use opened_files::Name;
 use line_text::read_text;
 
 /// The job that prints the bytes of the file of a name.

@@ -7,7 +7,7 @@ ghost use Rattle.host_session.specs.runs.Outputs.{written};
 ghost use Rattle.host_session.specs.shop.Shop.{IsShop, Shop};
 ghost use Rattle.shop_commands.specs.Faults.{script_fault};
 ghost use Rattle.shop_commands.specs.Plays.{IsFileFault, IsPlayEnd, IsPlayedFile};
-ghost use Rattle.ledger_jobs.specs.Runs.{IsPlayRun};
+ghost use Rattle.shop_jobs.specs.Runs.{IsPlayRun};
 
 use command_faults::{CommandFault, file_of, load};
 use d64_image::{KeptMirror, SectorFile, Sectors};

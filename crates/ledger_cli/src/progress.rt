@@ -1,5 +1,6 @@
 //! How far long work is, for a person who waits for it.
-use ledger_jobs::{Edit, Job};
+use image_edits::Edit;
+use ledger_jobs::Job;
 use std::io::{self, Write};
 
 /// After how many more lines the count is printed again.

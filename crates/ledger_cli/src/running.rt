@@ -6,7 +6,10 @@ ghost use Rattle.ledger_jobs.specs.Jobs.{IsFit};
 use crate::changing::{Ended, begin_disk, copy, format, play};
 use crate::editing::edited;
 use command_faults::CommandFault;
-use ledger_jobs::{Job, Refusal, comparing_run, dry_run, end, look};
+use ledger_jobs::Job;
+use opened_files::{Refusal, end};
+use image_looks::{comparing_run, look};
+use shop_jobs::dry_run;
 use std::alloc::Global;
 use std::io::{Seek, Write};
 

@@ -1,6 +1,7 @@
 //! What the program does before it reads its words.
 use command_faults::CommandFault;
-use ledger_jobs::{ClosedStreams, Refusal, end};
+use ledger_jobs::ClosedStreams;
+use opened_files::{Refusal, end};
 use std::io::Write;
 use std::os::fd::AsRawFd;
 use std::rt::Files;

@@ -16,7 +16,8 @@ use crate::shops::{formatting, playing};
 use crate::values::{is_given, parsed_subcommand, value_of};
 use clap::{ArgMatches, Error};
 use command_table::ledger_command;
-use ledger_jobs::{Job, Look};
+use ledger_jobs::Job;
+use image_looks::Look;
 use std::alloc::{AllocError, Global};
 
 /// The job of the subcommand that was met.

@@ -1,7 +1,8 @@
 -- What a job's first file may be read for a person may be looked at too.
 use Rattle.std.specs.Prelude.{None, Option, Some, IfSome, option_map}
 use Rattle.image_file.specs.paths.Rights.{Rights}
-use Rattle.ledger_jobs.specs.Rights.{MayExplain, MayLook, first_file}
+use Rattle.ledger_jobs.specs.JobRights.{MayExplain, first_file}
+use Rattle.opened_files.specs.Rights.{MayLook}
 use Rattle.ledger_jobs.specs.declared.jobs.Job.{Job}
 use Rattle.ledger_jobs.specs.declared.jobs.Job.TheVariants as jobs
 

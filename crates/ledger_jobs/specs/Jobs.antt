@@ -1,7 +1,7 @@
 -- What holds of each job. Our own.
 use Rattle.std.specs.Prelude.{◌≤◌, ⊤, length}
-use Rattle.ledger_jobs.specs.Edits.{IsFitEdit}
-use Rattle.ledger_jobs.specs.Names.{name_bytes}
+use Rattle.image_edits.specs.Edits.{IsFitEdit}
+use Rattle.opened_files.specs.Names.{name_bytes}
 use Rattle.ledger_jobs.specs.declared.jobs.Job.{Job}
 use Rattle.ledger_jobs.specs.declared.jobs.Job.TheVariants as jobs
 

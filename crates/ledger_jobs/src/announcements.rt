@@ -1,14 +1,13 @@
 //! What a person at a terminal reads before a job is done, and after a check.
-ghost use Rattle.ledger_jobs.specs.Rights.{MayExplain, MayReadImage};
+ghost use Rattle.ledger_jobs.specs.JobRights.{MayExplain};
+ghost use Rattle.opened_files.specs.Rights.{MayReadImage};
 
-use crate::files::STANDARD_INPUT;
-use crate::job_files::size_of;
-use crate::jobs::{Job, Look};
-use crate::losses::cut_in;
-use crate::readings::image_of_file;
+use crate::jobs::Job;
 use crate::refusal_subjects::CUT_SHORT;
 use d64_image::Place;
 use image_file::{HostFiles, Locks, ShownPath};
+use image_looks::Look;
+use opened_files::{STANDARD_INPUT, cut_in, image_of_file, size_of};
 use std::fs::OpenFile;
 use std::io::{Read, Write};
 

@@ -1,15 +1,16 @@
 //! The line that a person at a terminal reads below a refusal: which file it is about, what the system said of it, and what
 //! to do.
-ghost use Rattle.ledger_jobs.specs.Rights.{MayExplain, MayLook};
+ghost use Rattle.ledger_jobs.specs.JobRights.{MayExplain};
+ghost use Rattle.opened_files.specs.Rights.{MayLook};
 
 use crate::failure_lines::{tell_device, tell_files, tell_of, tell_of_image};
-use crate::job_files::{first_file, image_of, size_of, text_of};
+use crate::job_files::{first_file, image_of, text_of};
 use crate::jobs::Job;
 use crate::near_names::tell_name;
 use crate::refusal_subjects::{About, subject_of};
-use crate::refusals::Refusal;
 use crate::size_lines::{missized_of, tell_size};
 use image_file::{Failure, HostFiles, Locks};
+use opened_files::{Refusal, size_of};
 use std::fs::OpenFile;
 use std::io::{Read, Write};
 

@@ -1,10 +1,11 @@
 //! The line that says to a person which file failed, and what the system said of it.
-ghost use Rattle.ledger_jobs.specs.Rights.{MayExplain, MayLook};
+ghost use Rattle.ledger_jobs.specs.JobRights.{MayExplain};
+ghost use Rattle.opened_files.specs.Rights.{MayLook};
 
-use crate::files::STANDARD_INPUT;
 use crate::job_files::{first_file, image_of};
 use crate::jobs::Job;
 use image_file::{Failure, HostFiles, ShownPath, regular_at};
+use opened_files::STANDARD_INPUT;
 use std::fmt::Display;
 use std::io::{self, ErrorKind, Write};
 

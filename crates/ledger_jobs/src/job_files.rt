@@ -1,12 +1,11 @@
 //! The files that a job names: its words for them, and their sizes.
 ghost use Rattle.std.specs.Prelude.{◌≡◌, option_map};
-ghost use Rattle.ledger_jobs.specs.Rights as specs;
-ghost use Rattle.ledger_jobs.specs.Rights.{MayLook};
+ghost use Rattle.opened_files.specs.Rights as specs;
 
-use crate::files::STANDARD_INPUT;
-use crate::jobs::{Edit, Job};
+use crate::jobs::Job;
 use arrayvec::ArrayVec;
-use image_file::{HostFiles, regular_at};
+use image_edits::Edit;
+use opened_files::STANDARD_INPUT;
 
 /// The file that a job reads or writes first. None of a job over several images.
 pub(crate) fn first_file<'a>(job: &Job<'a>) -> Option<&'a str>
@@ -75,18 +74,4 @@ pub fn files_of<'a>(job: &Job<'a>) -> ArrayVec<&'a str, 2> {
         _ => {}
     }
     files
-}
-
-/// The number of bytes of the regular file at a path. None of standard input, and if the system doesn't say. No file is
-/// opened.
-pub(crate) fn size_of<R: HostFiles>(rt: &R, path: &str) -> Option<u64>
-    requires { MayLook R.rights rt.now path.now }
-{
-    if path == STANDARD_INPUT {
-        return None;
-    }
-    match regular_at(rt, path) {
-        Ok(found) => Some(found.len()),
-        Err(_) => None,
-    }
 }

@@ -1,66 +1,19 @@
-//! The program over a runtime: its jobs, the files that they open, and how they end.
+//! The program over a runtime: its jobs, the files that they may touch, and lines for a person.
 #![tactic(auto)]
 
 mod announcements;
-mod changing;
-mod comparisons;
-mod copying;
-mod descriptions;
 mod dispatch;
-mod durable_runs;
-mod each_image;
-mod edits;
-mod endings;
 mod explanations;
-mod extracting;
 mod failure_lines;
-mod files;
-mod image_logs;
 mod job_files;
 mod jobs;
-mod locks;
-mod logged_plays;
-mod logged_runs;
-mod looks;
-mod losses;
-mod names;
 mod near_names;
-mod new_disks;
-mod outcomes;
-mod overviews;
-mod playing_logs;
-mod readings;
 mod refusal_subjects;
-mod refusals;
-mod reply_lines;
-mod serving_logs;
-mod sheets;
-mod shop_runs;
 mod size_lines;
-mod trimming;
-mod watched_files;
 
 pub use announcements::{announce, tell_cut};
-pub use changing::change_end;
-pub use comparisons::comparing_run;
-pub use copying::copy_run;
 pub use dispatch::do_job;
-pub use durable_runs::play_durably;
-pub use endings::{Ending, end, tell};
 pub use explanations::explain;
-pub use extracting::extract_run;
 pub use image_file::ClosedStreams;
 pub use job_files::files_of;
-pub use jobs::{Columns, Edit, Effect, Job, Look, Loss, Unowned};
-pub use logged_plays::play_logged;
-pub use logged_runs::serve_logged;
-pub use looks::look;
-pub use losses::serve_logged_guarded;
-pub use names::Name;
-pub use new_disks::new_run;
-pub use outcomes::{job_end, run_end};
-pub use overviews::overview_run;
-pub use refusals::Refusal;
-pub use shop_runs::{dry_run, play_run};
-pub use trimming::{do_trim, trim_run};
-pub use watched_files::WhileThere;
+pub use jobs::Job;

@@ -1,12 +1,12 @@
 //! What is printed for a person if an image has no file of a name: which names are near.
-ghost use Rattle.ledger_jobs.specs.Rights.{MayReadImage};
+ghost use Rattle.opened_files.specs.Rights.{MayReadImage};
 
-use crate::files::STANDARD_INPUT;
-use crate::jobs::{Edit, Job, Look};
-use crate::names::Name;
-use crate::readings::image_of_file;
+use crate::jobs::Job;
 use disk_reports::print_near_names;
+use image_edits::Edit;
 use image_file::{HostFiles, Locks, ShownPath};
+use image_looks::Look;
+use opened_files::{Name, STANDARD_INPUT, image_of_file};
 use std::fs::OpenFile;
 use std::io::{Read, Write};
 

@@ -1,8 +1,10 @@
 //! What a refusal is about, and what is said of it to a person.
-use crate::jobs::{Edit, Job};
-use crate::refusals::Refusal;
+
+use crate::jobs::Job;
 use command_faults::CommandFault;
 use disk_layout::Fault;
+use image_edits::Edit;
+use opened_files::Refusal;
 
 /// What a line for a person is about.
 pub(crate) enum About {

@@ -1,12 +1,14 @@
 //! The line that says to a person which size an image has.
 ghost use Rattle.std.specs.Prelude.{IfSome};
-ghost use Rattle.ledger_jobs.specs.Rights.{MayExplain, MayLook};
+ghost use Rattle.ledger_jobs.specs.JobRights.{MayExplain};
+ghost use Rattle.opened_files.specs.Rights.{MayLook};
 
 use crate::failure_lines::tell_of;
-use crate::job_files::{first_file, size_of};
+use crate::job_files::first_file;
 use crate::jobs::Job;
 use d64_image::IMAGE_BYTES;
 use image_file::{HostFiles, ShownPath};
+use opened_files::size_of;
 use std::io::Write;
 
 /// The image of a job that has another size than a disk: of two the first one, unless it has that size.

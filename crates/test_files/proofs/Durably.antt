@@ -15,8 +15,8 @@ use Rattle.image_file.specs.ImageFile.{placed, placed_file, seen_of}
 use Rattle.image_file.specs.declared.durability.WritesAt.{Ghosts}
 use Rattle.command_faults.specs.declared.faults.CommandFault.TheVariants as faults
 use Rattle.image_file.specs.declared.sectors.ImageFile.{ImageFile}
-use Rattle.ledger_jobs.specs.DurableRuns.{IsDurableRun}
-use Rattle.ledger_jobs.specs.Ends.{Ended}
+use Rattle.shop_jobs.specs.DurableRuns.{IsDurableRun}
+use Rattle.opened_files.specs.Ends.{Ended}
 
 -- of an image's file what is looked at is what is held
 seen_whole : {F : Type 0} (W : Lasting F) (sized : Bool) → sized ≡ true → (P : Lasting F → Type 0)

@@ -16,9 +16,9 @@ use Rattle.image_file.specs.Lasting.{Lasting}
 use Rattle.image_file.specs.declared.durability.WritesAt.{Ghosts}
 use Rattle.command_faults.specs.declared.faults.CommandFault.TheVariants as faults
 use Rattle.image_file.specs.declared.sectors.ImageFile.{ImageFile}
-use Rattle.ledger_jobs.specs.DurableRuns.{IsDurableRun}
-use Rattle.ledger_jobs.specs.Ends.{Ended}
-use Rattle.ledger_jobs.specs.Runs.{IsPlayRun}
+use Rattle.shop_jobs.specs.DurableRuns.{IsDurableRun}
+use Rattle.opened_files.specs.Ends.{Ended}
+use Rattle.shop_jobs.specs.Runs.{IsPlayRun}
 use Rattle.test_files.proofs.Begun.{IsSome}
 use Rattle.test_files.proofs.Durably.{at_ok, each_kept, first_kept, kept_last, told_failed}
 use Rattle.test_files.proofs.Played.{of_play}

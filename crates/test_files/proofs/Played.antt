@@ -12,8 +12,8 @@ use Rattle.line_text.specs.scripts.Lines.{lines}
 use Rattle.shop_commands.specs.Plays.{IsFileFault, IsPlayEnd, IsPlayedOver}
 use Rattle.command_faults.specs.declared.faults.CommandFault.{CommandFault}
 use Rattle.command_faults.specs.declared.faults.CommandFault.TheVariants as faults
-use Rattle.ledger_jobs.specs.Ends.{Ended}
-use Rattle.ledger_jobs.specs.Runs.{IsPlayRun}
+use Rattle.opened_files.specs.Ends.{Ended}
+use Rattle.shop_jobs.specs.Runs.{IsPlayRun}
 use Rattle.test_files.proofs.Begun.{IsSome, of_none, of_run}
 
 module _ {D T : Type 0} (h : History D) (o : Output T) (script : List ℕ) (disk left : D) (old new : T) (s : Shop)

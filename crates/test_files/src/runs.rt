@@ -14,7 +14,7 @@ use d64_image::KeptMirror;
 use disk_layout::Fault;
 use host_session::ReplySink;
 use image_file::ImageFile;
-use ledger_jobs::play_durably;
+use shop_jobs::play_durably;
 use std::alloc::Global;
 
 /// Plays a script on the shop of the image that the file holds, and syncs it at the end: the file then, and how that

@@ -2,8 +2,8 @@
 use Rattle.host_session.specs.runs.Outputs.{written}
 use Rattle.ledger_cli.proofs.Over.{over}
 use Rattle.ledger_cli.specs.Streams.{HandsSectors, stream}
-use Rattle.ledger_jobs.specs.Ends.{EndsAs, as_job}
-use Rattle.ledger_jobs.specs.Runs.{IsPlayRun}
+use Rattle.opened_files.specs.Ends.{EndsAs, as_job}
+use Rattle.shop_jobs.specs.Runs.{IsPlayRun}
 use Rattle.ledger_cli.proofs.changing.play.Goals as goal
 
 pub returns-in-Ok : goal.returns-in-Ok

@@ -6,7 +6,7 @@ use Rattle.command_table.specs.Grammar.{values}
 use Rattle.ledger_cli.specs.Images.{AreDescribed, IsCheckJob, IsDescribing, IsLookJob}
 use Rattle.ledger_cli.specs.Flags.{is_given}
 use Rattle.ledger_jobs.specs.declared.jobs.Job.{Job}
-use Rattle.ledger_jobs.specs.declared.jobs.Look.{Look}
+use Rattle.image_looks.specs.declared.kinds.Look.{Look}
 use Rattle.ledger_cli.specs.declared.faults.JobFault.{JobFault}
 use Rattle.ledger_cli.proofs.images.checking.Goals as goal
 

@@ -5,7 +5,7 @@ use Rattle.clap.specs.Words.{Row, Text, all_of, found_of, rows_of}
 use Rattle.ledger_cli.specs.Images.{AreImages, IsLookJob, IsSeveral}
 use Rattle.ledger_jobs.specs.declared.jobs.Job.{Job}
 use Rattle.ledger_cli.specs.declared.faults.JobFault.{JobFault}
-use Rattle.ledger_jobs.specs.declared.jobs.Look.{Look}
+use Rattle.image_looks.specs.declared.kinds.Look.{Look}
 use Rattle.ledger_cli.proofs.images.viewing.Goals as goal
 
 given-values : (o : Option (Bor (List (Bor Text)))) (given : Bor (List (Bor Text))) (rows : Option (List Text))

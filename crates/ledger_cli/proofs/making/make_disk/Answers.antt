@@ -2,7 +2,7 @@
 use Rattle.std.proofs.Common.{◌∙◌, Err, ap, refl, subst, sym}
 use Rattle.std.proofs.lemmas.Result.{err_from_is_err_and}
 use Rattle.file_changes.specs.Formats.{IsNewDisk}
-use Rattle.ledger_jobs.specs.NewDisks.{IsNewImage}
+use Rattle.image_edits.specs.NewDisks.{IsNewImage}
 use Rattle.ledger_cli.proofs.Made.{image_written, made, made_in_part}
 use Rattle.ledger_cli.proofs.making.make_disk.Goals as goal
 

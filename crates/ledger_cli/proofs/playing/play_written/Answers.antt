@@ -4,7 +4,7 @@ use Rattle.std.specs.Prelude.{IfErr, OnOk}
 use Rattle.command_faults.specs.declared.faults.CommandFault.{CommandFault}
 use Rattle.host_session.specs.runs.Outputs.{written}
 use Rattle.ledger_cli.proofs.Reached.{played_reached}
-use Rattle.ledger_jobs.specs.Runs.{IsPlayRun}
+use Rattle.shop_jobs.specs.Runs.{IsPlayRun}
 use Rattle.shop_commands.specs.Plays.{IsFileFault, IsPlayedFile}
 use Rattle.ledger_cli.proofs.playing.play_written.Goals as goal
 

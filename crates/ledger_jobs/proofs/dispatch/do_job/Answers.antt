@@ -1,7 +1,8 @@
 -- What is said of what was done with the files is said of the job.
 use Rattle.std.proofs.Common.{List, map, subst, sym, ℕ}
 use Rattle.std.specs.Borrow.{Bor}
-use Rattle.ledger_jobs.specs.JobRuns.{AreDescribed, AreDrawnOnSheet, AreOverviewed, IsJobOver}
+use Rattle.image_looks.specs.LookRuns.{AreDescribed, AreDrawnOnSheet, AreOverviewed}
+use Rattle.ledger_jobs.specs.JobRuns.{IsJobOver}
 use Rattle.ledger_jobs.specs.declared.jobs.Job.{Job}
 use Rattle.ledger_jobs.proofs.dispatch.do_job.Goals as goal
 

@@ -1,7 +1,7 @@
 -- What may be read may be looked at.
 use Rattle.std.proofs.Common.{subst, sym}
 use Rattle.std.specs.Prelude.{IfSome}
-use Rattle.ledger_jobs.specs.Rights.{MayLook}
+use Rattle.opened_files.specs.Rights.{MayLook}
 use Rattle.ledger_jobs.proofs.Lookable.{if-mapped, look-first}
 use Rattle.ledger_jobs.proofs.size_lines.missized_of.Goals as goal
 

@@ -8,7 +8,7 @@ use Rattle.host_session.specs.events.Events.{messages_of, requests_of}
 use Rattle.host_session.specs.shop.Shop.{IsSettled, IsShop, Shop, start_of, with_state}
 use Rattle.request_cards.specs.Ledgers.{plain}
 use Rattle.line_text.specs.scripts.Lines.{lines}
-use Rattle.ledger_jobs.specs.Ends.{Ended}
+use Rattle.opened_files.specs.Ends.{Ended}
 use Rattle.test_files.specs.Shops.{IsAfterSome}
 use Rattle.test_files.specs.WholeFiles.{whole_held}
 use Rattle.test_files.specs.WholeShops.{WereHeld}

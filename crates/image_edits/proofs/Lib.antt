@@ -1,0 +1,5 @@
+pub mod ChangedOver
+pub mod Copied
+pub mod EditRead
+pub mod MadeTold
+pub mod NewMade

@@ -1,0 +1,36 @@
+-- The change is of the bytes that the host says.
+use Rattle.std.proofs.Common.{◌∙◌, Err, ap, inl, subst, sym}
+use Rattle.std.proofs.lemmas.Result.{err_from_is_err_and}
+use Rattle.image_edits.proofs.ChangedOver.{not-begun, run-weaker, told-weaker}
+use Rattle.image_edits.specs.Edits.{IsTextFor}
+use Rattle.image_edits.proofs.edits.edit_written.Goals as goal
+
+pub returns-in_err-image : goal.returns-in_err-image
+returns-in_err-image g c =
+    let p = err_from_is_err_and c.from_residual.result c.from_residual.ensures.1 in
+    not-begun c.args.out.now c.from_residual.result _ _ (p.1 ∙ ap Err p.2) c.in_err-image.ensures.err
+
+pub returns-in_err-text : goal.returns-in_err-text
+returns-in_err-text g c =
+    let p = err_from_is_err_and c.from_residual-in_err-text.result c.from_residual-in_err-text.ensures.1 in
+    not-begun c.args.out.now c.from_residual-in_err-text.result _ _ (p.1 ∙ ap Err p.2) (inl (inl c.in_err-text.ensures.err))
+
+pub returns : goal.returns
+returns g c =
+    let image = c.as_slice-2.result.now in
+    let old = c.args.out.now in
+    let new = c.change_taken.new.out in
+    run-weaker old new c.change_taken.result _ _
+    (λ run. (
+      image,
+      c.as_slice.result.now,
+      (λ all is. c.as_slice-2.ensures.value ∙ c.in_ok-image.ensures.read all is),
+      subst (IsTextFor g.R.HostFiles.stands c.args.rt.now c.args.edit.now) (sym c.as_slice.ensures.value)
+          c.in_ok-text.ensures.read,
+      (
+        run.0,
+        run.1,
+        told-weaker g.W.Write.contents _ _ _ _ old new (c.change-what.ensures.made image)
+            (c.change-what.ensures.refused image) run.0 run.2,
+      ),
+    )) c.change_taken.ensures

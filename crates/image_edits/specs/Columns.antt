@@ -1,0 +1,10 @@
+-- A text of records as a job stores it. Our own.
+use Rattle.std.specs.Prelude.{ℕ, List}
+use Rattle.keeper_commands.specs.ColumnLines.{plain_text}
+use Rattle.image_edits.specs.declared.edit.Columns.{Columns}
+use Rattle.image_edits.specs.declared.edit.Columns.TheVariants as columns
+
+-- the text with one column for each record
+abbrev pub text_in : Columns → List ℕ → List ℕ
+text_in columns.One text = text
+text_in (columns.Several form) text = plain_text form text

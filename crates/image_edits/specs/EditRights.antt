@@ -1,0 +1,20 @@
+-- What a change may do with the files that it names. Our own.
+use Rattle.std.specs.Prelude.{⊤, ℕ, List}
+use Rattle.image_edits.specs.declared.edit.Edit.{Edit}
+use Rattle.image_edits.specs.declared.edit.Edit.TheVariants as edits
+use Rattle.image_edits.specs.declared.edit.Effect.{Effect}
+use Rattle.image_edits.specs.declared.edit.Effect.TheVariants.{Printed, Written}
+use Rattle.image_file.specs.paths.Rights.{Rights}
+use Rattle.opened_files.specs.Rights.{MayReadImage, MayReadText, MayChangeImage}
+
+module _ {H : Type 0} (rights : Rights H) (host : H) where
+  -- the files of an image are changed, or only what that would print is printed
+  abbrev pub MayEdit : Effect → List ℕ → Type 0
+  MayEdit Written path = MayChangeImage rights host path
+  MayEdit Printed path = MayReadImage rights host path
+
+  -- the file whose bytes a change takes may be read
+  abbrev pub MayReadSource : Edit → Type 0
+  MayReadSource (edits.Put file kind name) = MayReadText rights host file.now
+  MayReadSource (edits.Store records columns loss name) = MayReadText rights host records.now
+  MayReadSource _ = ⊤

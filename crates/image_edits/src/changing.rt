@@ -1,0 +1,80 @@
+//! The image at a path, changed all or nothing.
+ghost use Rattle.std.specs.Prelude.{◌≡◌, IfErr, IfOk, take, vec_items};
+ghost use Rattle.disk_changes.specs.Changes.{IsChanged, IsFit, IsRefused};
+ghost use Rattle.image_edits.specs.Changes.{IsChangeEnd, as_change, stop_refusal as refusal_of};
+ghost use Rattle.opened_files.specs.HostFiles.{IsUnbegun, OfWritten, RunEnds};
+ghost use Rattle.opened_files.specs.Rights.{MayChangeImage};
+
+use command_faults::CommandFault;
+use disk_changes::{Change, Why};
+use disk_layout::Fault;
+use folder_changes::{Stop, change_image};
+use image_file::{EndedFile, HostFiles, Locks};
+use opened_files::{Refusal, opened_and_landed, read_synced, told};
+use shop_log::{ImageFolder, LogNames};
+use std::fs::OpenFile;
+use std::io::Write;
+
+/// What is reported of a change that was stopped.
+fn stop_refusal(stop: Stop) -> Refusal
+    ensures { result ≡ refusal_of stop }
+{
+    match stop {
+        Stop::Refused(Why::Fault(fault)) => Refusal::Fault(fault),
+        Stop::Refused(Why::Short(place)) => Refusal::Short(place),
+        Stop::Refused(Why::ShopFile) => Refusal::ShopFile,
+        Stop::Device => Refusal::Fault(CommandFault::Device),
+        Stop::Output => Refusal::Fault(CommandFault::File),
+    }
+}
+
+/// What came of a change, as a job's end: so many sectors are left.
+pub fn change_end(ended: Result<u16, Stop>) -> Result<Option<Fault>, Refusal>
+    ensures { result ≡ as_change ended }
+{
+    match ended {
+        Ok(0) => Ok(None),
+        Ok(left) => Err(Refusal::Kept(left)),
+        Err(stop) => Err(stop_refusal(stop)),
+    }
+}
+
+/// The bytes of the image at a path and its file, which this program has alone. No log is beside it, and all is synced.
+pub(crate) fn image_to_change<F, R>(rt: &R, path: &str) -> Result<(Vec<u8>, F), Refusal>
+where
+    F: EndedFile + Locks + OpenFile + Drop,
+    R: HostFiles<File = F> + AllocGlobal,
+    requires image { MayChangeImage R.rights rt.now path.now }
+    ensures owned { IfOk result (λ taken. F.IsOwned taken.1) }
+    ensures read { OfWritten R.stands rt.now path.now
+        (λ all. IfOk result (λ taken. vec_items taken.0 ≡ take 174849 all)) }
+    ensures err { IfErr result IsUnbegun }
+{
+    let mut file = opened_and_landed(rt, path)?;
+    let image = read_synced(rt.alloc(), &mut file)?;
+    Ok((image, file))
+}
+
+/// Changes the image at a path, whose bytes and file these are, all or nothing, and prints the change's text.
+pub(crate) fn change_taken<F, R, W>(
+    rt: &R,
+    path: &str,
+    image: &[u8],
+    file: F,
+    what: &Change<'_>,
+    out: &mut W,
+) -> Result<Option<Fault>, Refusal>
+where
+    F: EndedFile + Locks + OpenFile + Drop,
+    R: HostFiles<File = F> + AllocGlobal,
+    W: Write,
+    requires image { MayChangeImage R.rights rt.now path.now }
+    requires owned { F.IsOwned file }
+    requires fit { IsFit what.now }
+    ensures { RunEnds out.old out.new result (IsChangeEnd W.contents (IsChanged what.now image.now)
+        (IsRefused what.now image.now) out.old out.new result) }
+{
+    let names = told(LogNames::of(rt, rt.alloc(), path))?;
+    let mut folder = told(ImageFolder::new(rt, &names, file))?;
+    change_end(change_image(rt.alloc(), &mut folder, image, what, out))
+}

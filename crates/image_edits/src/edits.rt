@@ -1,0 +1,190 @@
+//! A change of an image's files, as the words ask for it, over its bytes and over those at a path.
+ghost use Rattle.std.specs.Prelude.{◌≡◌, IfErr, IfOk, List, ℕ, vec_items};
+ghost use Rattle.command_faults.specs.declared.faults.CommandFault.TheVariants.{NoMemory};
+ghost use Rattle.disk_changes.specs.Changes.{IsChanged, IsFit, IsRefused};
+ghost use Rattle.disk_changes.specs.declared.changes.Changed.{Changed};
+ghost use Rattle.disk_changes.specs.declared.changes.Why.{Why};
+ghost use Rattle.image_edits.specs.Columns.{text_in};
+ghost use Rattle.image_edits.specs.Edits.{IsEdited, IsFitEdit, IsTextFor, IsUnedited};
+ghost use Rattle.opened_files.specs.HostFiles.{IsUnread, OfText};
+ghost use Rattle.image_edits.specs.EditRuns.{IsEditOver};
+ghost use Rattle.opened_files.specs.Rights.{MayChangeImage, MayReadImage, MayReadText};
+ghost use Rattle.image_edits.specs.EditRights.{MayEdit, MayReadSource};
+ghost use Rattle.image_edits.specs.declared.edit.Effect.TheVariants.{Printed, Written};
+ghost use Rattle.opened_files.specs.declared.refusals.Refusal.TheVariants as refusals;
+
+use crate::changing::{change_end, change_taken, image_to_change};
+use crate::edit::{Columns, Edit, Effect};
+use command_faults::CommandFault;
+use disk_changes::Change;
+use disk_layout::Fault;
+use folder_changes::show_change;
+use image_file::{EndedFile, HostFiles, Locks};
+use keeper_commands::plain_lines;
+use opened_files::{Refusal, image_at, script_to_play};
+use std::alloc::Global;
+use std::fs::OpenFile;
+use std::io::{Read, Write};
+
+impl Edit<'_> {
+    /// The change that it asks for. `text` has the bytes of its FILE, or the lines of its RECORDS, in one column each; otherwise
+    /// it isn't read.
+    pub fn change<'n>(&'n self, text: &'n [u8]) -> Change<'n>
+        requires fit { IsFitEdit self.now }
+        ensures fit { IsFit result }
+        ensures made { (image : List ℕ) (made : Changed) → IsChanged result image made → IsEdited self.now text.now image made }
+        ensures refused { (image : List ℕ) (why : Why) → IsRefused result image why → IsUnedited self.now text.now image why }
+    {
+        match *self {
+            Edit::Repair { loss, unowned } => {
+                let (free, cut) = (unowned.is_freed(), loss.shortened());
+                Change::Repair { free, cut }
+            }
+            Edit::RepairSides { loss, unowned } => {
+                let (free, cut) = (unowned.is_freed(), loss.shortened());
+                Change::Rebuild { free, cut }
+            }
+            Edit::Make {
+                length,
+                loss,
+                ref name,
+            } => Change::Make {
+                name: name.as_bytes(),
+                length,
+                cut: loss.shortened(),
+            },
+            Edit::Rename { ref from, ref to } => Change::Rename {
+                from: from.as_bytes(),
+                to: to.as_bytes(),
+            },
+            Edit::Delete { ref name } => Change::Delete {
+                name: name.as_bytes(),
+            },
+            Edit::Put { kind, ref name, .. } => Change::Put {
+                name: name.as_bytes(),
+                kind,
+                content: text,
+            },
+            Edit::Store { loss, ref name, .. } => Change::Store {
+                name: name.as_bytes(),
+                text,
+                cut: loss.shortened(),
+            },
+        }
+    }
+}
+
+/// The text with one column for each record. `NoMemory` if there was none for it.
+fn one_column(alloc: Global, columns: Columns, text: Vec<u8>) -> Result<Vec<u8>, Refusal>
+    ensures ok { IfOk result (λ plain. vec_items plain ≡ text_in columns (vec_items text)) }
+    ensures err { IfErr result (λ refusal. refusal ≡ refusals.Fault NoMemory) }
+{
+    match columns {
+        Columns::One => Ok(text),
+        Columns::Several(form) => match plain_lines(alloc, form, text.as_slice()) {
+            Ok(plain) => Ok(plain),
+            Err(_) => Err(Refusal::Fault(CommandFault::NoMemory)),
+        },
+    }
+}
+
+/// The records at a path, or of standard input, with one column each.
+fn records_at<R>(rt: &R, path: &str, columns: Columns) -> Result<Vec<u8>, Refusal>
+where
+    R: HostFiles + Input + AllocGlobal,
+    requires { MayReadText R.rights rt.now path.now }
+    ensures read { OfText R.stands rt.now path.now (λ all. IfOk result (λ text. vec_items text ≡ text_in columns all)) }
+    ensures err { IfErr result IsUnread }
+{
+    let text = script_to_play(rt, path)?;
+    one_column(rt.alloc(), columns, text)
+}
+
+/// The bytes that a change takes of a file of the host; none if it takes none.
+fn text_for<R>(rt: &R, edit: &Edit<'_>) -> Result<Vec<u8>, Refusal>
+where
+    R: HostFiles + Input + AllocGlobal,
+    requires { MayReadSource R.rights rt.now edit.now }
+    ensures read { IfOk result (λ text. IsTextFor R.stands rt.now edit.now (vec_items text)) }
+    ensures err { IfErr result IsUnread }
+{
+    match *edit {
+        Edit::Put { file, .. } => script_to_play(rt, file),
+        Edit::Store {
+            records,
+            columns,
+            ..
+        } => records_at(rt, records, columns),
+        Edit::Repair { .. } | Edit::RepairSides { .. } | Edit::Make { .. } => Ok(Vec::new(
+            rt.alloc(),
+        )),
+        Edit::Rename { .. } | Edit::Delete { .. } => Ok(Vec::new(rt.alloc())),
+    }
+}
+
+/// Changes the files of the image at a path, all or nothing, and prints the change's text.
+fn edit_written<F, R, W>(
+    rt: &R,
+    path: &str,
+    edit: &Edit<'_>,
+    out: &mut W,
+) -> Result<Option<Fault>, Refusal>
+where
+    F: EndedFile + Locks + OpenFile + Drop,
+    R: HostFiles<File = F> + Input + AllocGlobal,
+    W: Write,
+    requires image { MayChangeImage R.rights rt.now path.now }
+    requires source { MayReadSource R.rights rt.now edit.now }
+    requires fit { IsFitEdit edit.now }
+    ensures { IsEditOver R.rights R.stands W.contents rt.now Written path.now edit.now out.old out.new result }
+{
+    let (image, file) = image_to_change(rt, path)?;
+    let text = text_for(rt, edit)?;
+    let what = edit.change(text.as_slice());
+    change_taken(rt, path, image.as_slice(), file, &what, out)
+}
+
+/// Prints what a change of the image at a path would print, and leaves the image as it is.
+fn edit_shown<F, R, W>(
+    rt: &R,
+    path: &str,
+    edit: &Edit<'_>,
+    out: &mut W,
+) -> Result<Option<Fault>, Refusal>
+where
+    F: Read + Locks + OpenFile + Drop,
+    R: HostFiles<File = F> + Input + AllocGlobal,
+    W: Write,
+    requires image { MayReadImage R.rights rt.now path.now }
+    requires source { MayReadSource R.rights rt.now edit.now }
+    requires fit { IsFitEdit edit.now }
+    ensures { IsEditOver R.rights R.stands W.contents rt.now Printed path.now edit.now out.old out.new result }
+{
+    let image = image_at(rt, path)?;
+    let text = text_for(rt, edit)?;
+    let what = edit.change(text.as_slice());
+    change_end(show_change(rt.alloc(), image.as_slice(), &what, out))
+}
+
+/// Changes the files of the image at a path, all or nothing, and prints the change's text; or only prints it.
+pub fn do_edit<F, R, W>(
+    rt: &R,
+    path: &str,
+    edit: &Edit<'_>,
+    effect: Effect,
+    out: &mut W,
+) -> Result<Option<Fault>, Refusal>
+where
+    F: EndedFile + Read + Locks + OpenFile + Drop,
+    R: HostFiles<File = F> + Input + AllocGlobal,
+    W: Write,
+    requires image { MayEdit R.rights rt.now effect path.now }
+    requires source { MayReadSource R.rights rt.now edit.now }
+    requires fit { IsFitEdit edit.now }
+    ensures { IsEditOver R.rights R.stands W.contents rt.now effect path.now edit.now out.old out.new result }
+{
+    match effect {
+        Effect::Written => edit_written(rt, path, edit, out),
+        Effect::Printed => edit_shown(rt, path, edit, out),
+    }
+}

@@ -1,0 +1,16 @@
+//! Changes of an image, all or nothing, and images that are made anew.
+#![tactic(auto)]
+
+mod changing;
+mod copying;
+mod edit;
+mod edits;
+mod new_disks;
+mod trimming;
+
+pub use changing::change_end;
+pub use copying::{copy_run, do_copying};
+pub use edit::{Columns, Edit, Effect, Unowned};
+pub use edits::do_edit;
+pub use new_disks::{do_new, new_run};
+pub use trimming::{do_trim, trim_run};

@@ -1,0 +1,4 @@
+pub mod EachTold
+pub mod ExtractSaid
+pub mod Listed
+pub mod Looked

@@ -1,0 +1,55 @@
+-- How a look ended, from what its command says of what it printed.
+use Rattle.std.proofs.Common.{◌≡◌, ◌≢◌, List, None, Option, Result, Ok, Err, Some, inl, length, refl, subst, sym, ℕ}
+use Rattle.std.specs.Prelude.{IfErr, IfOk, OnErr, OnOk}
+use Rattle.d64_image.specs.declared.place.Place.{Place}
+use Rattle.disk_layout.specs.declared.faults.Fault.{Fault}
+use Rattle.command_faults.specs.declared.faults.CommandFault.{CommandFault}
+use Rattle.command_faults.specs.declared.faults.CommandFault.TheVariants as faults
+use Rattle.opened_files.specs.Ends.{JobEnd, as_job, as_run, IsPrintEnd, IsQuietPrint}
+use Rattle.image_looks.specs.Looks.{IsTakingEnd, taken_end}
+use Rattle.opened_files.specs.Losses.{IsSeen}
+
+module _ {W : Type 0} (old new : W) where
+  -- of what reports a fault
+  pub printed : (Printed : W → W → Option Fault → Type 0) (Why : CommandFault → Type 0)
+      (ended : Result (Option Fault) CommandFault) (end : JobEnd) → end ≡ as_job ended
+      → IfOk ended (Printed old new) → IfErr ended Why → IfErr ended (λ fault. fault ≢ faults.File → new ≡ old)
+      → IsPrintEnd Printed Why old new end
+  printed Printed Why (Ok found) end is ok err untouched = subst (IsPrintEnd Printed Why old new) (sym is) ok
+  printed Printed Why (Err fault) end is ok err untouched =
+      subst (IsPrintEnd Printed Why old new) (sym is) (err, untouched)
+
+  -- of what reports none
+  pub quietly-printed : (Printed : W → W → Type 0) (Why : CommandFault → Type 0) (ended : Result Unit CommandFault)
+      (end : JobEnd) → end ≡ as_run ended → OnOk ended (Printed old new) → IfErr ended Why
+      → IfErr ended (λ fault. fault ≢ faults.File → new ≡ old) → IsQuietPrint Printed Why old new end
+  quietly-printed Printed Why (Ok _) end is ok err untouched =
+      subst (IsQuietPrint Printed Why old new) (sym is) (refl, ok)
+  quietly-printed Printed Why (Err fault) end is ok err untouched =
+      subst (IsQuietPrint Printed Why old new) (sym is) (err, untouched)
+
+  -- of what is taken out of an image that has the size of a disk
+  pub taken : (Taken : W → W → Type 0) (Why : W → W → CommandFault → Type 0) (image name : List ℕ)
+      (ended : Result Unit CommandFault) (cut : Option Place) (end : JobEnd) → end ≡ taken_end ended cut
+      → (Taken old new → length image ≡ 174848) → OnOk ended (Taken old new) → IfErr ended (Why old new)
+      → IsSeen image (Some name) cut → IsTakingEnd Taken Why image name old new end
+  taken Taken Why image name (Ok _) (Some p) end is size ok err seen =
+      subst (IsTakingEnd Taken Why image name old new) (sym is) (ok, seen.1)
+  taken Taken Why image name (Ok _) None end is size ok err seen =
+      subst (IsTakingEnd Taken Why image name old new) (sym is) (ok, seen (size ok))
+  taken Taken Why image name (Err fault) (Some p) end is size ok err seen =
+      subst (IsTakingEnd Taken Why image name old new) (sym is) (inl err)
+  taken Taken Why image name (Err fault) None end is size ok err seen =
+      subst (IsTakingEnd Taken Why image name old new) (sym is) (inl err)
+
+-- three clauses of what was done are one
+pub if-all : {T E : Type 0} (P Q R : T → Type 0) (ended : Result T E) → IfOk ended P → IfOk ended Q → IfOk ended R
+    → IfOk ended (λ t. P t × Q t × R t)
+if-all P Q R (Ok _) p q r = (p, q, r)
+if-all P Q R (Err _) p q r = tt
+
+-- two clauses of why it wasn't are one
+pub if-both : {E : Type 0} (P : E → Type 0) (Q : Type 0) (ended : Result Unit E) → IfErr ended P → OnErr ended Q
+    → IfErr ended (λ e. P e × Q)
+if-both P Q (Ok _) p q = tt
+if-both P Q (Err _) p q = (p, q)

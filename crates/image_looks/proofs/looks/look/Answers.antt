@@ -1,0 +1,83 @@
+-- How a look ended is how its command did.
+use Rattle.std.proofs.Common.{List, subst, ℕ}
+use Rattle.disk_pictures.specs.Outcomes.{IsMapPrinted, IsPictureFault, IsPicturePrinted, IsPosterPrinted}
+use Rattle.disk_pictures.specs.Views.{AreFreePrinted, IsSectorPrinted, IsViewFault}
+use Rattle.disk_reports.specs.AllFaults.{AreListed}
+use Rattle.disk_reports.specs.Listings.{IsCheckFault, IsListFault, IsListed}
+use Rattle.disk_reports.specs.Outcomes.{IsDescribeFault}
+use Rattle.shop_commands.specs.Shops.{IsShowFault, IsShown}
+use Rattle.image_looks.specs.Looks.{AreBytesTaken, AreRecordsTaken, IsChecked, IsTakingEnd, WhyNoBytes, WhyNoRecords}
+use Rattle.image_looks.proofs.Looked.{if-all, printed, quietly-printed}
+use Rattle.image_looks.proofs.looks.look.Goals as goal
+
+pub returns-in-List : goal.returns-in-List
+returns-in-List g c =
+    let done = c.list_image in
+    rw c.in-List.is (quietly-printed c.args.out.now done.new.out (IsListed g.W.Write.contents c.in-List.form c.args.image.now) (IsListFault c.args.image.now) done.result
+    c.run_end.result c.run_end.ensures done.ensures.ok done.ensures.err done.ensures.untouched)
+
+pub returns-in-Check : goal.returns-in-Check
+returns-in-Check g c =
+    let done = c.check_image in
+    rw c.in-Check.is (printed c.args.out.now done.new.out (IsChecked g.W.Write.contents c.args.image.now) (IsCheckFault c.args.image.now) done.result
+    c.job_end.result c.job_end.ensures (if-all _ _ _ done.result done.ensures.size done.ensures.verdict done.ensures.printed) done.ensures.err done.ensures.untouched)
+
+pub returns-in-Faults : goal.returns-in-Faults
+returns-in-Faults g c =
+    let done = c.faults_image in
+    rw c.in-Faults.is (printed c.args.out.now done.new.out (AreListed g.W.Write.contents c.args.image.now) (IsDescribeFault c.args.image.now) done.result
+    c.job_end-in-Faults.result c.job_end-in-Faults.ensures done.ensures.ok done.ensures.err done.ensures.untouched)
+
+pub returns-in-Show : goal.returns-in-Show
+returns-in-Show g c =
+    let done = c.show_image in
+    rw c.in-Show.is (quietly-printed c.args.out.now done.new.out (IsShown g.W.Write.contents c.args.image.now) (IsShowFault c.args.image.now) done.result
+    c.run_end-in-Show.result c.run_end-in-Show.ensures done.ensures.ok done.ensures.err done.ensures.untouched)
+
+pub returns-in-Map : goal.returns-in-Map
+returns-in-Map g c =
+    let done = c.map_image in
+    rw c.in-Map.is (printed c.args.out.now done.new.out (IsMapPrinted g.W.Write.contents c.args.image.now) (IsPictureFault c.args.image.now) done.result
+    c.job_end-in-Map.result c.job_end-in-Map.ensures done.ensures.ok done.ensures.err done.ensures.untouched)
+
+pub returns-in-Picture : goal.returns-in-Picture
+returns-in-Picture g c =
+    let done = c.picture_image in
+    rw c.in-Picture.is (printed c.args.out.now done.new.out (IsPicturePrinted g.W.Write.contents c.args.image.now) (IsPictureFault c.args.image.now) done.result
+    c.job_end-in-Picture.result c.job_end-in-Picture.ensures done.ensures.ok done.ensures.err done.ensures.untouched)
+
+pub returns-in-Poster : goal.returns-in-Poster
+returns-in-Poster g c =
+    let done = c.poster_image in
+    rw c.in-Poster.is (printed c.args.out.now done.new.out (IsPosterPrinted g.W.Write.contents c.args.image.now) (IsPictureFault c.args.image.now) done.result
+    c.job_end-in-Poster.result c.job_end-in-Poster.ensures done.ensures.ok done.ensures.err done.ensures.untouched)
+
+pub returns-in-Free : goal.returns-in-Free
+returns-in-Free g c =
+    let done = c.free_image in
+    rw c.in-Free.is (quietly-printed c.args.out.now done.new.out (AreFreePrinted g.W.Write.contents c.args.image.now) (IsViewFault c.args.image.now) done.result
+    c.run_end-in-Free.result c.run_end-in-Free.ensures done.ensures.ok done.ensures.err done.ensures.untouched)
+
+pub returns-in-Sector : goal.returns-in-Sector
+returns-in-Sector g c =
+    let done = c.sector_image in
+    rw c.in-Sector.is (quietly-printed c.args.out.now done.new.out (IsSectorPrinted g.W.Write.contents c.args.image.now c.in-Sector.place) (IsViewFault c.args.image.now) done.result
+    c.run_end-in-Sector.result c.run_end-in-Sector.ensures done.ensures.ok done.ensures.err done.ensures.untouched)
+
+pub returns-in-Records : goal.returns-in-Records
+returns-in-Records g c =
+    let at = c.in-Records in
+    let done = c.take_records in
+    rw at.is (subst (λ (name : List ℕ).
+    IsTakingEnd (AreRecordsTaken g.W.Write.contents at.form at.candidates c.args.image.now name)
+    (WhyNoRecords g.W.Write.contents at.form at.candidates c.args.image.now name) c.args.image.now name c.args.out.now
+    done.new.out done.result) c.as_bytes.ensures done.ensures)
+
+pub returns-in-Bytes : goal.returns-in-Bytes
+returns-in-Bytes g c =
+    let at = c.in-Bytes in
+    let done = c.take_bytes in
+    rw at.is (subst (λ (name : List ℕ).
+    IsTakingEnd (AreBytesTaken g.W.Write.contents at.form at.candidates c.args.image.now name)
+    (WhyNoBytes g.W.Write.contents at.form at.candidates c.args.image.now name) c.args.image.now name c.args.out.now
+    done.new.out done.result) c.as_bytes-in-Bytes.ensures done.ensures)

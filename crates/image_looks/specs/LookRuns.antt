@@ -1,0 +1,47 @@
+-- What a job that looks at images comes to over the bytes that the host says. Our own.
+use Rattle.std.specs.Prelude.{ℕ, List, Option, take}
+use Rattle.keeper_commands.specs.declared.rescue.choices.Choice.{Choice}
+use Rattle.image_file.specs.paths.Rights.{Rights}
+use Rattle.image_file.specs.paths.Standing.{Stands}
+use Rattle.image_looks.specs.Comparisons.{IsComparingRun}
+use Rattle.image_looks.specs.Descriptions.{IsObjectOf}
+use Rattle.image_looks.specs.EachImage.{AreHandedOn, IsSeveralEnd, IsReadAt}
+use Rattle.opened_files.specs.Ends.{JobEnd}
+use Rattle.image_looks.specs.Extracts.{IsExtractedTo}
+use Rattle.opened_files.specs.HostFiles.{OfImage, RunEnds}
+use Rattle.image_looks.specs.Looks.{IsLook}
+use Rattle.image_looks.specs.Overviews.{IsOverviewOf}
+use Rattle.image_looks.specs.SheetPages.{IsSheetPrinted}
+use Rattle.image_looks.specs.declared.kinds.Look.{Look}
+
+module _ {H W : Type 0} (rights : Rights H) (stands : H → List ℕ → Stands) (contents : W → Option (List ℕ)) (host : H) where
+  -- a look at the image at a path ended so
+  abbrev pub IsLookedAt : Look → List ℕ → W → W → JobEnd → Type 0
+  IsLookedAt what path old new end = OfImage rights stands host path
+      (λ all. RunEnds old new end (IsLook contents what (take 174849 all) old new end))
+
+  -- two of them were compared
+  abbrev pub IsComparedOver : List ℕ → List ℕ → W → W → JobEnd → Type 0
+  IsComparedOver before after old new end = OfImage rights stands host before (λ first.
+      OfImage rights stands host after (λ second. RunEnds old new end
+      (IsComparingRun contents (take 174849 first) (take 174849 second) old new end)))
+
+  -- its files were made in a folder that is made; nothing is said of that folder
+  abbrev pub IsExtractedFrom : Choice → List ℕ → W → W → JobEnd → Type 0
+  IsExtractedFrom choice path old new end = OfImage rights stands host path
+      (λ all. RunEnds old new end (IsExtractedTo contents choice (take 174849 all) old new end))
+
+  -- the images at these paths were drawn on a sheet
+  abbrev pub AreDrawnOnSheet : List (List ℕ) → W → W → JobEnd → Type 0
+  AreDrawnOnSheet paths old new end =
+      IsSeveralEnd (IsSheetPrinted (IsReadAt rights stands host) contents paths old new) end
+
+  -- each of them was described
+  abbrev pub AreDescribed : List (List ℕ) → W → W → JobEnd → Type 0
+  AreDescribed paths old new end =
+      IsSeveralEnd (AreHandedOn (IsReadAt rights stands host) (IsObjectOf contents) contents paths old new) end
+
+  -- what is asked of each of them was printed after a name
+  abbrev pub AreOverviewed : Look → List (List ℕ) → W → W → JobEnd → Type 0
+  AreOverviewed what paths old new end =
+      IsSeveralEnd (AreHandedOn (IsReadAt rights stands host) (IsOverviewOf contents what) contents paths old new) end

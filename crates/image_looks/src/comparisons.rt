@@ -1,0 +1,46 @@
+//! Two images compared, each read as if it were alone.
+ghost use Rattle.image_looks.specs.Comparisons.{IsComparingRun};
+ghost use Rattle.image_looks.specs.LookRuns.{IsComparedOver};
+ghost use Rattle.opened_files.specs.Rights.{MayReadImage};
+
+use disk_layout::Fault;
+use disk_pictures::compare_images;
+use image_file::{HostFiles, Locks};
+use opened_files::{Refusal, image_at, job_end};
+use std::alloc::Global;
+use std::fs::OpenFile;
+use std::io::{Read, Write};
+
+/// Draws the second of two images with what differs from the first one, and returns the fault that a check of the second one
+/// reports. `ImageSize`; `Layout` if the directory's sectors aren't a chain on track 18, of either image; `NoMemory`: nothing
+/// was printed then. `File` if the output failed.
+pub fn comparing_run<W: Write>(
+    alloc: Global,
+    before: &[u8],
+    after: &[u8],
+    out: &mut W,
+) -> Result<Option<Fault>, Refusal>
+    ensures { IsComparingRun W.contents before.now after.now out.old out.new result }
+{
+    job_end(compare_images(alloc, before, after, out))
+}
+
+/// Compares the images at two paths.
+pub fn do_comparing<F, R, W>(
+    rt: &R,
+    before: &str,
+    after: &str,
+    out: &mut W,
+) -> Result<Option<Fault>, Refusal>
+where
+    F: Read + Locks + OpenFile + Drop,
+    R: HostFiles<File = F> + Input + AllocGlobal,
+    W: Write,
+    requires before { MayReadImage R.rights rt.now before.now }
+    requires after { MayReadImage R.rights rt.now after.now }
+    ensures { IsComparedOver R.rights R.stands W.contents rt.now before.now after.now out.old out.new result }
+{
+    let first = image_at(rt, before)?;
+    let second = image_at(rt, after)?;
+    comparing_run(rt.alloc(), first.as_slice(), second.as_slice(), out)
+}

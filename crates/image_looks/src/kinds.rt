@@ -1,0 +1,47 @@
+//! The kinds of looks at an image.
+
+use d64_image::Place;
+use disk_reports::NameForm;
+use keeper_commands::{ByteForm, Candidates, RecordForm};
+use opened_files::Name;
+
+/// What is printed of one image, which isn't written.
+#[derive(Drop)]
+pub enum Look {
+    /// Its directory, with the names in this form.
+    List(NameForm),
+    /// Whether its layout is clean, and otherwise the first fault that a check finds.
+    Check,
+    /// All faults that hold, that one first, each with the files that it concerns.
+    Faults,
+    /// What it holds of a shop: how far new cards may go, the cards, and the last two requests of each till.
+    Show,
+    /// Which sector is whose, and what a check reports: a line for each track, for a terminal.
+    Map,
+    /// The same as an HTML page with a drawing of the disk.
+    Picture,
+    /// The same as a poster: an SVG file of its own with the same drawing, title, legend and directory.
+    Poster,
+    /// How many sectors of each track its map calls free. Nothing is checked.
+    Free,
+    /// A sector, whose it is, and where its link leads. Nothing is checked.
+    Sector(Place),
+    /// The records of a relative file, a line each.
+    Records {
+        /// How they are printed.
+        form: RecordForm,
+        /// Among which files it is looked for.
+        candidates: Candidates,
+        /// The name of the file, of which the first is taken.
+        name: Name,
+    },
+    /// The bytes of a file of any type.
+    Bytes {
+        /// How they are printed.
+        form: ByteForm,
+        /// Among which files it is looked for.
+        candidates: Candidates,
+        /// The name of the file, of which the first is taken.
+        name: Name,
+    },
+}

@@ -1,0 +1,19 @@
+//! Looks at images: what is printed of one, of several, and what is taken out.
+#![tactic(auto)]
+
+mod comparisons;
+mod descriptions;
+mod each_image;
+mod extracting;
+mod kinds;
+mod looks;
+mod overviews;
+mod sheets;
+
+pub use comparisons::{comparing_run, do_comparing};
+pub use descriptions::do_describing;
+pub use extracting::{do_extracting, extract_run};
+pub use kinds::Look;
+pub use looks::{do_look, look};
+pub use overviews::{do_several, overview_run};
+pub use sheets::do_sheet;

@@ -1,0 +1,156 @@
+//! What is printed of one image: over its bytes, and over those at a path.
+ghost use Rattle.std.specs.Prelude.{◌≡◌, ◌≢◌, IfErr, IfOk, OnOk};
+ghost use Rattle.command_faults.specs.declared.faults.CommandFault.TheVariants as faults;
+ghost use Rattle.disk_reports.specs.AllFaults.{AreListed};
+ghost use Rattle.disk_reports.specs.Outcomes.{IsDescribeFault};
+ghost use Rattle.image_looks.specs.LookRuns.{IsLookedAt};
+ghost use Rattle.image_looks.specs.Looks.{AreBytesTaken, AreRecordsTaken, IsLook, IsTakingEnd, WhyNoBytes, WhyNoRecords, taken_end};
+ghost use Rattle.opened_files.specs.Rights.{MayReadImage};
+
+use crate::kinds::Look;
+use command_faults::{CommandFault, flush};
+use d64_image::Place;
+use disk_layout::Fault;
+use disk_pictures::{free_image, map_image, picture_image, poster_image, sector_image};
+use disk_reports::{check_image, list_faults, list_image};
+use image_file::{HostFiles, Locks};
+use keeper_commands::{
+    ByteForm, Candidates, RecordForm, bytes_image, records_image, unclosed_records_image,
+};
+use opened_files::{Refusal, cut_in, image_at, job_end, run_end};
+use shop_commands::show_image;
+use std::alloc::Global;
+use std::fs::OpenFile;
+use std::io::{Read, Write};
+
+/// Prints all faults of an image that hold, and hands on what the output held back.
+fn faults_image<W: Write>(
+    alloc: Global,
+    image: &[u8],
+    out: &mut W,
+) -> Result<Option<Fault>, CommandFault>
+    ensures ok { IfOk result (AreListed W.contents image.now out.old out.new) }
+    ensures err { IfErr result (IsDescribeFault image.now) }
+    ensures untouched { IfErr result (λ fault. (fault ≢ faults.File) → out.new ≡ out.old) }
+{
+    let found = list_faults(alloc, image, out)?;
+    flush(out)?;
+    Ok(found)
+}
+
+/// How it ended that a file was taken out, which is cut short there, or isn't.
+fn taken_end(ended: Result<(), CommandFault>, cut: Option<Place>) -> Result<Option<Fault>, Refusal>
+    ensures { result ≡ taken_end ended cut }
+{
+    match (ended, cut) {
+        (Ok(()), Some(place)) => Err(Refusal::Short(place)),
+        (ended, _) => run_end(ended),
+    }
+}
+
+/// Prints the records of the first relative file of a name among the candidates.
+fn print_records<W: Write>(
+    alloc: Global,
+    image: &[u8],
+    form: RecordForm,
+    candidates: Candidates,
+    name: &[u8],
+    out: &mut W,
+) -> Result<(), CommandFault>
+    ensures ok { OnOk result (AreRecordsTaken W.contents form candidates image.now name.now out.old out.new) }
+    ensures err { IfErr result (WhyNoRecords W.contents form candidates image.now name.now out.old out.new) }
+{
+    match candidates {
+        Candidates::Closed => records_image(alloc, image, name, form, out),
+        Candidates::All => unclosed_records_image(alloc, image, name, form, out),
+    }
+}
+
+/// The same, and whether they are all that the file had.
+fn take_records<W: Write>(
+    alloc: Global,
+    image: &[u8],
+    form: RecordForm,
+    candidates: Candidates,
+    name: &[u8],
+    out: &mut W,
+) -> Result<Option<Fault>, Refusal>
+    ensures { IsTakingEnd (AreRecordsTaken W.contents form candidates image.now name.now)
+        (WhyNoRecords W.contents form candidates image.now name.now) image.now name.now out.old out.new result }
+{
+    let cut = cut_in(alloc, image, Some(name))?;
+    let ended = print_records(alloc, image, form, candidates, name, out);
+    taken_end(ended, cut)
+}
+
+/// Prints the bytes of the first file of a name among the candidates, and says whether they are all that it had.
+fn take_bytes<W: Write>(
+    alloc: Global,
+    image: &[u8],
+    form: ByteForm,
+    candidates: Candidates,
+    name: &[u8],
+    out: &mut W,
+) -> Result<Option<Fault>, Refusal>
+    ensures { IsTakingEnd (AreBytesTaken W.contents form candidates image.now name.now)
+        (WhyNoBytes W.contents form candidates image.now name.now) image.now name.now out.old out.new result }
+{
+    let cut = cut_in(alloc, image, Some(name))?;
+    let ended = bytes_image(alloc, image, candidates, name, form, out);
+    taken_end(ended, cut)
+}
+
+/// Prints what is asked of an image, and hands on what the output held back. Returns the fault that a check of it reports, if
+/// that is printed.
+///
+/// `ImageSize`, `NoMemory`, and what the command of this look finds wrong with the image: nothing was printed then, unless
+/// the records or bytes of a damaged file are. `File` if the output failed, which may then have a part. `Short` if the file
+/// that was printed is cut short.
+pub fn look<W: Write>(
+    alloc: Global,
+    what: &Look,
+    image: &[u8],
+    out: &mut W,
+) -> Result<Option<Fault>, Refusal>
+    ensures { IsLook W.contents what.now image.now out.old out.new result }
+{
+    match *what {
+        Look::List(form) => run_end(list_image(alloc, image, form, out)),
+        Look::Check => job_end(check_image(alloc, image, out)),
+        Look::Faults => job_end(faults_image(alloc, image, out)),
+        Look::Show => run_end(show_image(alloc, image, out)),
+        Look::Map => job_end(map_image(alloc, image, out)),
+        Look::Picture => job_end(picture_image(alloc, image, out)),
+        Look::Poster => job_end(poster_image(alloc, image, out)),
+        Look::Free => run_end(free_image(alloc, image, out)),
+        Look::Sector(place) => run_end(sector_image(alloc, image, place, out)),
+        Look::Records {
+            form,
+            candidates,
+            ref name,
+        } => take_records(alloc, image, form, candidates, name.as_bytes(), out),
+        Look::Bytes {
+            form,
+            candidates,
+            ref name,
+        } => take_bytes(alloc, image, form, candidates, name.as_bytes(), out),
+    }
+}
+
+/// Prints what is asked of the image at a path, as its shop is now.
+pub fn do_look<F, R, W>(
+    rt: &R,
+    what: &Look,
+    path: &str,
+    out: &mut W,
+) -> Result<Option<Fault>, Refusal>
+where
+    F: Read + Locks + OpenFile + Drop,
+    R: HostFiles<File = F> + Input + AllocGlobal,
+    W: Write,
+    requires { MayReadImage R.rights rt.now path.now }
+    ensures { IsLookedAt R.rights R.stands W.contents rt.now what.now path.now out.old out.new result }
+{
+    let image = image_at(rt, path)?;
+    look(rt.alloc(), what, image.as_slice(), out)
+}

@@ -1,0 +1,50 @@
+-- What a job may do with the files that its words name. Our own.
+use Rattle.std.specs.Prelude.{⊤, ℕ, All, IfSome, List, None, Option, Some}
+use Rattle.ledger_jobs.specs.declared.jobs.Job.{Job}
+use Rattle.ledger_jobs.specs.declared.jobs.Job.TheVariants as jobs
+use Rattle.image_file.specs.paths.Rights.{Look, Rights}
+use Rattle.image_edits.specs.EditRights.{MayEdit, MayReadSource}
+use Rattle.opened_files.specs.Rights.{MayReadImage, MayReadText, MayLook, MayChangeImage, MayMakeImage, MayOverwrite, MayFill}
+
+-- the file that a job reads or writes first; none of a job over several images
+abbrev pub first_file : Job → Option (List ℕ)
+first_file (jobs.Format image tills) = Some image.now
+first_file (jobs.FormatNew image tills) = Some image.now
+first_file (jobs.New image name id) = Some image.now
+first_file (jobs.Look image what) = Some image.now
+first_file (jobs.Change image effect edit) = Some image.now
+first_file (jobs.Play image script) = Some image.now
+first_file (jobs.PlayLogged image script) = Some image.now
+first_file (jobs.Dry script) = Some script.now
+first_file (jobs.Serve image loss) = Some image.now
+first_file (jobs.Copy image copy) = Some image.now
+first_file (jobs.Extract choice image folder) = Some image.now
+first_file (jobs.Trim image) = Some image.now
+first_file (jobs.Compare before after) = Some before.now
+first_file _ = None
+
+module _ {H : Type 0} (rights : Rights H) (host : H) where
+  -- what a job needs of the files that its words name
+  abbrev pub MayDo : Job → Type 0
+  MayDo (jobs.Format image tills) = MayMakeImage rights host image.now × MayOverwrite rights host image.now
+  MayDo (jobs.FormatNew image tills) = MayMakeImage rights host image.now
+  MayDo (jobs.New image name id) = MayMakeImage rights host image.now
+  MayDo (jobs.Look image what) = MayReadImage rights host image.now
+  MayDo (jobs.Change image effect edit) = MayEdit rights host effect image.now × MayReadSource rights host edit
+  MayDo (jobs.Play image script) = MayChangeImage rights host image.now × MayReadText rights host script.now
+  MayDo (jobs.PlayLogged image script) = MayChangeImage rights host image.now × MayReadText rights host script.now
+  MayDo (jobs.Dry script) = MayReadText rights host script.now
+  MayDo (jobs.Serve image loss) = MayChangeImage rights host image.now
+  MayDo (jobs.Copy image copy) = MayReadImage rights host image.now × MayMakeImage rights host copy.now
+  MayDo (jobs.Extract choice image folder) = MayReadImage rights host image.now × MayFill rights host folder.now
+  -- `do_trim` does that job
+  MayDo (jobs.Trim image) = ⊤
+  MayDo (jobs.Sheet images) = All (λ image. MayReadImage rights host image.now) images.items
+  MayDo (jobs.Describe images) = All (λ image. MayReadImage rights host image.now) images.items
+  MayDo (jobs.Compare before after) = MayReadImage rights host before.now × MayReadImage rights host after.now
+  MayDo (jobs.Several what images) = All (λ image. MayReadImage rights host image.now) images.items
+
+  -- what a line for a person below a refusal needs: to read the job's first file, and to look at both that it compares
+  abbrev pub MayExplain : Job → Type 0
+  MayExplain (jobs.Compare before after) = MayReadImage rights host before.now × MayLook rights host after.now
+  MayExplain job = IfSome (first_file job) (MayReadImage rights host)

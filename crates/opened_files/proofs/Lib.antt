@@ -1,0 +1,2 @@
+pub mod HostFiles
+pub mod Named

@@ -1,0 +1,6 @@
+pub mod Ends
+pub mod HostFiles
+pub mod Losses
+pub mod Makings
+pub mod Names
+pub mod Rights

@@ -1,0 +1,49 @@
+-- What becomes of a disk that has lost a part of a file. All of it is our own.
+use Rattle.std.specs.Prelude.{◌≡◌, ℕ, List, ◌⊎◌, Option, Some, None, Result, Err, length}
+use Rattle.damaged_files.specs.declared.sides.planning.Shortened.{Shortened}
+use Rattle.damaged_files.specs.declared.sides.planning.Shortened.TheVariants as cuts
+use Rattle.opened_files.specs.declared.losses.Loss.{Loss}
+use Rattle.opened_files.specs.declared.losses.Loss.TheVariants as losses
+use Rattle.d64_image.specs.declared.place.Place.{Place}
+use Rattle.command_faults.specs.declared.faults.CommandFault.{CommandFault}
+use Rattle.damaged_files.specs.cut.Told.{IsCutShort, IsToldOfImage}
+use Rattle.command_faults.specs.declared.faults.CommandFault.TheVariants as faults
+use Rattle.opened_files.specs.Ends.{JobEnd, as_run}
+use Rattle.opened_files.specs.declared.refusals.Refusal.{Refusal}
+use Rattle.opened_files.specs.declared.refusals.Refusal.TheVariants as refusals
+
+-- what is seen of an image, if it has the size of a disk
+abbrev pub IsSeen : (image : List ℕ) → Option (List ℕ) → Option Place → Type 0
+IsSeen image name (Some p) = (length image ≡ 174848) × IsToldOfImage image name (Some p)
+IsSeen image name None = length image ≡ 174848 → IsToldOfImage image name None
+
+-- Why a job isn't begun that accepts no loss: a file of the image is cut short, and its chain ends there; or there was
+-- no memory to see.
+abbrev pub IsLossFault : (image : List ℕ) → Refusal → Type 0
+IsLossFault image refusal = ((p : Place) × (refusal ≡ refusals.Short p) × IsCutShort image p)
+    ⊎ (refusal ≡ refusals.Fault faults.NoMemory)
+
+-- no file of the image is cut short, or what is lost may be lost
+abbrev pub MayBeLost : (image : List ℕ) → Loss → Type 0
+MayBeLost image loss = (loss ≡ losses.Accepted) ⊎ ((p : Place) → ¬ (IsCutShort image p))
+
+-- whether a job may change the image: a refusal, or none
+abbrev pub IsJudged : (image : List ℕ) → Loss → Option Refusal → Type 0
+IsJudged image loss None = MayBeLost image loss
+IsJudged image loss (Some refusal) = (loss ≡ losses.Refused) × IsLossFault image refusal
+
+-- A job that may change the image ended so. It was refused for what is lost, and what was passed to it is untouched; or a
+-- run over the image ended so.
+abbrev pub IsGuarded : (image : List ℕ) → Loss → (Untouched : Type 0) → (IsRun : JobEnd → Type 0) → JobEnd → Type 0
+IsGuarded image loss Untouched IsRun end =
+    ((refusal : Refusal) × (end ≡ Err refusal) × (loss ≡ losses.Refused) × IsLossFault image refusal × Untouched)
+    ⊎ (MayBeLost image loss × IsRun end)
+
+-- a run that prints no fault and ended so is reported as this end
+abbrev pub IsEndOfRun : (Result Unit CommandFault → Type 0) → JobEnd → Type 0
+IsEndOfRun IsRun end = (ended : Result Unit CommandFault) × (end ≡ as_run ended) × IsRun ended
+
+-- what is done with a file that is cut short, if this is done with what is lost
+abbrev pub shortened : Loss → Shortened
+shortened losses.Refused = cuts.Refused
+shortened losses.Accepted = cuts.Accepted

@@ -1,0 +1,47 @@
+-- What a job may do with the files that its words name, and with the logs beside them. Our own.
+use Rattle.std.specs.Prelude.{◌≢◌, ℕ, List, ◌++◌, codes}
+use Rattle.keeper_commands.specs.rescue.Folders.{StaysInside}
+use Rattle.shop_log.specs.life.LogRights.{MayForgetLog, MayKeepLog, MayReadLog}
+use Rattle.image_file.specs.paths.Rights.{Look, Make, May, MayRead, MayWrite, Read, Rights, Write}
+
+-- the path that stands for standard input, which is never opened
+abbrev pub standard_input : List ℕ
+standard_input = codes "/dev/stdin"
+
+-- the path of a file in a folder
+abbrev pub path_in : List ℕ → List ℕ → List ℕ
+path_in folder name = folder ++ codes "/" ++ name
+
+module _ {H : Type 0} (rights : Rights H) (host : H) where
+  -- a file may be read, with the log beside it
+  abbrev pub MayReadFile : List ℕ → Type 0
+  MayReadFile path = MayRead rights host path × MayReadLog rights host path
+
+  -- an image may be read
+  abbrev pub MayReadImage : List ℕ → Type 0
+  MayReadImage path = path ≢ standard_input → MayReadFile path
+
+  -- a script, a text, or a file whose bytes are put on a disk may be read
+  abbrev pub MayReadText : List ℕ → Type 0
+  MayReadText path = path ≢ standard_input → May rights host Read path
+
+  -- what stands at a path may be asked
+  abbrev pub MayLook : List ℕ → Type 0
+  MayLook path = path ≢ standard_input → May rights host Look path
+
+  -- an image may be written, and its log kept
+  abbrev pub MayChangeImage : List ℕ → Type 0
+  MayChangeImage path = MayWrite rights host path × MayKeepLog rights host path
+
+  -- an image may be made where nothing is
+  abbrev pub MayMakeImage : List ℕ → Type 0
+  MayMakeImage path = May rights host Make path × MayForgetLog rights host path
+
+  -- a file that is there may be overwritten
+  abbrev pub MayOverwrite : List ℕ → Type 0
+  MayOverwrite path = May rights host Write path
+
+  -- a folder may be made, and files in it
+  abbrev pub MayFill : List ℕ → Type 0
+  MayFill folder = May rights host Make folder
+      × ((name : List ℕ) → StaysInside name → May rights host Make (path_in folder name))

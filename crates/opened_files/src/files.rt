@@ -1,0 +1,246 @@
+//! The files that a job names, opened and read.
+ghost use Rattle.std.specs.Prelude.{◌≡◌, IfErr, IfOk, string_bytes, true, vec_items};
+ghost use Rattle.std.proofs.Props.{props};
+ghost use Rattle.opened_files.specs.HostFiles.{IsUnread, OfText};
+ghost use Rattle.opened_files.specs.Rights.{MayMakeImage, MayOverwrite, MayReadText, MayLook};
+ghost use Rattle.opened_files.specs.declared.files.Older.TheVariants.{Kept, Replaced};
+ghost use Rattle.image_file.specs.paths.Rights.{Look, May};
+
+use crate::image_logs::{is_there, see_one_name};
+use crate::refusals::Refusal;
+use command_faults::CommandFault;
+use image_file::{
+    DIRECTORY_START, EndedFile, HostFiles, Identity, Locks, OpensFile, SPOILED_DIRECTORY,
+    read_script, regular, regular_at,
+};
+use shop_log::{LogNames, find_log, forget_log};
+use std::fs::OpenFile;
+use std::io;
+
+/// The name under which standard input is read. It is read as it is, since the program may not be allowed to open it
+/// again.
+pub const STANDARD_INPUT: &str = "/dev/stdin";
+
+/// One more than how many bytes the file has; 0 if the system doesn't say.
+pub(crate) fn room_for<F: OpenFile>(file: &F) -> usize {
+    match file.metadata() {
+        Ok(told) => told.len().saturating_add(1) as usize,
+        Err(_) => 0,
+    }
+}
+
+/// All bytes of a script's file, or of standard input.
+pub(crate) fn script_at<R: HostFiles + Input + AllocGlobal>(
+    rt: &R,
+    path: &str,
+) -> io::Result<Vec<u8>>
+    requires { MayReadText R.rights rt.now path.now }
+    ensures { OfText R.stands rt.now path.now (λ all. IfOk result (λ bytes. vec_items bytes ≡ all)) }
+{
+    if path == STANDARD_INPUT {
+        return read_script(rt.alloc(), rt.reader(), 0);
+    }
+    let file = rt.open_to_read(path)?;
+    let room = room_for(&file);
+    read_script(rt.alloc(), file, room)
+}
+
+/// The same, or why a job isn't begun that needs it: `File` or `NoMemory`.
+pub fn script_to_play<R: HostFiles + Input + AllocGlobal>(
+    rt: &R,
+    path: &str,
+) -> Result<Vec<u8>, Refusal>
+    requires { MayReadText R.rights rt.now path.now }
+    ensures read { OfText R.stands rt.now path.now (λ all. IfOk result (λ script. vec_items script ≡ all)) }
+    ensures err { IfErr result IsUnread }
+{
+    match script_at(rt, path) {
+        Ok(script) => Ok(script),
+        Err(error) => Err(Refusal::Fault(CommandFault::of_io(&error))),
+    }
+}
+
+/// Whether a regular file stands at a path. An error if another thing does.
+fn is_file_at<R: HostFiles>(rt: &R, path: &str) -> io::Result<bool>
+    requires { May R.rights rt.now Look path.now }
+{
+    match regular_at(rt, path) {
+        Ok(_) => Ok(true),
+        Err(error) if error.kind() == io::ErrorKind::NotFound => Ok(false),
+        Err(error) => Err(error),
+    }
+}
+
+/// The log of the image at a path that is written over, if there is one. An error if another file stands there. If the image
+/// is kept, no log is looked for.
+fn older_log<R: HostFiles>(
+    rt: &R,
+    path: &str,
+    names: &LogNames,
+    older: Older,
+) -> io::Result<Option<Identity>>
+    requires makes { MayMakeImage R.rights rt.now path.now }
+    requires leads { R.rights.leads rt.now path.now (string_bytes names.now.image) ≡ true }
+{
+    match older {
+        Older::Replaced => find_log(rt, names),
+        Older::Kept => Ok(None),
+    }
+}
+
+/// Removes this log of the image at a path, whose file this is, and which would win over the new image. The file is
+/// spoiled before, and that is synced: without its log the old image is an older shop.
+fn forget_shop<F: EndedFile, R: HostFiles>(
+    rt: &R,
+    path: &str,
+    names: &LogNames,
+    log: Option<Identity>,
+    file: &mut F,
+) -> io::Result<()>
+    requires makes { MayMakeImage R.rights rt.now path.now }
+    requires leads { R.rights.leads rt.now path.now (string_bytes names.now.image) ≡ true }
+{
+    if log.is_some() {
+        file.put_over(&SPOILED_DIRECTORY, DIRECTORY_START as u64)?;
+        file.sync_whole()?;
+    }
+    forget_log(rt, names, log)
+}
+
+/// What becomes of a file that is there before another is made.
+#[derive(Clone, Copy, Debug, PartialEq, Eq)]
+pub enum Older {
+    /// It is written over, and not cut first.
+    Replaced,
+    /// It stays, and none is made.
+    Kept,
+}
+
+/// The file at a path, which is made or written over; and why it isn't, if no error of the system says that.
+#[derive(Drop)]
+pub struct AtPath<'a, R: HostFiles> {
+    rt: &'a R,
+    path: &'a str,
+    older: Older,
+    refused: Option<Refusal>,
+    // it may be made
+    ghost makes: { MayMakeImage R.rights rt.now path.now } by { Prim.hlevel props },
+    // or written over
+    ghost overwrites: { older ≡ Replaced → MayOverwrite R.rights rt.now path.now } by { Prim.hlevel props },
+}
+
+impl<'a, R: HostFiles> AtPath<'a, R> {
+    /// The file at this path, which isn't opened yet.
+    pub fn new(rt: &'a R, path: &'a str, older: Older) -> AtPath<'a, R>
+        requires makes { MayMakeImage R.rights rt.now path.now }
+        requires overwrites { older ≡ Replaced → MayOverwrite R.rights rt.now path.now }
+    {
+        AtPath {
+            rt,
+            path,
+            older,
+            refused: None,
+        }
+    }
+
+    /// Why it isn't written over: a file or a log stood there that is kept, it wasn't locked, or there was no memory to
+    /// open it.
+    pub fn refused(&self) -> Option<Refusal> {
+        self.refused
+    }
+
+    /// The error, which comes of this refusal.
+    fn refuse(&mut self, refusal: Refusal, error: io::Error) -> io::Error {
+        self.refused = Some(refusal);
+        error
+    }
+}
+
+impl<R: HostFiles + AllocGlobal> AtPath<'_, R> {
+    /// The file, made where none was. If only a log is there, none is made: the log may be all that is left of a shop.
+    fn made(&mut self, names: &LogNames) -> io::Result<R::File>
+        requires { R.rights.leads self.old.rt.now self.old.path.now (string_bytes names.now.image) ≡ true }
+    {
+        if self.older == Older::Kept && is_there(self.rt, names.log())? {
+            let error = io::Error::from(io::ErrorKind::AlreadyExists);
+            return Err(self.refuse(Refusal::Exists, error));
+        }
+        match self.rt.make_file(self.path, 0o666) {
+            Err(error)
+                if self.older == Older::Kept && error.kind() == io::ErrorKind::AlreadyExists => {
+                Err(self.refuse(Refusal::Exists, error))
+            }
+            made => made,
+        }
+    }
+
+    /// The file, opened, or made.
+    fn opened(&mut self, names: &LogNames) -> io::Result<R::File>
+        requires { R.rights.leads self.old.rt.now self.old.path.now (string_bytes names.now.image) ≡ true }
+    {
+        if self.older == Older::Replaced && is_file_at(self.rt, self.path)? {
+            return self.rt.open_to_write(self.path);
+        }
+        self.made(names)
+    }
+}
+
+impl<F, R> AtPath<'_, R>
+where
+    F: EndedFile + Locks + OpenFile + Drop,
+    R: HostFiles<File = F> + AllocGlobal,
+{
+    /// The file, opened or made, which this program has alone; no log stands beside it.
+    fn locked(&mut self) -> io::Result<F> {
+        let (rt, path) = (self.rt, self.path);
+        // before the file is made, since memory may be refused
+        let names = LogNames::of(rt, rt.alloc(), path)?;
+        let log = older_log(rt, path, &names, self.older)?;
+        let mut file = self.opened(&names)?;
+        // another thing may stand there by now
+        regular(OpenFile::metadata(&file))?;
+        if let Err(error) = file.lock_alone() {
+            return Err(self.refuse(Refusal::of_lock(&error), io::Error::from(error)));
+        }
+        if let Err(refusal) = see_one_name(&file) {
+            return Err(self.refuse(refusal, io::ErrorKind::InvalidInput.into()));
+        }
+        forget_shop(rt, path, &names, log, &mut file)?;
+        Ok(file)
+    }
+}
+
+impl<F, R> OpensFile for AtPath<'_, R>
+where
+    F: EndedFile + Locks + OpenFile + Drop,
+    R: HostFiles<File = F> + AllocGlobal,
+{
+    type File = F;
+
+    fn open(&mut self) -> io::Result<F> {
+        match self.locked() {
+            Err(error) if error.kind() == io::ErrorKind::OutOfMemory => {
+                Err(self.refuse(Refusal::Fault(CommandFault::NoMemory), error))
+            }
+            opened => opened,
+        }
+    }
+
+    fn sync_folder(&mut self) -> io::Result<()> {
+        self.rt.sync_folder_of(self.path)
+    }
+}
+
+/// The number of bytes of the regular file at a path. None of standard input, and if the system doesn't say. No file is
+/// opened.
+pub fn size_of<R: HostFiles>(rt: &R, path: &str) -> Option<u64>
+    requires { MayLook R.rights rt.now path.now }
+{
+    if path == STANDARD_INPUT {
+        return None;
+    }
+    match regular_at(rt, path) {
+        Ok(found) => Some(found.len()),
+        Err(_) => None,
+    }
+}

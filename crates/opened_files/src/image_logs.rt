@@ -1,0 +1,182 @@
+//! The log beside an image: it is landed before the image is written, and read in the place of the image.
+ghost use Rattle.std.specs.Prelude.{◌≡◌, IfErr, IfOk, IsNone, false, string_bytes};
+ghost use Rattle.opened_files.specs.Ends.{log_refusal as refusal_of};
+ghost use Rattle.opened_files.specs.HostFiles.{HasNoLog, IsUnbegun, IsUnopened, IsUnread, IsUntaken};
+ghost use Rattle.opened_files.specs.Rights.{MayChangeImage, MayReadFile};
+ghost use Rattle.shop_log.specs.life.LogRights.{MayKeepLogOf};
+ghost use Rattle.image_file.specs.paths.Rights.{Look, May, MayRead, MayWrite};
+ghost use Rattle.image_file.specs.paths.Standing.{AreOf, IsMissing};
+
+use crate::locks::{lock_exclusive, lock_shared};
+use crate::outcomes::told;
+use crate::refusals::Refusal;
+use command_faults::CommandFault;
+use d64_image::IMAGE_BYTES;
+use image_file::{EndedFile, HostFiles, Locks, opened_to_change, opened_to_read};
+use shop_log::{ImageFolder, ImageView, LogFault, LogNames, land_in, sync_names, view_in};
+use std::fs::OpenFile;
+use std::io;
+
+/// What is reported for this fault of a log.
+pub fn log_refusal(fault: &LogFault) -> Refusal
+    ensures { result ≡ refusal_of fault.now }
+{
+    match fault {
+        LogFault::Unfit(_) => Refusal::Log,
+        LogFault::File(error) => Refusal::Fault(CommandFault::of_io(error)),
+    }
+}
+
+/// Whether a file has as many bytes as an image.
+pub(crate) fn is_sized<F: OpenFile>(file: &F) -> Result<bool, Refusal>
+    ensures { IfErr result IsUnread }
+{
+    let found = told(OpenFile::metadata(file))?;
+    Ok(found.len() == IMAGE_BYTES as u64)
+}
+
+/// Refuses a file that hasn't as many bytes as an image: `ImageSize`.
+pub fn see_size<F: OpenFile>(file: &F) -> Result<(), Refusal>
+    ensures { IfErr result IsUnopened }
+{
+    if is_sized(file)? {
+        return Ok(());
+    }
+    Err(Refusal::Fault(CommandFault::ImageSize))
+}
+
+/// Refuses a file that has a second name, by which it would have another log: `TwoNames`.
+pub(crate) fn see_one_name<F: OpenFile>(file: &F) -> Result<(), Refusal>
+    ensures { IfErr result IsUntaken }
+{
+    let found = told(OpenFile::metadata(file))?;
+    if found.nlink() > 1 {
+        return Err(Refusal::TwoNames);
+    }
+    Ok(())
+}
+
+/// Whether anything stands at a path, also a symbolic link that leads nowhere.
+pub(crate) fn is_there<R: HostFiles>(rt: &R, path: &str) -> io::Result<bool>
+    requires { May R.rights rt.now Look path.now }
+    ensures { IsMissing R.stands rt.now path.now → IfOk result (λ there. there ≡ false) }
+{
+    rt.is_named(path)
+}
+
+/// The regular file at a path, opened to be changed, which this program has alone. `InUse` if another program has it;
+/// `TwoNames` if it has a second name.
+pub fn opened_alone<F, R>(rt: &R, path: &str) -> Result<F, Refusal>
+where
+    F: Locks + OpenFile + Drop,
+    R: HostFiles<File = F>,
+    requires { MayWrite R.rights rt.now path.now }
+    ensures owned { IfOk result F.IsOwned }
+    ensures shared { IfOk result F.IsShared }
+    ensures bytes { IfOk result (λ image. AreOf R.stands rt.now path.now (F.unread image)) }
+    ensures err { IfErr result IsUntaken }
+{
+    let mut file = told(opened_to_change(rt, path))?;
+    lock_exclusive(&mut file)?;
+    see_one_name(&file)?;
+    Ok(file)
+}
+
+/// The regular file at a path, opened to be read, which nobody writes while it is read. `InUse`: nothing was read.
+pub fn opened_shared<F, R>(rt: &R, path: &str) -> Result<F, Refusal>
+where
+    F: Locks + Drop,
+    R: HostFiles<File = F>,
+    requires { MayRead R.rights rt.now path.now }
+    ensures shared { IfOk result F.IsShared }
+    ensures bytes { IfOk result (λ file. AreOf R.stands rt.now path.now (F.unread file)) }
+    ensures err { IfErr result IsUnread }
+{
+    let mut file = told(opened_to_read(rt, path))?;
+    lock_shared(&mut file)?;
+    Ok(file)
+}
+
+/// Lands the log that stands beside the image at a path, which this program has alone. `Log` if it gives no image: nothing
+/// was changed.
+fn land_beside<F, R>(rt: &R, names: &LogNames, path: &str) -> Result<(), Refusal>
+where
+    F: EndedFile + OpenFile + Drop,
+    R: HostFiles<File = F> + AllocGlobal,
+    requires image { MayWrite R.rights rt.now path.now }
+    requires log { MayKeepLogOf R.rights rt.now (string_bytes names.now.image) }
+    ensures { IfErr result IsUnbegun }
+{
+    let image = told(opened_to_change(rt, path))?;
+    let mut folder = told(ImageFolder::new(rt, names, image))?;
+    match land_in(rt.alloc(), &mut folder) {
+        Ok(_) => Ok(()),
+        Err(fault) => Err(log_refusal(&fault)),
+    }
+}
+
+/// Ensures that no log stands beside the image at a path, whose file this program has alone. A log that stands there is
+/// landed, and its removal is synced. A program that came before may have been killed after it removed the log. A file of
+/// another size is no image, and its log is left alone.
+fn settle_log<F, R>(rt: &R, path: &str, image: &F) -> Result<(), Refusal>
+where
+    F: EndedFile + Locks + OpenFile + Drop,
+    R: HostFiles<File = F> + AllocGlobal,
+    requires owned { F.IsOwned image.now }
+    requires rights { MayChangeImage R.rights rt.now path.now }
+    ensures { IfErr result IsUnbegun }
+{
+    if !is_sized(image)? {
+        return Ok(());
+    }
+    let names = told(LogNames::of(rt, rt.alloc(), path))?;
+    if told(is_there(rt, names.log()))? {
+        return land_beside(rt, &names, path);
+    }
+    told(sync_names(rt, &names))
+}
+
+/// The image's file at a path, which this program has alone and which is going to be written: a log that stood beside it
+/// was landed, and none is there. `Log` if the log gives no image: nothing was changed. A file of another size is no
+/// image, and its log is left alone.
+pub fn opened_and_landed<F, R>(rt: &R, path: &str) -> Result<F, Refusal>
+where
+    F: EndedFile + Locks + OpenFile + Drop,
+    R: HostFiles<File = F> + AllocGlobal,
+    requires { MayChangeImage R.rights rt.now path.now }
+    ensures owned { IfOk result F.IsOwned }
+    ensures shared { IfOk result F.IsShared }
+    ensures bytes { IfOk result (λ image. AreOf R.stands rt.now path.now (F.unread image)) }
+    ensures err { IfErr result IsUnbegun }
+{
+    let image = opened_alone(rt, path)?;
+    settle_log(rt, path, &image)?;
+    Ok(image)
+}
+
+/// The sectors that the log beside the image at a path gives. None if there is no log, or the image has another size.
+/// `Log` if the log gives none; `TwoNames` if it gives them, and the image has a second name. The image's file is locked
+/// for reading: so none is begun while it is read.
+pub fn logged_image<F, R>(rt: &R, path: &str, image: &F) -> Result<Option<Vec<[u8; 256]>>, Refusal>
+where
+    F: OpenFile + Drop,
+    R: HostFiles<File = F> + AllocGlobal,
+    requires { MayReadFile R.rights rt.now path.now }
+    ensures none { HasNoLog R.rights R.stands rt.now path.now → IfOk result IsNone }
+    ensures err { IfErr result IsUnbegun }
+{
+    if !is_sized(image)? {
+        return Ok(None);
+    }
+    let names = told(LogNames::of(rt, rt.alloc(), path))?;
+    let again = told(opened_to_read(rt, path))?;
+    let mut view = ImageView::new(rt, &names, again);
+    match view_in(rt.alloc(), &mut view) {
+        Ok(None) => Ok(None),
+        Ok(Some(shop)) => {
+            see_one_name(image)?;
+            Ok(Some(shop))
+        }
+        Err(fault) => Err(log_refusal(&fault)),
+    }
+}

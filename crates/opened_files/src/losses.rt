@@ -1,0 +1,61 @@
+//! What a disk has lost of its files.
+ghost use Rattle.std.specs.Prelude.{◌≡◌, IfErr, IfOk, option_map};
+ghost use Rattle.opened_files.specs.Losses.{shortened as shortened_of, IsJudged, IsSeen};
+ghost use Rattle.command_faults.specs.declared.faults.CommandFault.TheVariants.{NoMemory};
+ghost use Rattle.opened_files.specs.declared.refusals.Refusal.TheVariants as refusals;
+
+use crate::refusals::Refusal;
+use command_faults::CommandFault;
+use d64_image::{ImageFault, Place};
+use damaged_files::{Shortened, find_image_cut};
+use disk_layout::Fault;
+use std::alloc::Global;
+
+/// What a job does on a disk that has lost a part of a file.
+#[derive(Clone, Copy, Debug, PartialEq, Eq)]
+pub enum Loss {
+    /// It leaves the disk as it is.
+    Refused,
+    /// It goes on, and what is lost stays lost.
+    Accepted,
+}
+
+impl Loss {
+    /// The same, of a file that is cut short.
+    pub fn shortened(self) -> Shortened
+        ensures { result ≡ shortened_of self }
+    {
+        match self {
+            Loss::Refused => Shortened::Refused,
+            Loss::Accepted => Shortened::Accepted,
+        }
+    }
+}
+
+/// The place where the first file of an image is cut short, of all or of those of a name. None also if the image has
+/// another size, or its disk isn't sound. The only error is `NoMemory`.
+pub fn cut_in(alloc: Global, image: &[u8], name: Option<&[u8]>) -> Result<Option<Place>, Refusal>
+    ensures ok { IfOk result (IsSeen image.now (option_map (λ n. n.now) name.entry)) }
+    ensures err { IfErr result (λ refusal. refusal ≡ refusals.Fault NoMemory) }
+{
+    match find_image_cut(alloc, image, name) {
+        Ok(cut) => Ok(cut),
+        Err(ImageFault::Size) => Ok(None),
+        Err(ImageFault::NoMemory) => Err(Refusal::Fault(CommandFault::NoMemory)),
+    }
+}
+
+/// Why a job isn't begun that changes this image: `Short` if a file of it is cut short and no loss is accepted, or
+/// `NoMemory` to see that.
+pub fn loss_refusal(alloc: Global, image: &[u8], loss: Loss) -> Option<Refusal>
+    ensures { IsJudged image.now loss result }
+{
+    match loss {
+        Loss::Accepted => None,
+        Loss::Refused => match cut_in(alloc, image, None) {
+            Ok(None) => None,
+            Ok(Some(place)) => Some(Refusal::Short(place)),
+            Err(refusal) => Some(refusal),
+        },
+    }
+}

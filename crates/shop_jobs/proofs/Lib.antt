@@ -1,0 +1,12 @@
+pub mod DryTold
+pub mod Durables
+pub mod FormatTold
+pub mod Logged
+pub mod LoggedTold
+pub mod PlayTold
+pub mod PlayedOver
+pub mod ReplyTold
+pub mod ServiceTold
+pub mod ToldSome
+pub mod Unlanded
+pub mod WatchedTold

@@ -1,0 +1,20 @@
+-- The shop that was served is that of the image that the host says.
+use Rattle.std.proofs.Common.{subst, sym}
+use Rattle.std.specs.Prelude.{vec_items}
+use Rattle.shop_jobs.proofs.PlayTold.{logged-at, shop-at}
+use Rattle.opened_files.specs.Ends.{JobEnd}
+use Rattle.shop_jobs.specs.Replies.{IsShopAt}
+use Rattle.shop_jobs.specs.Replies.{IsLoggedService, IsShopOf}
+use Rattle.shop_jobs.proofs.serving_logs.do_logged_serving.Goals as goal
+
+pub returns : goal.returns
+returns g c =
+    let told = g.W.Write.contents in
+    let image = c.as_slice.result.now in
+    let at = IsShopAt g.R.HostFiles.stands c.args.rt.now c.args.path.now in
+    subst (λ (e : JobEnd). IsLoggedService told at c.args.out.now c.serve_printed-ended.new.out e)
+    (sym c.cleared_end.ensures)
+    (logged-at told (IsShopOf image) at
+    (shop-at g.R.HostFiles.stands c.args.rt.now c.args.path.now (vec_items c.in_ok-bytes.bytes) image c.in_ok-bytes.ensures
+    c.as_slice.ensures.value) c.args.out.now c.serve_printed-ended.new.out c.serve_printed-ended.result
+    c.serve_printed-ended.ensures)

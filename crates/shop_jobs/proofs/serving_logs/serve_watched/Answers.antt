@@ -1,0 +1,26 @@
+-- What was passed on, by how the service ended and its log was landed.
+use Rattle.std.proofs.Common.{rules}
+use Rattle.shop_jobs.proofs.LoggedTold.{guarded-quiet, landed-quiet, lent-logged, watched-back}
+use Rattle.shop_jobs.proofs.ServiceTold.{served-all, served-some}
+use Rattle.shop_jobs.proofs.serving_logs.serve_watched.Goals as goal
+
+pub returns : goal.returns
+returns g c =
+    let before = c.new-answers.result in
+    let behind = c.serve_begun-ended.new.answers in
+    let folder = c.serve_begun-ended.result.0 in
+    let end = c.serve_begun-ended.result.1 in
+    record {
+      quiet = lent-logged before behind c.args.out.now _
+          (watched-back before behind c.args.out.now _ c.new-answers.ensures.out (λ same. search rules)) end
+          (landed-quiet before behind g.D.LogFolder.history _
+          (λ left ended done. guarded-quiet _ _ _ c.args.image.now c.args.log left c.args.input.now
+          c.serve_begun-ended.new.input before behind c.args.loss ended done)
+          _ folder end c.serve_begun-ended.ensures.2);
+      some = served-some g.D.LogFolder.history g.I.BatchSource.input g.T.Answers.answering c.args.image.now c.args.log
+          c.args.loss c.args.input.now c.serve_begun-ended.new.input before behind c.args.out.now _ c.new-answers.ensures.out
+          (λ same. search rules) _ folder end c.serve_begun-ended.ensures.2;
+      all = served-all g.D.LogFolder.history g.I.BatchSource.input g.T.Answers.answering c.args.image.now c.args.log
+          c.args.loss c.args.input.now c.serve_begun-ended.new.input before behind c.args.out.now _ c.new-answers.ensures.out
+          (λ same. search rules) _ folder end c.serve_begun-ended.ensures.2;
+    }

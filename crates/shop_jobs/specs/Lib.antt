@@ -1,0 +1,9 @@
+pub mod DurableRuns
+pub mod LandedRuns
+pub mod LoggedPlays
+pub mod LoggedRuns
+pub mod Replies
+pub mod Runs
+pub mod ServiceEnds
+pub mod ShopRuns
+pub mod WatchedFiles

@@ -1,0 +1,25 @@
+//! Shops over a runtime: scripts that are played, and services.
+#![tactic(auto)]
+
+mod durable_runs;
+mod formatting;
+mod guarding;
+mod logged_plays;
+mod logged_runs;
+mod playing;
+mod playing_logs;
+mod reply_lines;
+mod serving_logs;
+mod shop_runs;
+mod watched_files;
+
+pub use durable_runs::play_durably;
+pub use formatting::do_format;
+pub use guarding::serve_logged_guarded;
+pub use logged_plays::play_logged;
+pub use logged_runs::serve_logged;
+pub use playing::{do_dry, do_playing};
+pub use playing_logs::do_logged_playing;
+pub use serving_logs::do_logged_serving;
+pub use shop_runs::{dry_run, play_run};
+pub use watched_files::WhileThere;

@@ -1,0 +1,54 @@
+//! Replies that are printed to a writer that was lent.
+ghost use Rattle.std.specs.Prelude.{◌≡◌, OnErr, OnOk};
+ghost use Rattle.std.specs.Io.KnownBytes.{Appends};
+ghost use Rattle.host_session.specs.runs.Outputs.{line_of};
+ghost use Rattle.line_text.specs.Handed.{AppendsPart};
+ghost use Rattle.shop_jobs.specs.Replies.{lines_to};
+
+use d64_image::Sectors;
+use host_session::{NotTaken, ReplySink, write_whole};
+use request_cards::Reply;
+use std::io::Write;
+
+/// A writer that was lent, to which replies are printed: each on a line of its own, with its LF, in one write.
+#[derive(Drop)]
+pub(crate) struct ReplyLines<'a, W> {
+    out: &'a mut W,
+}
+
+impl<'a, W> ReplyLines<'a, W> {
+    /// Replies go to this writer.
+    pub(crate) fn new(out: &'a mut W) -> ReplyLines<'a, W>
+        ensures same { result.out.ghost_name ≡ out.entry.ghost_name }
+        ensures out { result.out.now ≡ out.old }
+    {
+        ReplyLines { out }
+    }
+}
+
+/// Prints a reply on a line of its own, with its LF, in one write.
+#[inline(always)]
+fn put_reply<W: Write>(out: &mut W, reply: &Reply) -> Result<(), NotTaken>
+    ensures ok { OnOk result (Appends (W.contents out.old) (W.contents out.new) (line_of reply.now)) }
+    ensures err { OnErr result (AppendsPart (W.contents out.old) (W.contents out.new) (line_of reply.now)) }
+{
+    let mut room = [b'\n'; 44];
+    let start = reply.write(&mut room, 43);
+    write_whole(out, &room[start..])
+}
+
+impl<'a, D: Sectors, W: Write> ReplySink<D> for ReplyLines<'a, W> {
+    ghost output = { lines_to W.contents };
+
+    fn tell(&mut self, reply: &Reply, _disk: &D) -> Result<(), NotTaken> {
+        put_reply(self.out, reply)
+    }
+
+    // No contract says what a flush does with the bytes that the writer has buffered.
+    fn hand_on(&mut self) -> Result<(), NotTaken> {
+        match self.out.flush() {
+            Ok(()) => Ok(()),
+            Err(_) => Err(NotTaken),
+        }
+    }
+}

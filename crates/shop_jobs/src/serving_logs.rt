@@ -1,0 +1,289 @@
+//! Serving the shop of the image at a path, over a log beside it.
+ghost use Rattle.std.specs.Prelude.{◌≡◌, Bool, IfOk, IfSome, OnOk, flat_map, length, string_bytes, take, true, vec_items};
+ghost use Rattle.shop_jobs.specs.ServiceEnds.{IsLoggedEnd};
+ghost use Rattle.shop_jobs.specs.LandedRuns.{landing_fault, unlanded as unlanded_end, IsDoneAndLanded, IsLandedEnd};
+ghost use Rattle.shop_jobs.specs.Replies.{IsShopAt, IsLoggedService, IsShopOf, IsToldAll, IsToldSome};
+ghost use Rattle.opened_files.specs.HostFiles.{OfWritten};
+ghost use Rattle.shop_jobs.specs.LoggedRuns.{IsLoggedRun, IsUnlogged};
+ghost use Rattle.opened_files.specs.Losses.{IsEndOfRun, IsGuarded};
+ghost use Rattle.shop_jobs.specs.WatchedFiles.{while_there};
+ghost use Rattle.shop_log.specs.life.LiveLogs.{of_live};
+ghost use Rattle.line_server.specs.logged.Reporting.{of_output};
+ghost use Rattle.opened_files.specs.Rights.{MayChangeImage};
+ghost use Rattle.image_file.specs.paths.Rights.{Look, May, MayWrite};
+ghost use Rattle.image_file.specs.paths.Standing.{AreOf};
+ghost use Rattle.shop_log.specs.life.LogRights.{MayForget, MayKeepLogOf};
+
+use crate::guarding::serve_logged_guarded;
+use crate::reply_lines::ReplyLines;
+use crate::watched_files::{WhileThere, name_of, served_end};
+use command_faults::CommandFault;
+use d64_image::MemDisk;
+use disk_layout::Fault;
+use image_file::{EndedFile, HostFiles, Locks, Stays, opened_to_change};
+use line_server::{Answers, BatchSource};
+use opened_files::{
+    Loss, Refusal, log_refusal, loss_refusal, opened_alone, read_shared, see_size, told,
+};
+use shop_log::{
+    ImageFolder, LiveLog, LogFault, LogFile, LogFolder, LogNames, LogRoom, SystemLog, TouchedDisk,
+    forget_making, land_in,
+};
+use std::alloc::Global;
+use std::fs::OpenFile;
+use std::io::{BufReader, Write};
+
+/// The folder of the image at a path, which this program has alone.
+fn folder_of<'a, F, R>(
+    rt: &'a R,
+    names: &'a LogNames,
+    path: &str,
+) -> Result<ImageFolder<'a, R>, Refusal>
+where
+    F: EndedFile + OpenFile + Drop,
+    R: HostFiles<File = F> + AllocGlobal,
+    requires image { MayWrite R.rights rt.now path.now }
+    requires log { MayKeepLogOf R.rights rt.now (string_bytes names.now.image) }
+{
+    let image = told(opened_to_change(rt, path))?;
+    told(ImageFolder::new(rt, names, image))
+}
+
+/// The sectors of the shop that a folder gives, which the image has from then on. `Log` if its log gives none: nothing
+/// was changed. `Short` if a file of the image is cut short and no loss is accepted.
+fn shop_of<L: LogFile, D: LogFolder<L>, R: AllocGlobal>(
+    rt: &R,
+    folder: &mut D,
+    loss: Loss,
+) -> Result<Vec<[u8; 256]>, Refusal>
+    ensures { IfOk result (λ shop. length shop.items ≡ 683) }
+{
+    let shop = match land_in(rt.alloc(), folder) {
+        Ok(shop) => shop,
+        Err(fault) => return Err(log_refusal(&fault)),
+    };
+    match loss_refusal(rt.alloc(), shop.as_slice().as_flattened(), loss) {
+        None => Ok(shop),
+        Some(refusal) => Err(refusal),
+    }
+}
+
+/// What is reported of a log that can't be landed for this reason: `NoMemory` if memory was refused, otherwise `Device`.
+fn landing_refusal(refusal: &Refusal) -> Refusal
+    ensures { result ≡ landing_fault refusal.now }
+{
+    match refusal {
+        Refusal::Fault(CommandFault::NoMemory) => Refusal::Fault(CommandFault::NoMemory),
+        _ => Refusal::Fault(CommandFault::Device),
+    }
+}
+
+/// How a service ends that ended so, and whose log can't be landed for this fault: a refusal stays what it is.
+fn unlanded(
+    ended: Result<Option<Fault>, Refusal>,
+    fault: &LogFault,
+) -> Result<Option<Fault>, Refusal>
+    ensures { result ≡ unlanded_end ended fault.now }
+{
+    match ended {
+        Ok(_) | Err(Refusal::Fault(CommandFault::File)) => Err(landing_refusal(&log_refusal(
+            fault,
+        ))),
+        Err(refusal) => Err(refusal),
+    }
+}
+
+/// Lands the log of a service that ended so. If a commit of it failed or the image's file has gone, the log stays where
+/// it is, and the next service or change lands it. `NoMemory` or `Device` if it couldn't be landed.
+pub(crate) fn landed_end<L: LogFile, D: LogFolder<L> + Drop>(
+    log: LiveLog<L, D>,
+    ended: Result<Option<Fault>, Refusal>,
+) -> (Option<D>, Result<Option<Fault>, Refusal>)
+    ensures { IsLandedEnd D.history log ended result.0 result.1 }
+{
+    if let Err(Refusal::Fault(CommandFault::Device)) = ended {
+        return (None, ended);
+    }
+    let (folder, landed) = log.end();
+    match landed {
+        Ok(()) => (Some(folder), ended),
+        Err(fault) => (Some(folder), unlanded(ended, &fault)),
+    }
+}
+
+/// Serves the shop of this image over a log that was begun with it, to an input, while the file stays to which the replies
+/// are bound. Then that file is looked for once more, the log is landed, and the folder returned. The log is left where it
+/// is if the file has gone, or a commit failed.
+fn serve_begun<L, D, N, I, T>(
+    alloc: Global,
+    image: &[u8],
+    log: LiveLog<L, D>,
+    loss: Loss,
+    input: &mut I,
+    answers: &mut WhileThere<'_, N, T>,
+) -> (Option<D>, Result<Option<Fault>, Refusal>)
+where
+    L: LogFile,
+    D: LogFolder<L> + Drop,
+    N: Stays,
+    I: BatchSource,
+    T: Answers<TouchedDisk<MemDisk>>,
+    ensures { (gone : Bool) × (answers.new.gone ≡ true → gone ≡ true)
+        × IsDoneAndLanded D.history (λ left ended. IsGuarded image.now loss
+        (IsUnlogged log left input.old input.new answers.old answers.new)
+        (IsEndOfRun (IsLoggedRun (of_live D.history) I.input (of_output (while_there T.answering)) image.now log left
+        input.old input.new answers.old answers.new)) ended) gone result.0 result.1 }
+{
+    let mut log = log;
+    let ended = serve_logged_guarded(alloc, image, &mut log, loss, input, answers);
+    landed_end(log, served_end(ended, answers.has_gone()))
+}
+
+/// Serves the shop of this image as `serve_begun` does, and passes the replies to `out` while the file of this name stays.
+fn serve_watched<L, D, N, I, T>(
+    alloc: Global,
+    image: &[u8],
+    log: LiveLog<L, D>,
+    loss: Loss,
+    input: &mut I,
+    name: N,
+    out: &mut T,
+) -> Result<Option<Fault>, Refusal>
+where
+    L: LogFile,
+    D: LogFolder<L> + Drop,
+    N: Stays + Drop,
+    I: BatchSource,
+    T: Answers<TouchedDisk<MemDisk>>,
+    ensures quiet { IsLoggedEnd out.old out.new result }
+    ensures some { IsToldSome T.answering.output out.old out.new }
+    ensures all { OnOk result (IsToldAll T.answering.output image.now out.old out.new) }
+{
+    let mut answers = WhileThere::new(&name, out);
+    let (_, ended) = serve_begun(alloc, image, log, loss, input, &mut answers);
+    ended
+}
+
+/// Serves the shop of this image over a log that was begun with it, to an input, and prints the replies while the file of
+/// this name stays.
+fn serve_printed<L, D, N, I, W>(
+    alloc: Global,
+    image: &[u8],
+    log: LiveLog<L, D>,
+    loss: Loss,
+    input: &mut I,
+    name: N,
+    out: &mut W,
+) -> Result<Option<Fault>, Refusal>
+where
+    L: LogFile,
+    D: LogFolder<L> + Drop,
+    N: Stays + Drop,
+    I: BatchSource,
+    W: Write,
+    ensures { IsLoggedService W.contents (IsShopOf image.now) out.old out.new result }
+{
+    let mut printer = ReplyLines::new(out);
+    serve_watched(alloc, image, log, loss, input, name, &mut printer)
+}
+
+/// The end of a job over a log that couldn't be made, or renewed. What was made of a further log is removed, since it
+/// would keep the disk full. This is done only while the path leads to the image's file, which only this program may
+/// write.
+pub(crate) fn cleared_end<F: OpenFile, R: HostFiles<File = F>, T>(
+    rt: &R,
+    path: &str,
+    image: &F,
+    names: &LogNames,
+    ended: Result<T, Refusal>,
+) -> Result<T, Refusal>
+    requires image { May R.rights rt.now Look path.now }
+    requires log { MayForget R.rights rt.now (string_bytes names.now.image) }
+    ensures { result ≡ ended }
+{
+    if ended.is_err() && name_of(rt, path, image).is_ok() {
+        let _ = forget_making(rt, names);
+    }
+    ended
+}
+
+/// The bytes of the image in this file, which nobody else writes and of which nothing was read. `Device` if they aren't
+/// those of this shop, which was landed: then the image's path leads to another file.
+fn landed_bytes<F: Locks>(
+    alloc: Global,
+    image: &mut F,
+    shop: &[[u8; 256]],
+) -> Result<Vec<u8>, Refusal>
+    requires shared { F.IsShared image.old }
+    ensures shop { IfOk result (λ bytes. vec_items bytes ≡ flat_map (λ sector. sector) shop.now) }
+    ensures read { IfOk result (λ bytes. IfSome (F.unread image.old) (λ all. vec_items bytes ≡ take 174849 all)) }
+{
+    let bytes = told(read_shared(alloc, image))?;
+    if bytes.as_slice() != shop.as_flattened() {
+        return Err(Refusal::Fault(CommandFault::Device));
+    }
+    Ok(bytes)
+}
+
+/// The bytes of the shop of the image at a path, and a log beside it that was begun with them. A log that stood there was
+/// landed: the image has these bytes then. Other programs may read it from then on.
+pub(crate) fn begun_beside<'a, F, R>(
+    rt: &'a R,
+    path: &str,
+    names: &'a LogNames,
+    image: &mut F,
+    loss: Loss,
+) -> Result<(Vec<u8>, LiveLog<SystemLog<'a, R>, ImageFolder<'a, R>>), Refusal>
+where
+    F: EndedFile + Locks + OpenFile + Drop,
+    R: HostFiles<File = F> + AllocGlobal,
+    requires owned { F.IsOwned image.old }
+    requires shared { F.IsShared image.old }
+    requires bytes { AreOf R.stands rt.now path.now (F.unread image.old) }
+    requires image { MayWrite R.rights rt.now path.now }
+    requires log { MayKeepLogOf R.rights rt.now (string_bytes names.now.image) }
+    ensures { IfOk result (λ begun. OfWritten R.stands rt.now path.now (λ all. vec_items begun.0 ≡ take 174849 all)) }
+{
+    let alloc = rt.alloc();
+    let mut folder = folder_of(rt, names, path)?;
+    let shop = shop_of(rt, &mut folder, loss)?;
+    let room = told(LogRoom::new(alloc).map_err(From::from))?;
+    let bytes = landed_bytes(alloc, image, shop.as_slice())?;
+    let log = match LiveLog::begin(alloc, folder, room, shop) {
+        Ok(log) => log,
+        Err((error, _)) => return cleared_end(rt, path, image, names, told(Err(error))),
+    };
+    match image.lock_shared() {
+        Ok(()) => Ok((bytes, log)),
+        Err(error) => Err(Refusal::of_lock(&error)),
+    }
+}
+
+/// Serves the shop of the image at a path, over a log beside it, to what comes on standard input. Other programs may read
+/// the image meanwhile, by its log, and none may write it. When the input ends, the log is landed: then the image is the
+/// shop's. If the path doesn't lead to the image's file any more, or the file has another length, the reply to the line
+/// at hand is MEDIA. Then, and if this is so when the input ends, the service ends with `Device`, and the log stays.
+pub fn do_logged_serving<F, R, W>(
+    rt: &R,
+    path: &str,
+    loss: Loss,
+    out: &mut W,
+) -> Result<Option<Fault>, Refusal>
+where
+    F: EndedFile + Locks + OpenFile + Drop,
+    R: HostFiles<File = F> + Input + AllocGlobal,
+    W: Write,
+    requires { MayChangeImage R.rights rt.now path.now }
+    ensures { IsLoggedService W.contents (IsShopAt R.stands rt.now path.now) out.old out.new result }
+{
+    let alloc = rt.alloc();
+    let mut image = opened_alone(rt, path)?;
+    see_size(&image)?;
+    // A bare reader of standard input reads a byte a call.
+    let mut input = told(BufReader::new(alloc, rt.reader()))?;
+    let name = name_of(rt, path, &image)?;
+    let names = told(LogNames::of(rt, alloc, path))?;
+    let (bytes, log) = begun_beside(rt, path, &names, &mut image, loss)?;
+    let ended = serve_printed(alloc, bytes.as_slice(), log, loss, &mut input, name, out);
+    cleared_end(rt, path, &image, &names, ended)
+}

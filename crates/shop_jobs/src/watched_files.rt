@@ -1,0 +1,110 @@
+//! Replies that are passed only while the shop's file is there.
+ghost use Rattle.std.specs.Prelude.{◌≡◌, if◌then◌else◌, Err, true};
+ghost use Rattle.command_faults.specs.declared.faults.CommandFault.TheVariants as faults;
+ghost use Rattle.shop_jobs.specs.WatchedFiles.{media_for as media, while_there};
+ghost use Rattle.opened_files.specs.declared.refusals.Refusal.TheVariants as refusals;
+ghost use Rattle.image_file.specs.paths.Rights.{Look, May};
+
+use command_faults::CommandFault;
+use d64_image::Sectors;
+use disk_layout::Fault;
+use host_session::{NotTaken, ReplySink};
+use image_file::{FileName, HostFiles, Stays};
+use line_server::Answers;
+use opened_files::{Refusal, told};
+use request_cards::{Reply, Word};
+use std::fs::OpenFile;
+
+/// The name of the file that was opened at a path. `Device` if the path leads elsewhere by now.
+pub(crate) fn name_of<'a, F: OpenFile, R: HostFiles<File = F>>(
+    rt: &'a R,
+    path: &'a str,
+    file: &F,
+) -> Result<FileName<'a, R>, Refusal>
+    requires { May R.rights rt.now Look path.now }
+{
+    let name = told(FileName::of(rt, path, file))?;
+    if !name.is_there() {
+        return Err(Refusal::Fault(CommandFault::Device));
+    }
+    Ok(name)
+}
+
+/// What is passed in the place of a reply if the file has gone: MEDIA to its request. The reply to a message that is no
+/// request is MEDIA too.
+fn media_for(reply: &Reply) -> Reply
+    ensures { result ≡ media reply.now }
+{
+    match *reply {
+        Reply::Told { till, number, .. } => Reply::Told {
+            till,
+            number,
+            word: Word::Media,
+        },
+        Reply::Syntax => Reply::Syntax,
+        Reply::Cut => Reply::Cut,
+    }
+}
+
+/// An output to which replies are passed while a file stays. Before each is passed, the file is looked for. After it has
+/// gone, MEDIA is passed in the place of the reply, and no other reply.
+#[derive(Drop)]
+pub struct WhileThere<'a, N, T> {
+    file: &'a N,
+    out: &'a mut T,
+    gone: bool,
+}
+
+impl<'a, N, T> WhileThere<'a, N, T> {
+    /// Replies go to this output while the file is there.
+    pub fn new(file: &'a N, out: &'a mut T) -> WhileThere<'a, N, T>
+        ensures same { result.out.ghost_name ≡ out.entry.ghost_name }
+        ensures out { result.out.now ≡ out.old }
+    {
+        WhileThere {
+            file,
+            out,
+            gone: false,
+        }
+    }
+}
+
+impl<N: Stays, T> WhileThere<'_, N, T> {
+    /// Whether the file had gone when a reply was to be passed, or has gone by now: it is looked for once more.
+    pub fn has_gone(&self) -> bool
+        ensures { self.now.gone ≡ true → result ≡ true }
+    {
+        self.gone || !self.file.is_there()
+    }
+}
+
+impl<'a, D: Sectors, N: Stays, T: Answers<D>> ReplySink<D> for WhileThere<'a, N, T> {
+    ghost output = { while_there T.answering };
+
+    fn tell(&mut self, reply: &Reply, disk: &D) -> Result<(), NotTaken> {
+        if !self.gone && self.file.is_there() {
+            return self.out.answer(reply, disk);
+        }
+        self.gone = true;
+        let _ = self.out.answer(&media_for(reply), disk);
+        Err(NotTaken)
+    }
+
+    // Each reply was handed on after it was passed.
+    fn hand_on(&mut self) -> Result<(), NotTaken> {
+        Ok(())
+    }
+}
+
+/// The end of a service that ended so: `Device` if the file had gone.
+pub(crate) fn served_end(
+    ended: Result<Option<Fault>, Refusal>,
+    gone: bool,
+) -> Result<Option<Fault>, Refusal>
+    ensures { result ≡ (if gone then Err (refusals.Fault faults.Device) else ended) }
+{
+    if gone {
+        return Err(Refusal::Fault(CommandFault::Device));
+    }
+    ended
+}
