@@ -16,6 +16,7 @@ use image_file::{EndedFile, HostFiles, Locks, opened_to_change, opened_to_read};
 use shop_log::{ImageFolder, ImageView, LogFault, LogNames, land_in, sync_names, view_in};
 use std::fs::OpenFile;
 use std::io;
+use std::os::unix::fs::MetadataExt;
 
 /// What is reported for this fault of a log.
 pub fn log_refusal(fault: &LogFault) -> Refusal
