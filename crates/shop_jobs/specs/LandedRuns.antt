@@ -1,6 +1,5 @@
 -- How a service over a log ends, whose log is landed then. All of it is our own.
 use Rattle.std.specs.Prelude.{◌≡◌, Bool, if◌then◌else◌, Option, Some, None, Ok, Err, ◌≢◌, ◌⊎◌, IfSome, IsOk, IsSome}
-use Rattle.disk_layout.specs.declared.faults.Fault.{Fault}
 use Rattle.command_faults.specs.declared.faults.CommandFault.TheVariants as faults
 use Rattle.shop_log.specs.declared.life.landing.LogFault.{LogFault}
 use Rattle.opened_files.specs.declared.refusals.Refusal.{Refusal}

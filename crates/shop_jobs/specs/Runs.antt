@@ -1,7 +1,6 @@
 -- What a run of the program ends with, and what it leaves of the output and of the file. All of it is our own.
-use Rattle.std.specs.Prelude.{◌≡◌, ℕ, if◌then◌else◌, List, Option, Some, None, Result, Ok, Err, IfErr, IfOk}
+use Rattle.std.specs.Prelude.{◌≡◌, ℕ, List, Option, Some, None, Result, Ok, Err, IfErr, IfOk}
 use Rattle.command_faults.specs.declared.faults.CommandFault.{CommandFault}
-use Rattle.disk_layout.specs.declared.faults.Fault.{Fault}
 use Rattle.shop_commands.specs.declared.dry_run.DryFault.{DryFault}
 use Rattle.shop_commands.specs.declared.dry_run.DryFault.TheVariants as dry
 use Rattle.command_faults.specs.declared.faults.CommandFault.TheVariants as faults
