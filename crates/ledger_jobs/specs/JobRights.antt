@@ -2,7 +2,7 @@
 use Rattle.std.specs.Prelude.{⊤, ℕ, All, IfSome, List, None, Option, Some}
 use Rattle.ledger_jobs.specs.declared.jobs.Job.{Job}
 use Rattle.ledger_jobs.specs.declared.jobs.Job.TheVariants as jobs
-use Rattle.image_file.specs.paths.Rights.{Look, Rights}
+use Rattle.image_file.specs.paths.Rights.{Rights}
 use Rattle.image_edits.specs.EditRights.{MayEdit, MayReadSource}
 use Rattle.opened_files.specs.Rights.{MayReadImage, MayReadText, MayLook, MayChangeImage, MayMakeImage, MayOverwrite, MayFill}
 

@@ -10,7 +10,6 @@ use Rattle.opened_files.specs.Ends.{JobEnd}
 use Rattle.shop_jobs.specs.Replies.{IsShopAt, IsLoggedService}
 use Rattle.ledger_jobs.specs.declared.jobs.Job.{Job}
 use Rattle.ledger_jobs.specs.declared.jobs.Job.TheVariants as jobs
-use Rattle.image_looks.specs.declared.kinds.Look.{Look}
 use Rattle.opened_files.specs.declared.refusals.Refusal.TheVariants as refusals
 use Rattle.image_looks.specs.LookRuns.{IsLookedAt, IsComparedOver, IsExtractedFrom, AreDrawnOnSheet, AreDescribed, AreOverviewed}
 use Rattle.image_edits.specs.EditRuns.{IsCopiedFrom, IsEditOver}
