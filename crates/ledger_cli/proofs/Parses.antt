@@ -1,5 +1,5 @@
 -- What a job is where its words are parsed.
-use Rattle.std.proofs.Common.{inl, ◌≡◌, Bor, List, Option, Some, true, refl, ap, sym, ◌∙◌, subst, []}
+use Rattle.std.proofs.Common.{◌≡◌, Bor, List, Option, Some, true, refl, ap, sym, ◌∙◌, subst, []}
 use Rattle.std.specs.Prelude.{◌≤◌, ℕ, Bool, false, if◌then◌else◌}
 use Rattle.std.specs.Prelude.{Result, Ok, Err, IfErr, IfOk, MatchResult, codes, option_map}
 use Rattle.clap.specs.Words.{App, FailsBy, HasKind, HasMatchesOf, Kinds, Row, Text, fault_of, found_of, is_simple}

@@ -1,5 +1,5 @@
 -- The file of a play comes of the one that was handed in by the sectors that it was to keep.
-use Rattle.std.proofs.Common.{◌≡◌, ℕ, List, Option, None, Some, Result, Ok, Err, ap, arith, refl, subst, sym, ⊎_elim}
+use Rattle.std.proofs.Common.{ℕ, List, Ok, Err, subst, sym, ⊎_elim}
 use Rattle.std.proofs.Math.Path.{subst₂}
 use Rattle.d64_image.specs.History.{History}
 use Rattle.d64_image.specs.Keeps.{Keeps}
@@ -11,7 +11,6 @@ use Rattle.command_faults.specs.declared.faults.CommandFault.{CommandFault}
 use Rattle.command_faults.specs.declared.faults.CommandFault.TheVariants as faults
 use Rattle.opened_files.specs.Ends.{Ended}
 use Rattle.shop_jobs.specs.Runs.{IsPlayRun}
-use Rattle.disk_layout.specs.declared.faults.Fault.{Fault}
 
 -- a run of a script on a shop, once what it told is handed on
 module _ {D T : Type 0} (h : History D) (o : Output T) (disk : D) (script : List ℕ) (old new : T) (left : D) (s : Shop)

@@ -1,6 +1,6 @@
 -- What comes of a job that is run over the bytes of its files. All of it is our own.
 use Rattle.ledger_cli.specs.Changed.{IsChangeJob}
-use Rattle.std.specs.Prelude.{◌≡◌, ◌⊎◌, ℕ, List, Option, None, Some, Result, Ok, Err, length}
+use Rattle.std.specs.Prelude.{◌≡◌, ◌⊎◌, ℕ, List, Option, None, Some, Ok, Err}
 use Rattle.d64_image.specs.declared.device_as_file.DeviceAsFile.{DeviceAsFile}
 use Rattle.d64_image.specs.declared.mirror.Mirror.{Mirror}
 use Rattle.ledger_cli.specs.Making.{IsImageCopied, IsImageMade}

@@ -1,5 +1,5 @@
 -- The file of a job that changes an image: a disk in memory, and the file that is handed each of its sectors. Our own.
-use Rattle.std.specs.Prelude.{◌≡◌, ◌⊎◌, ℕ, List, Option, None, Some, length}
+use Rattle.std.specs.Prelude.{◌≡◌, ◌⊎◌, ℕ, List, Option, None, length}
 use Rattle.d64_image.specs.Keeps.{Keeps}
 use Rattle.d64_image.specs.KeptDisks.{keeps_device, kept_disk}
 use Rattle.d64_image.specs.Memory.{disk_image, sectors_in}

@@ -1,13 +1,13 @@
 -- The job is that of the subcommand that was met, with the values of its arguments.
-use Rattle.std.proofs.Common.{[], ap, inl, inr, refl, subst, sym, ◌∙◌}
-use Rattle.std.specs.Prelude.{IfOk, MatchResult, codes}
+use Rattle.std.proofs.Common.{ap, inl, inr, refl, subst, sym, ◌∙◌}
+use Rattle.std.specs.Prelude.{codes}
 use Rattle.clap.specs.Words.{found_of, rows_of, subcommand_rows_of}
 use Rattle.line_text.specs.Numbers.{number_in}
 use Rattle.image_edits.specs.declared.edit.Edit.TheVariants as edits
 use Rattle.ledger_jobs.specs.declared.jobs.Job.TheVariants as jobs
 use Rattle.image_looks.specs.declared.kinds.Look.TheVariants as looks
 use Rattle.ledger_jobs.specs.Jobs.{IsFit}
-use Rattle.ledger_cli.specs.Jobs.{IsJob, IsNoJob}
+use Rattle.ledger_cli.specs.Jobs.{IsJob}
 use Rattle.ledger_cli.specs.Flags.{is_given}
 use Rattle.ledger_cli.specs.Forms.{byte_form_in, candidates_in, effect_in}
 use Rattle.ledger_cli.specs.Numbers.{spelled_place}
