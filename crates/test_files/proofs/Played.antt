@@ -1,5 +1,5 @@
 -- What a file kept of a shop while a script was played over it.
-use Rattle.std.proofs.Common.{◌≡◌, List, Ok, Err, Some, refl, subst, sym, ⊎_elim, ℕ}
+use Rattle.std.proofs.Common.{◌≡◌, List, Ok, Err, Some, subst, sym, ⊎_elim, ℕ}
 use Rattle.d64_image.specs.FileDisks.{in_run}
 use Rattle.d64_image.specs.History.{History}
 use Rattle.d64_image.specs.Keeps.{Keeps, KeptOnly}
