@@ -1,7 +1,7 @@
 //! What `ledger serve IMAGE` does and prints, as plain Rust without proofs: the yardstick of serve.sh.
 //! The image has to be a clean shop; the calls of the system are those of the program.
 use std::fs::{File, OpenOptions};
-use std::io::{self, BufRead, BufReader, Write};
+use std::io::{self, BufRead, BufReader};
 use std::process::exit;
 
 mod plain;
@@ -52,7 +52,7 @@ fn owned(image: &str) -> File {
     file
 }
 
-/// The lines at hand, 512 at most, are handled in memory, committed together, and then told one by one.
+/// The lines at hand, 512 at most, are handled in memory, committed together, and then told together.
 fn serve(image: &str) {
     let file = owned(image);
     let loaded = Mirror::load(file.try_clone().unwrap_or_else(|_| refuse("FILE")), false);
@@ -62,30 +62,26 @@ fn serve(image: &str) {
     let mut out = Out { inner: io::stdout().lock(), buffer: [0; ROOM], used: 0 };
     let mut input = BufReader::new(io::stdin().lock());
     let mut line = Vec::with_capacity(KEPT + 2);
-    let mut replies = Out { inner: io::sink(), buffer: [0; ROOM], used: 0 };
-    let mut ends = Vec::with_capacity(512);
     let mut goes_on = true;
     while goes_on {
-        (replies.used, shop.disk.touched) = (0, [false; SECTORS]);
-        ends.clear();
-        while ends.is_empty() || ends.len() < 512 && input.buffer().contains(&b'\n') {
+        shop.disk.touched = [false; SECTORS];
+        let mut lines = 0;
+        while lines == 0 || lines < 512 && input.buffer().contains(&b'\n') {
             goes_on = read_line(&mut input, &mut line);
             if !goes_on {
                 break;
             }
-            play_line(&mut shop, &line, 0, &mut replies);
-            ends.push(replies.used);
+            play_line(&mut shop, &line, 0, &mut out);
+            lines += 1;
         }
         log.commit(&mut shop.disk).unwrap_or_else(|_| refuse("DEVICE"));
-        let mut from = 0;
-        for &end in &ends {
-            if std::fs::metadata(image).is_err() {
-                refuse("DEVICE");
-            }
-            out.buffer[..end - from].copy_from_slice(&replies.buffer[from..end]);
-            (out.used, from) = (end - from, end);
-            out.flush();
+        if lines == 0 {
+            break;
         }
+        if std::fs::metadata(image).is_err() {
+            refuse("DEVICE");
+        }
+        out.flush();
     }
     log.finish().unwrap_or_else(|_| refuse("DEVICE"));
 }

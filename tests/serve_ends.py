@@ -7,12 +7,14 @@ PROGRAM is what `tools/program` prints. It prints a line for each thing tried:
 - a reply comes while the input stays open, and the lines are answered in order, however they come;
 - unfinished, empty, long and `@` lines, bytes that are no text; a line of many megabytes takes no memory;
 - a holder that was killed, readers beside readers (`serve_logs.py` tries what stands beside a log);
-- an output that is full or closed, an input that is a folder, images that are none;
+- an output that is full or closed, an input that is a folder or doesn't wait, images that are none; a limit on a file's length;
+  names that leave no room for a log's;
 - with `strace` installed: the sync of a commit fails once (EIO): `DEVICE`, no reply, and the next `serve` answers the repeat.
 The status is 1 at the first difference."""
 
 import fcntl
 import os
+import resource
 import shutil
 import subprocess
 import sys
@@ -174,6 +176,50 @@ class Ends:
         want(told == "FILE", f"an input that is a folder: {told}")
         self.answered("1,1,S,1,1", "1,1,DONE,1")
 
+    def input_waits_not(self):
+        """A pipe that is set not to wait (O_NONBLOCK): `FILE`, and a person reads what to do."""
+        self.fresh()
+        held = self.image.read_bytes()
+        for words in (["serve", self.image], ["play", self.image, "/dev/stdin"]):
+            out, into = os.pipe()
+            os.set_blocking(out, False)
+            done = subprocess.run([self.program, *map(str, words), "--explain"], stdin=out, capture_output=True, timeout=60)
+            os.close(out)
+            os.close(into)
+            told = done.stderr.decode().splitlines()
+            want((done.returncode, told[0]) == (3, "FILE") and "O_NONBLOCK" in told[1], f"{words[0]}: an input that doesn't wait: {told}")
+        want(self.image.read_bytes() == held, "an input that doesn't wait has changed the image")
+
+    def limited(self):
+        """A limit on a file's length, whose signal is ignored: `FILE`, and the image is as it was."""
+        self.fresh()
+        held = self.image.read_bytes()
+        # this program ignores the signal, and hands that on
+        limits = {"restore_signals": False, "preexec_fn": lambda: resource.setrlimit(resource.RLIMIT_FSIZE, (200000, 200000))}
+        got = self.served(b"1,1,S,1,5\n", **limits)
+        want(got == (3, [], "FILE"), f"a limit on a file's length: {got}")
+        want(self.image.read_bytes() == held, "a limit on a file's length has changed the image")
+        self.answered("1,1,S,1,5", "1,1,DONE,5")
+
+    def long_names(self):
+        """Names of up to 255 bytes: words that read take each; those that need a log say that the name is too long for one."""
+        self.fresh()
+        held = self.image.read_bytes()
+        for length in (247, 248, 251, 252, 255):
+            named = self.folder / ("n" * (length - 4) + ".d64")
+            named.write_bytes(held)
+            for word in ("show", "check", "list", "map", "free"):
+                status, _, told = run(self.program, word, named)
+                want((status, told) == (0, ""), f"{word} of a name of {length} bytes: {status}, {told}")
+            status, replies, told = run(self.program, "serve", named, "--explain", stdin=b"1,1,S,1,5\n")
+            if length == 247:
+                want((status, replies, told) == (0, ["1,1,DONE,5"], ""), f"serve of a name of {length} bytes: {status}, {told}")
+            else:
+                too_long = told.startswith("FILE\n") and "beside" in told and "File name too long" in told
+                want((status, replies) == (3, []) and too_long, f"serve of a name of {length} bytes: {status}, {told}")
+                want(named.read_bytes() == held, f"serve has changed an image with a name of {length} bytes")
+            named.unlink()
+
     def no_image(self):
         """Images that are none: told as `play` tells them, and nothing is read or changed."""
         self.fresh()
@@ -231,8 +277,8 @@ def main():
     with tempfile.TemporaryDirectory() as folder:
         ends = Ends(str(Path(sys.argv[1]).resolve()), Path(folder))
         lines = [ends.reply_while_open, ends.in_order, ends.unfinished, ends.odd_lines, ends.long_line]
-        everywhere = [*lines, ends.output_fails, ends.input_fails, ends.no_image]
-        for tried in [*everywhere, ends.readers]:
+        everywhere = [*lines, ends.output_fails, ends.input_fails, ends.input_waits_not, ends.limited, ends.long_names]
+        for tried in [*everywhere, ends.no_image, ends.readers]:
             tried()
             print(f"{tried.__name__}: {' '.join(tried.__doc__.split())}", flush=True)
         try_device(ends)

@@ -15,6 +15,8 @@ tried:
 - A log that is full is made anew while the service goes on.
 - An image that is moved away ends the service with `DEVICE`, and its log stays; also if that is seen when the input ends.
 - An image with a second name: `TWO NAMES`, status 1, and nothing is changed.
+- Lines that are handed over together cost one look at the image and one write of their replies.
+- A read that is interrupted once, of the log too, is tried again.
 - The order of writes and syncs: zeros, base and names before the first reply; the log before each reply; mark, image, name at the
   end.
 The status is 1 at the first difference."""
@@ -281,6 +283,28 @@ class Logs:
         calls.unlink()
         self.is_shown(self.image, "behind a log that was full")
 
+    def together(self):
+        """The calls for 64 lines that are handed over together."""
+        self.fresh()
+        calls = self.folder / "calls"
+        served = Served(self.program, self.image, before=["strace", "-f", "-qq", "-s", "400", "-o", str(calls), "-e", "trace=statx,write"])
+        self.ask(served, ["1,1,S,1,5"])
+        self.ask(served, self.lines(64))
+        want(served.finish() == (0, [], ""), "the end isn't quiet")
+        texts = re.split(r"write\(1,", calls.read_text())
+        want(len(texts) == 3, f"{len(texts) - 1} writes to the output for one line and then 64")
+        want(texts[1].count('shop.d64", ') == 1, f"{texts[1].count('shop.d64')} looks at the image for 64 lines")
+
+    def interrupted(self):
+        """A read that is interrupted once, behind a kill."""
+        self.killed()
+        reads = ["strace", "-qq", "-o", str(self.folder / "calls"), "-e", "trace=read"]
+        shown = subprocess.run([*reads, self.program, "show", self.image], capture_output=True, check=True).stdout
+        count = (self.folder / "calls").read_text().count("read(")
+        for number in sorted({*range(2, 40), *range(40, count, 37), *range(count - 9, count + 1)}):
+            got = subprocess.run([*reads, "-e", f"inject=read:error=EINTR:when={number}", self.program, "show", self.image], capture_output=True)
+            want((got.returncode, got.stdout, got.stderr) == (0, shown, b""), f"read {number} is interrupted: {got}")
+
     def order(self):
         """The order of the calls."""
         self.fresh()
@@ -291,7 +315,7 @@ class Logs:
         want(served.finish() == (0, [], ""), "the end isn't quiet")
         steps = list(steps_of(calls.read_text(), self.folder))
         wanted = ["lock image", "sync image", "sync folder", "make new", "sync new", "write new", "sync new", "write new", "sync new", "sync folder",
-                  "rename", "sync folder", "share image", "write log", "sync log", "reply", "write log", "sync log", *["reply"] * 4,
+                  "rename", "sync folder", "share image", "write log", "sync log", "reply", "write log", "sync log", "reply", "reply",
                   "sync image", "sync folder", "write log", "sync log", "write image", "sync image", "remove log", "sync folder"]
         want(steps == wanted, f"the calls are {steps}")
 
@@ -339,7 +363,7 @@ def main():
         logs = Logs(str(Path(sys.argv[1]).resolve()), Path(folder).resolve(), draw, bursts)
         print(f"beside a service: {logs.beside()} views, each the shop of the answered lines", flush=True)
         tried = [logs.after_a_kill, logs.refused, logs.alone, logs.two_names, logs.replaced_at_the_end, logs.moved]
-        tried += [logs.full, logs.order] if shutil.which("strace") else []
+        tried += [logs.full, logs.together, logs.interrupted, logs.order] if shutil.which("strace") else []
         for one in tried:
             one()
             print(f"{' '.join(one.__doc__.split())} as it has to be", flush=True)

@@ -6,7 +6,7 @@ mod cut;
 // Side sectors of relative files, built anew from the files' chains.
 mod sides;
 
-pub use cut::cuts::find_cut;
+pub use cut::cuts::{find_cut, sound_cut};
 pub use cut::images::find_image_cut;
 pub use cut::laws::whole_is_uncut;
 pub use sides::planning::Shortened;

@@ -1,5 +1,5 @@
 -- How a look ended, from what its command says of what it printed.
-use Rattle.std.proofs.Common.{◌≡◌, ◌≢◌, List, None, Option, Result, Ok, Err, Some, inl, length, refl, subst, sym, ℕ}
+use Rattle.std.proofs.Common.{◌≡◌, ◌≢◌, None, Option, Result, Ok, Err, Some, refl, subst, sym}
 use Rattle.std.specs.Prelude.{IfErr, IfOk, OnErr, OnOk}
 use Rattle.d64_image.specs.declared.place.Place.{Place}
 use Rattle.disk_layout.specs.declared.faults.Fault.{Fault}
@@ -7,7 +7,6 @@ use Rattle.command_faults.specs.declared.faults.CommandFault.{CommandFault}
 use Rattle.command_faults.specs.declared.faults.CommandFault.TheVariants as faults
 use Rattle.opened_files.specs.Ends.{JobEnd, as_job, as_run, IsPrintEnd, IsQuietPrint}
 use Rattle.image_looks.specs.Looks.{IsTakingEnd, taken_end}
-use Rattle.opened_files.specs.Losses.{IsSeen}
 
 module _ {W : Type 0} (old new : W) where
   -- of what reports a fault
@@ -28,19 +27,13 @@ module _ {W : Type 0} (old new : W) where
   quietly-printed Printed Why (Err fault) end is ok err untouched =
       subst (IsQuietPrint Printed Why old new) (sym is) (err, untouched)
 
-  -- of what is taken out of an image that has the size of a disk
-  pub taken : (Taken : W → W → Type 0) (Why : W → W → CommandFault → Type 0) (image name : List ℕ)
-      (ended : Result Unit CommandFault) (cut : Option Place) (end : JobEnd) → end ≡ taken_end ended cut
-      → (Taken old new → length image ≡ 174848) → OnOk ended (Taken old new) → IfErr ended (Why old new)
-      → IsSeen image (Some name) cut → IsTakingEnd Taken Why image name old new end
-  taken Taken Why image name (Ok _) (Some p) end is size ok err seen =
-      subst (IsTakingEnd Taken Why image name old new) (sym is) (ok, seen.1)
-  taken Taken Why image name (Ok _) None end is size ok err seen =
-      subst (IsTakingEnd Taken Why image name old new) (sym is) (ok, seen (size ok))
-  taken Taken Why image name (Err fault) (Some p) end is size ok err seen =
-      subst (IsTakingEnd Taken Why image name old new) (sym is) (inl err)
-  taken Taken Why image name (Err fault) None end is size ok err seen =
-      subst (IsTakingEnd Taken Why image name old new) (sym is) (inl err)
+  -- of what is taken out of an image
+  pub taken : (Taken : W → W → Option Place → Type 0) (Why : W → W → CommandFault → Type 0)
+      (ended : Result (Option Place) CommandFault) (end : JobEnd) → end ≡ taken_end ended → IfOk ended (Taken old new)
+      → IfErr ended (Why old new) → IsTakingEnd Taken Why old new end
+  taken Taken Why (Ok (Some p)) end is ok err = subst (IsTakingEnd Taken Why old new) (sym is) ok
+  taken Taken Why (Ok None) end is ok err = subst (IsTakingEnd Taken Why old new) (sym is) ok
+  taken Taken Why (Err fault) end is ok err = subst (IsTakingEnd Taken Why old new) (sym is) err
 
 -- three clauses of what was done are one
 pub if-all : {T E : Type 0} (P Q R : T → Type 0) (ended : Result T E) → IfOk ended P → IfOk ended Q → IfOk ended R
@@ -49,7 +42,7 @@ if-all P Q R (Ok _) p q r = (p, q, r)
 if-all P Q R (Err _) p q r = tt
 
 -- two clauses of why it wasn't are one
-pub if-both : {E : Type 0} (P : E → Type 0) (Q : Type 0) (ended : Result Unit E) → IfErr ended P → OnErr ended Q
+pub if-both : {T E : Type 0} (P : E → Type 0) (Q : Type 0) (ended : Result T E) → IfErr ended P → OnErr ended Q
     → IfErr ended (λ e. P e × Q)
 if-both P Q (Ok _) p q = tt
 if-both P Q (Err _) p q = (p, q)

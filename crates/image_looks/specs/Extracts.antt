@@ -40,7 +40,7 @@ IsExtractEnd files contents choice image folder left old new end =
     ((end ≡ Err (refusals.Fault faults.NoMemory)) × (left ≡ folder) × (new ≡ old))
     ⊎ ((ended : Result (Option Fault) CommandFault) × (cut : Option Place)
     × MatchResult ended (IsExtracted files choice image folder left) (IsExtractFault files choice image folder left)
-    × IsSeen image None cut × IsExtractTold contents (refusal_of ended cut) old new end)
+    × IsSeen image cut × IsExtractTold contents (refusal_of ended cut) old new end)
 
 -- the same, if nothing is known of the folder
 abbrev pub IsExtractSaid : {W : Type 0} → (W → Option (List ℕ)) → Choice → (image : List ℕ) → W → W → JobEnd → Type 0

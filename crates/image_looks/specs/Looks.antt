@@ -1,52 +1,47 @@
 -- What comes of a look at an image: what it prints, and why it doesn't. All of it is our own.
-use Rattle.std.specs.Prelude.{◌≡◌, ◌⊎◌, ℕ, List, None, Option, Some, Result, Ok, Err, length}
+use Rattle.std.specs.Prelude.{◌≡◌, ℕ, List, None, Option, Some, Result, Ok, Err, length}
 use Rattle.std.specs.Io.KnownBytes.{Appends}
 use Rattle.d64_image.specs.Memory.{sectors_in}
 use Rattle.d64_image.specs.declared.place.Place.{Place}
 use Rattle.disk_layout.specs.declared.faults.Fault.{Fault}
-use Rattle.damaged_files.specs.cut.Told.{IsToldOfImage}
 use Rattle.disk_pictures.specs.Outcomes.{IsMapPrinted, IsPictureFault, IsPicturePrinted, IsPosterPrinted}
 use Rattle.disk_pictures.specs.Views.{AreFreePrinted, IsSectorPrinted, IsViewFault}
 use Rattle.disk_reports.specs.AllFaults.{AreListed}
 use Rattle.disk_reports.specs.Listings.{IsCheckFault, IsListFault, IsListed, IsVerdict}
 use Rattle.disk_reports.specs.Outcomes.{IsDescribeFault}
 use Rattle.disk_reports.specs.Texts.{verdict_text}
-use Rattle.keeper_commands.specs.Printed.{AreBytesPrinted, AreRecordsPrinted, AreUnclosedPrinted, IsBytesFault, IsBytesPart, IsRecordsFault, IsRecordsPart, IsUnclosedFault, IsUnclosedPart}
+use Rattle.keeper_commands.specs.Printed.{AreBytesTaken, AreRecordsTaken as AreClosedTaken, AreUnclosedTaken, IsBytesFault, IsBytesPart, IsRecordsFault, IsRecordsPart, IsUnclosedFault, IsUnclosedPart}
 use Rattle.keeper_commands.specs.declared.finding.Candidates.{Candidates}
 use Rattle.keeper_commands.specs.declared.finding.Candidates.TheVariants.{All, Closed}
 use Rattle.keeper_commands.specs.declared.forms.ByteForm.{ByteForm}
 use Rattle.keeper_commands.specs.declared.forms.RecordForm.{RecordForm}
 use Rattle.shop_commands.specs.Shops.{IsShowFault, IsShown}
 use Rattle.command_faults.specs.declared.faults.CommandFault.{CommandFault}
-use Rattle.command_faults.specs.declared.faults.CommandFault.TheVariants as faults
 use Rattle.opened_files.specs.Ends.{JobEnd, IsPrintEnd, IsQuietPrint}
 use Rattle.opened_files.specs.Names.{name_bytes}
 use Rattle.image_looks.specs.declared.kinds.Look.{Look}
 use Rattle.image_looks.specs.declared.kinds.Look.TheVariants as looks
 use Rattle.opened_files.specs.declared.refusals.Refusal.TheVariants as refusals
 
--- how it ended that a file was taken out, which is cut short there, or isn't
-abbrev pub taken_end : Result Unit CommandFault → Option Place → JobEnd
-taken_end (Ok _) (Some p) = Err (refusals.Short p)
-taken_end (Ok _) None = Ok None
-taken_end (Err fault) _ = Err (refusals.Fault fault)
+-- how it ended that a file was taken out: it is all there is of it, or it is cut short there
+abbrev pub taken_end : Result (Option Place) CommandFault → JobEnd
+taken_end (Ok None) = Ok None
+taken_end (Ok (Some p)) = Err (refusals.Short p)
+taken_end (Err fault) = Err (refusals.Fault fault)
 
--- The file of a name was taken out of an image, and then it is reported whether that is all that the file had; or it
--- wasn't. There may be no memory to see, and then nothing was printed.
-abbrev pub IsTakingEnd : {W : Type 0} → (Taken : W → W → Type 0) → (Why : W → W → CommandFault → Type 0)
-    → (image name : List ℕ) → W → W → JobEnd → Type 0
-IsTakingEnd Taken Why image name old new (Ok None) = Taken old new × IsToldOfImage image (Some name) None
-IsTakingEnd Taken Why image name old new (Err (refusals.Short p)) =
-    Taken old new × IsToldOfImage image (Some name) (Some p)
-IsTakingEnd Taken Why image name old new (Err (refusals.Fault fault)) =
-    Why old new fault ⊎ ((fault ≡ faults.NoMemory) × (new ≡ old))
-IsTakingEnd Taken Why image name old new _ = ⊥
+-- a file was taken out of an image, and this file is cut short there, or isn't; or it wasn't
+abbrev pub IsTakingEnd : {W : Type 0} → (Taken : W → W → Option Place → Type 0) → (Why : W → W → CommandFault → Type 0)
+    → W → W → JobEnd → Type 0
+IsTakingEnd Taken Why old new (Ok None) = Taken old new None
+IsTakingEnd Taken Why old new (Err (refusals.Short p)) = Taken old new (Some p)
+IsTakingEnd Taken Why old new (Err (refusals.Fault fault)) = Why old new fault
+IsTakingEnd Taken Why old new _ = ⊥
 
 module _ {W : Type 0} (contents : W → Option (List ℕ)) where
-  -- the records of the file of a name were printed
-  abbrev pub AreRecordsTaken : RecordForm → Candidates → (image name : List ℕ) → W → W → Type 0
-  AreRecordsTaken form Closed image name old new = AreRecordsPrinted contents form image name old new
-  AreRecordsTaken form All image name old new = AreUnclosedPrinted contents form image name old new None
+  -- the records of the file of a name were printed, and it is cut short there, or isn't
+  abbrev pub AreRecordsTaken : RecordForm → Candidates → (image name : List ℕ) → W → W → Option Place → Type 0
+  AreRecordsTaken form Closed image name old new cut = AreClosedTaken contents form image name old new cut
+  AreRecordsTaken form All image name old new cut = AreUnclosedTaken contents form image name old new cut
 
   -- why they weren't, or not surely all of them, and what was printed then
   abbrev pub WhyNoRecords : RecordForm → Candidates → (image name : List ℕ) → W → W → CommandFault → Type 0
@@ -55,10 +50,7 @@ module _ {W : Type 0} (contents : W → Option (List ℕ)) where
   WhyNoRecords form All image name old new fault =
       IsUnclosedFault contents form image name old new fault × IsUnclosedPart contents form image name old new
 
-  -- its bytes were
-  abbrev pub AreBytesTaken : ByteForm → Candidates → (image name : List ℕ) → W → W → Type 0
-  AreBytesTaken form candidates image name old new = AreBytesPrinted contents form candidates image name old new None
-
+  -- why its bytes weren't
   abbrev pub WhyNoBytes : ByteForm → Candidates → (image name : List ℕ) → W → W → CommandFault → Type 0
   WhyNoBytes form candidates image name old new fault =
       IsBytesFault contents form candidates image name old new fault
@@ -83,7 +75,7 @@ module _ {W : Type 0} (contents : W → Option (List ℕ)) where
       IsQuietPrint (IsSectorPrinted contents image p) (IsViewFault image) old new end
   IsLook (looks.Records form candidates name) image old new end =
       IsTakingEnd (AreRecordsTaken form candidates image (name_bytes name))
-      (WhyNoRecords form candidates image (name_bytes name)) image (name_bytes name) old new end
+      (WhyNoRecords form candidates image (name_bytes name)) old new end
   IsLook (looks.Bytes form candidates name) image old new end =
-      IsTakingEnd (AreBytesTaken form candidates image (name_bytes name))
-      (WhyNoBytes form candidates image (name_bytes name)) image (name_bytes name) old new end
+      IsTakingEnd (AreBytesTaken contents form candidates image (name_bytes name))
+      (WhyNoBytes form candidates image (name_bytes name)) old new end

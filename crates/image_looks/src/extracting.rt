@@ -139,7 +139,7 @@ pub fn extract_run<N: NewFolder, W: Write>(
 ) -> Result<Option<Fault>, Refusal>
     ensures { IsExtractEnd N.files W.contents choice image.now folder.old folder.new out.old out.new result }
 {
-    let cut = cut_in(alloc, image, None)?;
+    let cut = cut_in(alloc, image)?;
     let ended = extract_image(alloc, choice, image, folder);
     tell_extracted(extract_refusal(ended, cut), out)
 }

@@ -1,10 +1,10 @@
 //! What is printed of one image: over its bytes, and over those at a path.
-ghost use Rattle.std.specs.Prelude.{◌≡◌, ◌≢◌, IfErr, IfOk, OnOk};
+ghost use Rattle.std.specs.Prelude.{◌≡◌, ◌≢◌, IfErr, IfOk};
 ghost use Rattle.command_faults.specs.declared.faults.CommandFault.TheVariants as faults;
 ghost use Rattle.disk_reports.specs.AllFaults.{AreListed};
 ghost use Rattle.disk_reports.specs.Outcomes.{IsDescribeFault};
 ghost use Rattle.image_looks.specs.LookRuns.{IsLookedAt};
-ghost use Rattle.image_looks.specs.Looks.{AreBytesTaken, AreRecordsTaken, IsLook, IsTakingEnd, WhyNoBytes, WhyNoRecords, taken_end};
+ghost use Rattle.image_looks.specs.Looks.{AreRecordsTaken, IsLook, WhyNoRecords, taken_end as end_of};
 ghost use Rattle.opened_files.specs.Rights.{MayReadImage};
 
 use crate::kinds::Look;
@@ -14,10 +14,8 @@ use disk_layout::Fault;
 use disk_pictures::{free_image, map_image, picture_image, poster_image, sector_image};
 use disk_reports::{check_image, list_faults, list_image};
 use image_file::{HostFiles, Locks};
-use keeper_commands::{
-    ByteForm, Candidates, RecordForm, bytes_image, records_image, unclosed_records_image,
-};
-use opened_files::{Refusal, cut_in, image_at, job_end, run_end};
+use keeper_commands::{Candidates, RecordForm, bytes_image, records_image, unclosed_records_image};
+use opened_files::{Refusal, image_at, job_end, run_end};
 use shop_commands::show_image;
 use std::alloc::Global;
 use std::fs::OpenFile;
@@ -38,35 +36,18 @@ fn faults_image<W: Write>(
     Ok(found)
 }
 
-/// How it ended that a file was taken out, which is cut short there, or isn't.
-fn taken_end(ended: Result<(), CommandFault>, cut: Option<Place>) -> Result<Option<Fault>, Refusal>
-    ensures { result ≡ taken_end ended cut }
+/// How it ended that a file was taken out: it is all there is of it, or it is cut short there.
+fn taken_end(ended: Result<Option<Place>, CommandFault>) -> Result<Option<Fault>, Refusal>
+    ensures { result ≡ end_of ended }
 {
-    match (ended, cut) {
-        (Ok(()), Some(place)) => Err(Refusal::Short(place)),
-        (ended, _) => run_end(ended),
+    match ended {
+        Ok(None) => Ok(None),
+        Ok(Some(place)) => Err(Refusal::Short(place)),
+        Err(fault) => Err(Refusal::Fault(fault)),
     }
 }
 
-/// Prints the records of the first relative file of a name among the candidates.
-fn print_records<W: Write>(
-    alloc: Global,
-    image: &[u8],
-    form: RecordForm,
-    candidates: Candidates,
-    name: &[u8],
-    out: &mut W,
-) -> Result<(), CommandFault>
-    ensures ok { OnOk result (AreRecordsTaken W.contents form candidates image.now name.now out.old out.new) }
-    ensures err { IfErr result (WhyNoRecords W.contents form candidates image.now name.now out.old out.new) }
-{
-    match candidates {
-        Candidates::Closed => records_image(alloc, image, name, form, out),
-        Candidates::All => unclosed_records_image(alloc, image, name, form, out),
-    }
-}
-
-/// The same, and whether they are all that the file had.
+/// Prints the records of the first relative file of a name among the candidates. Returns where this file is cut short.
 fn take_records<W: Write>(
     alloc: Global,
     image: &[u8],
@@ -74,30 +55,14 @@ fn take_records<W: Write>(
     candidates: Candidates,
     name: &[u8],
     out: &mut W,
-) -> Result<Option<Fault>, Refusal>
-    ensures { IsTakingEnd (AreRecordsTaken W.contents form candidates image.now name.now)
-        (WhyNoRecords W.contents form candidates image.now name.now) image.now name.now out.old out.new result }
+) -> Result<Option<Place>, CommandFault>
+    ensures ok { IfOk result (AreRecordsTaken W.contents form candidates image.now name.now out.old out.new) }
+    ensures err { IfErr result (WhyNoRecords W.contents form candidates image.now name.now out.old out.new) }
 {
-    let cut = cut_in(alloc, image, Some(name))?;
-    let ended = print_records(alloc, image, form, candidates, name, out);
-    taken_end(ended, cut)
-}
-
-/// Prints the bytes of the first file of a name among the candidates, and says whether they are all that it had.
-fn take_bytes<W: Write>(
-    alloc: Global,
-    image: &[u8],
-    form: ByteForm,
-    candidates: Candidates,
-    name: &[u8],
-    out: &mut W,
-) -> Result<Option<Fault>, Refusal>
-    ensures { IsTakingEnd (AreBytesTaken W.contents form candidates image.now name.now)
-        (WhyNoBytes W.contents form candidates image.now name.now) image.now name.now out.old out.new result }
-{
-    let cut = cut_in(alloc, image, Some(name))?;
-    let ended = bytes_image(alloc, image, candidates, name, form, out);
-    taken_end(ended, cut)
+    match candidates {
+        Candidates::Closed => records_image(alloc, image, name, form, out),
+        Candidates::All => unclosed_records_image(alloc, image, name, form, out),
+    }
 }
 
 /// Prints what is asked of an image, and hands on what the output held back. Returns the fault that a check of it reports, if
@@ -128,12 +93,12 @@ pub fn look<W: Write>(
             form,
             candidates,
             ref name,
-        } => take_records(alloc, image, form, candidates, name.as_bytes(), out),
+        } => taken_end(take_records(alloc, image, form, candidates, name.as_bytes(), out)),
         Look::Bytes {
             form,
             candidates,
             ref name,
-        } => take_bytes(alloc, image, form, candidates, name.as_bytes(), out),
+        } => taken_end(bytes_image(alloc, image, candidates, name.as_bytes(), form, out)),
     }
 }
 

@@ -2,7 +2,8 @@
 use Rattle.std.proofs.Common.{◌≡◌, ◌∙◌, ◌⊎◌, ◌*◌, ◌^◌, ◌<◌, ◌≤◌, Err, List, None, Ok, Option, Result, Some, ap, arith, get_or, inl, inr, length, refl, subst, sym, ℕ}
 use Rattle.std.proofs.lemmas.Option.{slice_get_read, slice_get_within}
 use Rattle.std.specs.Option.{option_or}
-use Rattle.std.specs.Prelude.{IfErr, OnOk}
+use Rattle.std.specs.Prelude.{IfErr, IfOk}
+use Rattle.damaged_files.specs.cut.Told.{IsToldOfDisk, IsToldOfImage}
 use Rattle.d64_image.specs.Images.{Image}
 use Rattle.d64_image.specs.Memory.{sectors_in}
 use Rattle.d64_image.specs.declared.place.Place.{Place}
@@ -13,7 +14,7 @@ use Rattle.disk_rescue.specs.Reached.{IsReached}
 use Rattle.disk_rescue.specs.Sharing.{IsOwned, first_shared, shared_fault}
 use Rattle.keeper_commands.specs.Bytes.{HasFile, HasNoFile, file_bytes}
 use Rattle.command_faults.specs.Faults.{IsLoadFault}
-use Rattle.keeper_commands.specs.Faults.{keep_ended, keep_none}
+use Rattle.keeper_commands.specs.Faults.{IsEnded, keep_none}
 use Rattle.keeper_commands.specs.Found.{HasNone, IsFirstAsked, IsHad, unclosed}
 use Rattle.keeper_commands.specs.Printed.{IsBytesPart, IsFileFault, IsUnclosedPart}
 use Rattle.keeper_commands.specs.Forms.{bytes_as, records_as}
@@ -45,14 +46,13 @@ pub find-had : (img : Image) (kind : Kind) (name : List ℕ) (directory : List P
     → (after : Image) → after ≡ img → (sectors : List Place) → sectors ≡ directory → (all : List Place)
     → IsOwned after sectors slots all → (shared : Option Place) → shared ≡ first_shared all blocks → (fault : Option Fault)
     → fault ≡ option_or (option_or (option_or ended broken) (shared_fault shared)) (unclosed s)
-    → IsHad img kind name s blocks last fault
+    → IsHad img kind name n s blocks last fault
 find-had img kind name directory entries ended read slots listed n first s is now same blocks broken last reached after
     stays sectors are all owned shared several fault found = record {
       directory = directory;
       entries = slots;
       ended = ended;
       read = subst (λ (ss : List Slot). IsReadSoFar img directory ss ended) (sym listed) read;
-      number = n;
       first = first;
       entry = slot-is slots kind name n s first is;
       broken = broken;
@@ -69,15 +69,16 @@ pub slot-offset : (n count : ℕ) → n < count → count ≤ 144 → n * 35 < 2
 slot-offset n count within few = omega (arith, within, few)
 
 -- the file, or that there is none, is the image's
-abbrev pub file-there : (image : List ℕ) (kind : Kind) (name : List ℕ) (img : Image) (s : Slot) (blocks : List Place) (last : ℕ)
-    (fault : Option Fault) → length image ≡ 174848 → img ≡ sectors_in image → IsHad img kind name s blocks last fault
-    → HasFile image kind name fault
-file-there image kind name img s blocks last fault size same had = record {
+abbrev pub file-there : (image : List ℕ) (kind : Kind) (name : List ℕ) (img : Image) (n : ℕ) (s : Slot)
+    (blocks : List Place) (last : ℕ) (fault : Option Fault) → length image ≡ 174848 → img ≡ sectors_in image
+    → IsHad img kind name n s blocks last fault → HasFile image kind name fault
+file-there image kind name img n s blocks last fault size same had = record {
   size = size;
+  number = n;
   slot = s;
   blocks = blocks;
   last = last;
-  had = subst (λ (i : Image). IsHad i kind name s blocks last fault) same had;
+  had = subst (λ (i : Image). IsHad i kind name n s blocks last fault) same had;
 }
 
 none-there : (image : List ℕ) (kind : Kind) (name : List ℕ) (img : Image) (ended : Option Fault) → length image ≡ 174848
@@ -99,12 +100,24 @@ module _ {W : Type 0} (image : List ℕ) (kind : Kind) (name : List ℕ) (Printe
   load-refused = by-load image (IsFileFault image kind name Printed old old) (λ told. (told, refl)) (λ told. (told, refl))
 
   -- what was asked for was printed, as far as it can be reached
-  pub printed-end : (new : W) (fault : Option Fault) (r : Result Unit CommandFault) → r ≡ keep_ended fault → Printed fault
-      → OnOk r (Printed None) × IfErr r (IsFileFault image kind name Printed old new)
-  printed-end new None r is printed = subst (λ (e : Result Unit CommandFault). OnOk e (Printed None)
-      × IfErr e (IsFileFault image kind name Printed old new)) (sym is) (printed, tt)
-  printed-end new (Some fault) r is printed = subst (λ (e : Result Unit CommandFault). OnOk e (Printed None)
-      × IfErr e (IsFileFault image kind name Printed old new)) (sym is) (tt, inr printed)
+  pub printed-end : (new : W) (number_of : (f : Option Fault) → Printed f → ℕ) (img : Image) → img ≡ sectors_in image
+      → (n : ℕ) (fault : Option Fault) (r : Result (Option Place) CommandFault) → IsEnded img n fault r
+      → (p : Printed fault) → number_of fault p ≡ n
+      → IfOk r (λ cut. (p : Printed None) × IsToldOfImage image (Some (number_of None p)) cut)
+      × IfErr r (IsFileFault image kind name Printed old new)
+  printed-end new number_of img same n None (Ok cut) is p of = (
+    (
+      p,
+      subst (λ (m : ℕ). IsToldOfImage image (Some m) cut) (sym of)
+          (subst (λ (i : Image). IsToldOfDisk i (Some n) cut) same is),
+    ),
+    tt,
+  )
+  printed-end new number_of img same n None (Err why) is p of = absurd is
+  printed-end new number_of img same n (Some fault) r is p of =
+      subst (λ (e : Result (Option Place) CommandFault). IfOk e (λ cut. (p : Printed None)
+      × IsToldOfImage image (Some (number_of None p)) cut) × IfErr e (IsFileFault image kind name Printed old new))
+      (sym is) (tt, inr p)
 
   -- the output failed, or there was no memory
   pub put-stopped : (new : W) (fault : Option Fault) → HasFile image kind name fault → (why : CommandFault)

@@ -1,5 +1,5 @@
 -- Two repairs of one image leave the same, and print the same.
-use Rattle.std.proofs.Common.{ℕ, zero, suc, ◌≡◌, ◌≢◌, ◌↔◌, ◌≤◌, ◌+◌, ◌-◌, ◌⊎◌, Bool, true, false, List, [], ◌∷◌, ◌++◌, Some}
+use Rattle.std.proofs.Common.{ℕ, zero, suc, ◌≡◌, ◌≢◌, ◌↔◌, ◌≤◌, ◌-◌, ◌⊎◌, Bool, true, false, List, [], ◌∷◌, ◌++◌, Some}
 use Rattle.std.proofs.Common.{None, Option, length, length-append, inl, inr, refl, sym, ◌∙◌, ap, ap₂, subst, arith}
 use Rattle.std.specs.Prelude.{Contains, ◌&&◌, not, if◌then◌else◌, bytes_eq, codes, nat_eq}
 use Rattle.std.proofs.lemmas.Bool.{cases_eq, false≢true, ne_eqb}
@@ -14,11 +14,11 @@ use Rattle.disk_layout.specs.Chain.{EachOnce}
 use Rattle.disk_layout.specs.Directory.{map_place}
 use Rattle.disk_layout.specs.InOrder.{AreMade}
 use Rattle.disk_layout.specs.Layout.{IsLayout, Layout, owners}
-use Rattle.disk_layout.specs.Map.{IsFree, map_bit}
+use Rattle.disk_layout.specs.Map.{map_bit}
 use Rattle.disk_layout.specs.Texts.{place_text}
 use Rattle.layout_check.specs.Keeping.{AreStray}
 use Rattle.layout_check.specs.RepairOrder.{IsRightBut, repair_order, sides_of}
-use Rattle.keeper_commands.specs.Repairs.{AreLeft, IsMendedAs, freed_at, is_freed, kept_text, mended_at, mended_on}
+use Rattle.keeper_commands.specs.Repairs.{AreLeft, IsMendedAs, kept_text, mended_at}
 use Rattle.keeper_commands.specs.Repairs.{changed_text, mended_text, up_to}
 
 -- of distinct places that are among others there are no more

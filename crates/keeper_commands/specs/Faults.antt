@@ -1,5 +1,8 @@
 -- What is reported of a job that isn't done. Our own.
-use Rattle.std.specs.Prelude.{Err, None, Ok, Option, Result, Some}
+use Rattle.std.specs.Prelude.{◌≡◌, ℕ, Err, None, Ok, Option, Result, Some}
+use Rattle.d64_image.specs.Images.{Image}
+use Rattle.d64_image.specs.declared.place.Place.{Place}
+use Rattle.damaged_files.specs.cut.Told.{IsToldOfDisk}
 use Rattle.disk_layout.specs.declared.faults.Fault.{Fault}
 use Rattle.rel_records.specs.declared.faults.RelFault.{RelFault}
 use Rattle.rel_records.specs.declared.faults.RelFault.TheVariants.{Exists, Full, NotFound}
@@ -13,10 +16,12 @@ keep_fault Exists = faults.FileExists
 keep_fault Full = faults.DiskFull
 keep_fault fault = faults.Device
 
--- how a job over a file ends that has this fault, or none
-abbrev pub keep_ended : Option Fault → Result Unit CommandFault
-keep_ended None = Ok tt
-keep_ended (Some fault) = Err (faults.Layout fault)
+-- how the printing of a file ends that is the used entry of this number, and has this fault, or none: with the place where
+-- it is cut short, if it is, or with its fault
+abbrev pub IsEnded : Image → (number : ℕ) → Option Fault → Result (Option Place) CommandFault → Type 0
+IsEnded img number None (Ok cut) = IsToldOfDisk img (Some number) cut
+IsEnded img number None (Err _) = ⊥
+IsEnded img number (Some fault) result = result ≡ Err (faults.Layout fault)
 
 -- why there is no file, in a directory that ends early with this fault, or doesn't
 abbrev pub keep_none : Option Fault → CommandFault

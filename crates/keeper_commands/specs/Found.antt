@@ -63,16 +63,15 @@ pub record HasNone (img : Image) (kind : Kind) (name : List ℕ) (ended : Option
   pub read : IsReadSoFar img directory entries ended
   pub none : HasNoneAsked entries kind name
 
--- The first entry that is asked for has a file, of which these blocks can be reached, up to the index `last` of the last
--- one. The fault is the first of these: what ends the directory early, what ends the file's chain early, its first block
+-- The first entry that is asked for, which has this number, has a file, of which these blocks can be reached, up to the
+-- index `last` of the last one. The fault is the first of these: what ends the directory early, what ends the file's chain early, its first block
 -- that is also the map's, the directory's or another entry's, and that the entry isn't closed.
-pub record IsHad (img : Image) (kind : Kind) (name : List ℕ) (s : Slot) (blocks : List Place) (last : ℕ)
+pub record IsHad (img : Image) (kind : Kind) (name : List ℕ) (number : ℕ) (s : Slot) (blocks : List Place) (last : ℕ)
     (fault : Option Fault) : Type 0 where
   pub directory : List Place
   pub entries : List Slot
   pub ended : Option Fault
   pub read : IsReadSoFar img directory entries ended
-  pub number : ℕ
   pub first : IsFirstAsked entries kind name number
   pub entry : s ≡ first.slot
   pub broken : Option Fault

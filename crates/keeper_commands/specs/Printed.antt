@@ -3,6 +3,8 @@ use Rattle.std.specs.Prelude.{◌≡◌, ◌≢◌, ◌⊎◌, ◌-◌, ℕ, Lis
 use Rattle.std.specs.Io.KnownBytes.{Appends}
 use Rattle.d64_image.specs.Images.{Image}
 use Rattle.d64_image.specs.Memory.{sectors_in}
+use Rattle.d64_image.specs.declared.place.Place.{Place}
+use Rattle.damaged_files.specs.cut.Told.{IsToldOfImage}
 use Rattle.disk_layout.specs.Layout.{File, record_length}
 use Rattle.disk_layout.specs.Records.{records}
 use Rattle.disk_layout.specs.declared.faults.Fault.{Fault}
@@ -30,6 +32,13 @@ pub record AreRecordsPrinted {W : Type 0} (contents : W → Option (List ℕ)) (
   pub file : File
   pub is_file : IsRecordFile image name file
   pub printed : Appends (contents old) (contents new) (records_as form (records (sectors_in image) file))
+
+-- they were, and this file is cut short there, or isn't
+abbrev pub AreRecordsTaken : {W : Type 0} → (W → Option (List ℕ)) → RecordForm → (image name : List ℕ) → W → W
+    → Option Place → Type 0
+AreRecordsTaken contents form image name old new cut =
+    (printed : AreRecordsPrinted contents form image name old new)
+    × IsToldOfImage image (Some printed.is_file.number) cut
 
 -- of a disk that isn't sound: the lines of the records among the bytes that can be reached of the first closed file of
 -- that name that has records, and nothing else, were; and this fault is reported
@@ -83,6 +92,13 @@ pub record AreBytesPrinted {W : Type 0} (contents : W → Option (List ℕ)) (fo
   pub printed : Appends (contents old) (contents new)
       (bytes_as form (file_bytes (sectors_in image) file.blocks file.last))
 
+-- all of them were, and this file is cut short there, or isn't
+abbrev pub AreBytesTaken : {W : Type 0} → (W → Option (List ℕ)) → ByteForm → Candidates → (image name : List ℕ) → W → W
+    → Option Place → Type 0
+AreBytesTaken contents form candidates image name old new cut =
+    (printed : AreBytesPrinted contents form candidates image name old new None)
+    × IsToldOfImage image (Some printed.file.number) cut
+
 -- what was printed of bytes that aren't all printed: nothing, or a beginning of those that can be reached
 abbrev pub IsBytesPart : {W : Type 0} → (W → Option (List ℕ)) → ByteForm → Candidates → (image name : List ℕ) → W → W
     → Type 0
@@ -97,6 +113,13 @@ pub record AreUnclosedPrinted {W : Type 0} (contents : W → Option (List ℕ)) 
   pub file : HasFile image (Records All) name fault
   pub printed : Appends (contents old) (contents new) (records_as form
       (records_of (record_length file.slot) (file_bytes (sectors_in image) file.blocks file.last)))
+
+-- all of them were, and this file is cut short there, or isn't
+abbrev pub AreUnclosedTaken : {W : Type 0} → (W → Option (List ℕ)) → RecordForm → (image name : List ℕ) → W → W
+    → Option Place → Type 0
+AreUnclosedTaken contents form image name old new cut =
+    (printed : AreUnclosedPrinted contents form image name old new None)
+    × IsToldOfImage image (Some printed.file.number) cut
 
 -- the same of records that may be unclosed: nothing, or a beginning of their lines
 abbrev pub IsUnclosedPart : {W : Type 0} → (W → Option (List ℕ)) → RecordForm → (image name : List ℕ) → W → W → Type 0

@@ -66,11 +66,12 @@ records_of L bytes = pieces L (length bytes / L) bytes
 pub record IsReachedFile (img : Image) (name : List ℕ) (fault : Fault) : Type 0 where
   pub first : Fault
   pub holds : Holds nowhere img first
+  pub number : ℕ
   pub slot : Slot
   pub blocks : List Place
   pub last : ℕ
   pub own : Option Fault
-  pub had : IsHad img (Records Closed) name slot blocks last own
+  pub had : IsHad img (Records Closed) name number slot blocks last own
   pub fault_is : fault ≡ unwrap_or own first
 
 -- the disk isn't sound, by this fault, and no such file can be found

@@ -1,24 +1,27 @@
 //! The bytes of a file of any type, as they are printed.
-ghost use Rattle.std.specs.Prelude.{◌≡◌, IfErr, None, OnErr, OnOk};
-ghost use Rattle.keeper_commands.specs.Faults.{keep_ended, keep_none};
-ghost use Rattle.keeper_commands.specs.Printed.{AreBytesPrinted, IsBytesFault, IsBytesPart};
+ghost use Rattle.std.specs.Prelude.{◌≡◌, IfErr, IfOk, OnErr};
+ghost use Rattle.d64_image.specs.Memory.{disk_image};
+ghost use Rattle.keeper_commands.specs.Faults.{IsEnded, keep_none};
+ghost use Rattle.keeper_commands.specs.Printed.{AreBytesTaken, IsBytesFault, IsBytesPart};
 
 use crate::chains::put_file;
-use crate::finding::{Candidates, Kind, find_file};
+use crate::finding::{Candidates, FoundFile, Kind, find_file};
 use crate::forms::ByteForm;
 use arrayvec::ArrayVec;
 use command_faults::{CommandFault, flush, load};
+use d64_image::{MemDisk, Place};
+use damaged_files::sound_cut;
 use disk_layout::Fault;
 use std::alloc::Global;
 use std::io::Write;
 
-/// How a job over a file ends that has this fault, or none.
-pub(crate) fn ended(fault: Option<Fault>) -> Result<(), CommandFault>
-    ensures { result ≡ keep_ended fault }
+/// How the printing of this file ends: with the place where it is cut short, if it is, or with its fault.
+pub(crate) fn ended(disk: &mut MemDisk, file: &FoundFile) -> Result<Option<Place>, CommandFault>
+    ensures { IsEnded (disk_image disk.old) file.now.number file.now.fault result }
 {
-    match fault {
+    match file.fault {
         Some(fault) => Err(CommandFault::Layout(fault)),
-        None => Ok(()),
+        None => Ok(sound_cut(disk, Some(file.number))),
     }
 }
 
@@ -41,6 +44,9 @@ pub(crate) fn no_file(ended: Option<Fault>) -> CommandFault
 /// `Loop` in the file's chain; `OwnedTwice` at the file's first block that the map, the directory or another entry has
 /// too; `Unclosed` at the entry's directory sector. Nothing else is checked.
 ///
+/// At Ok it returns the place where the file that was printed is cut short, if the disk is sound and the file is
+/// (`find_cut` of `damaged_files`).
+///
 /// Nothing was printed after `ImageSize`, `NoMemory`, and `NoFile` if no candidate has the name; nor after `Layout` if
 /// none has it in a directory that ends early. After `File` the output failed: it has a first part of the bytes in this
 /// form.
@@ -51,8 +57,8 @@ pub fn bytes_image<W: Write>(
     name: &[u8],
     form: ByteForm,
     out: &mut W,
-) -> Result<(), CommandFault>
-    ensures ok { OnOk result (AreBytesPrinted W.contents form candidates image.now name.now out.old out.new None) }
+) -> Result<Option<Place>, CommandFault>
+    ensures ok { IfOk result (AreBytesTaken W.contents form candidates image.now name.now out.old out.new) }
     ensures err { IfErr result (IsBytesFault W.contents form candidates image.now name.now out.old out.new) }
     ensures part { OnErr result (IsBytesPart W.contents form candidates image.now name.now out.old out.new) }
 {
@@ -64,5 +70,5 @@ pub fn bytes_image<W: Write>(
     };
     put_file(out, &mut disk, blocks.as_slice(), file.last, form)?;
     flush(out)?;
-    ended(file.fault)
+    ended(&mut disk, &file)
 }

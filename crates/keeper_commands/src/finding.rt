@@ -31,6 +31,8 @@ pub enum Kind {
 /// The file of an entry as far as it can be reached.
 #[derive(Clone, Copy)]
 pub(crate) struct FoundFile {
+    /// Its number among the used entries, from 0.
+    pub(crate) number: usize,
     /// The entry.
     pub(crate) slot: Slot,
     /// The index of the last byte of the last block that is the file's: 0 or 1 if it has none there.
@@ -127,7 +129,7 @@ pub(crate) fn find_file(
     blocks: &mut ArrayVec<Place, MOST_BLOCKS>,
 ) -> Result<FoundFile, Option<Fault>>
     ensures ok { IfOk result (λ file.
-        IsHad (disk_image disk.old) kind name.now file.slot blocks.new.items file.last file.fault) }
+        IsHad (disk_image disk.old) kind name.now file.number file.slot blocks.new.items file.last file.fault) }
     ensures err { IfErr result (HasNone (disk_image disk.old) kind name.now) }
     ensures same { disk_image disk.new ≡ disk_image disk.old }
 {
@@ -143,6 +145,7 @@ pub(crate) fn find_file(
     let owners = owners_of(disk, sectors.as_slice(), slots);
     let shared = owners.first_shared(blocks.as_slice());
     Ok(FoundFile {
+        number,
         slot,
         last: reach.last,
         fault: ended

@@ -40,6 +40,7 @@ pub(crate) fn put_reached<W: Write>(
     ensures part { OnErr result (HandsPart (W.contents out.old) (W.contents out.new)
         (records_as form (records_of (record_length file.slot) (file_bytes (disk_image disk.old) blocks.now file.last)))) }
     ensures err { IfErr result (λ fault. (fault ≡ faults.File) ⊎ ((fault ≡ faults.NoMemory) × (out.new ≡ out.old))) }
+    ensures same { disk_image disk.new ≡ disk_image disk.old }
 {
     let bytes = read_file(alloc, disk, blocks, file.last)?;
     let size = EntryView::new(&file.slot.bytes).record_length() as usize;
@@ -59,7 +60,7 @@ pub(crate) fn reached_records<W: Write>(
     form: RecordForm,
     first: Fault,
     out: &mut W,
-) -> Result<(), CommandFault>
+) -> Result<Option<Place>, CommandFault>
     requires { Holds nowhere (disk_image disk.old) first }
     ensures end { IsErrAnd result (IsReachedEnd W.contents form (disk_image disk.old) name.now out.old out.new) }
     ensures part { IsReachedPart W.contents form (disk_image disk.old) name.now out.old out.new }

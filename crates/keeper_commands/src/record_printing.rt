@@ -4,7 +4,7 @@ ghost use Rattle.std.specs.Io.KnownBytes.{Appends};
 ghost use Rattle.d64_image.specs.Memory.{disk_image};
 ghost use Rattle.disk_layout.specs.Records as records_of;
 ghost use Rattle.keeper_commands.specs.Forms.{records_as};
-ghost use Rattle.keeper_commands.specs.Printed.{AreRecordsPrinted, IsRecordsFault, IsRecordsPart};
+ghost use Rattle.keeper_commands.specs.Printed.{AreRecordsTaken, IsRecordsFault, IsRecordsPart};
 ghost use Rattle.command_faults.specs.Outputs.{HandsOn, HandsPart};
 ghost use Rattle.keeper_commands.specs.Records.{IsGathered, records_text};
 ghost use Rattle.command_faults.specs.declared.faults.CommandFault.TheVariants as faults;
@@ -17,7 +17,8 @@ use crate::loading::unsoundness;
 use crate::reached_records::reached_records;
 use arrayvec::ArrayVec;
 use command_faults::{CommandFault, flush, load, put};
-use d64_image::MemDisk;
+use d64_image::{MemDisk, Place};
+use damaged_files::sound_cut;
 use disk_layout::DATA;
 use line_text::{LINE_ROOM, put_line};
 use rel_records::{LastBlock, RelFault, RelFile, find, read_next, records};
@@ -130,7 +131,8 @@ fn put_records_as<W: Write>(
 }
 
 /// Prints the records of the first closed relative file of this name, one a line, record 1 first: its number, a
-/// comma, and its bytes up to the last one that isn't 0, in this form.
+/// comma, and its bytes up to the last one that isn't 0, in this form. Returns the place where this file is cut short, if
+/// it is (`find_cut` of `damaged_files`).
 ///
 /// If the disk isn't sound, whole records are cut from the bytes that can be reached of the first such file with a record
 /// length of 1 to 254, without side sectors. The error is then `Layout` with the first fault of what `bytes_image` judges of
@@ -144,8 +146,8 @@ pub fn records_image<W: Write>(
     name: &[u8],
     form: RecordForm,
     out: &mut W,
-) -> Result<(), CommandFault>
-    ensures ok { OnOk result (AreRecordsPrinted W.contents form image.now name.now out.old out.new) }
+) -> Result<Option<Place>, CommandFault>
+    ensures ok { IfOk result (AreRecordsTaken W.contents form image.now name.now out.old out.new) }
     ensures err { IfErr result (IsRecordsFault W.contents form image.now name.now out.old out.new) }
     ensures part { OnErr result (IsRecordsPart W.contents form image.now name.now out.old out.new) }
 {
@@ -158,6 +160,8 @@ pub fn records_image<W: Write>(
         Err(RelFault::NotFound) => return Err(CommandFault::NoFile),
         Err(_) => return Err(CommandFault::Device),
     };
+    let cut = sound_cut(&mut disk, Some(file.entry()));
     put_records_as(out, &mut disk, &file, form)?;
-    flush(out)
+    flush(out)?;
+    Ok(cut)
 }

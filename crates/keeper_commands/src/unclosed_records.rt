@@ -1,6 +1,6 @@
 //! The records of a relative file that may be unclosed, by the chain of its blocks.
-ghost use Rattle.std.specs.Prelude.{IfErr, None, OnErr, OnOk};
-ghost use Rattle.keeper_commands.specs.Printed.{AreUnclosedPrinted, IsUnclosedFault, IsUnclosedPart};
+ghost use Rattle.std.specs.Prelude.{IfErr, IfOk, OnErr};
+ghost use Rattle.keeper_commands.specs.Printed.{AreUnclosedTaken, IsUnclosedFault, IsUnclosedPart};
 
 use crate::byte_printing::{ended, no_file};
 use crate::finding::{Candidates, Kind, find_file};
@@ -8,6 +8,7 @@ use crate::forms::RecordForm;
 use crate::reached_records::put_reached;
 use arrayvec::ArrayVec;
 use command_faults::{CommandFault, flush, load};
+use d64_image::Place;
 use std::alloc::Global;
 use std::io::Write;
 
@@ -15,15 +16,15 @@ use std::io::Write;
 /// line, in this form: whole records among the bytes that can be reached, without side sectors. The rest of the disk isn't
 /// checked.
 ///
-/// The errors are those of `bytes_image`, and what was printed then is as it says. `NoFile`: no such entry has the name.
+/// The result and the errors are those of `bytes_image`, and what was printed then is as it says. `NoFile`: no such entry has the name.
 pub fn unclosed_records_image<W: Write>(
     alloc: Global,
     image: &[u8],
     name: &[u8],
     form: RecordForm,
     out: &mut W,
-) -> Result<(), CommandFault>
-    ensures ok { OnOk result (AreUnclosedPrinted W.contents form image.now name.now out.old out.new None) }
+) -> Result<Option<Place>, CommandFault>
+    ensures ok { IfOk result (AreUnclosedTaken W.contents form image.now name.now out.old out.new) }
     ensures err { IfErr result (IsUnclosedFault W.contents form image.now name.now out.old out.new) }
     ensures part { OnErr result (IsUnclosedPart W.contents form image.now name.now out.old out.new) }
 {
@@ -36,5 +37,5 @@ pub fn unclosed_records_image<W: Write>(
     };
     put_reached(alloc, &mut disk, file, blocks.as_slice(), form, out)?;
     flush(out)?;
-    ended(file.fault)
+    ended(&mut disk, &file)
 }

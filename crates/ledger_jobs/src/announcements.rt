@@ -23,7 +23,7 @@ where
         return None;
     }
     let image = image_of_file(rt, path).ok()?;
-    cut_in(rt.alloc(), image.as_slice(), None).unwrap_or_default()
+    cut_in(rt.alloc(), image.as_slice()).unwrap_or_default()
 }
 
 /// Prints for a person, after the verdict of a check, where the first file of the image is cut short, if one is: a line

@@ -17,6 +17,8 @@ const GONE: &str = "its name doesn't lead to the file that was opened, or that h
 
 const LOGGED: &str = "; all replies are in its log, which goes with it (docs/KEEPERS.md, DEVICE)";
 
+const UNWAITED: &str = "; it is set not to wait (O_NONBLOCK): hand over one that waits";
+
 const UNREAD: &str = "ledger: a file couldn't be read to its end, or the output not be written";
 
 /// Prints this of the file at a path. If it can't be printed, there is nobody left to read it.
@@ -93,7 +95,11 @@ pub(crate) fn tell_files<R: HostFiles, E: Write>(
     requires { MayExplain R.rights rt.now job.now }
 {
     if let Some(failure) = cause {
-        return tell_failure(err, &failure, "");
+        let said = match failure.error.kind() {
+            ErrorKind::WouldBlock => UNWAITED,
+            _ => "",
+        };
+        return tell_failure(err, &failure, said);
     }
     match image_at_fault(rt, job) {
         Some((image, error)) => tell_of(err, image, error),

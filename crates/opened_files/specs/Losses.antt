@@ -13,9 +13,9 @@ use Rattle.opened_files.specs.declared.refusals.Refusal.{Refusal}
 use Rattle.opened_files.specs.declared.refusals.Refusal.TheVariants as refusals
 
 -- what is seen of an image, if it has the size of a disk
-abbrev pub IsSeen : (image : List ℕ) → Option (List ℕ) → Option Place → Type 0
-IsSeen image name (Some p) = (length image ≡ 174848) × IsToldOfImage image name (Some p)
-IsSeen image name None = length image ≡ 174848 → IsToldOfImage image name None
+abbrev pub IsSeen : (image : List ℕ) → Option Place → Type 0
+IsSeen image (Some p) = (length image ≡ 174848) × IsToldOfImage image None (Some p)
+IsSeen image None = length image ≡ 174848 → IsToldOfImage image None None
 
 -- Why a job isn't begun that accepts no loss: a file of the image is cut short, and its chain ends there; or there was
 -- no memory to see.

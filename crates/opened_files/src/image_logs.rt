@@ -15,7 +15,7 @@ use d64_image::IMAGE_BYTES;
 use image_file::{EndedFile, HostFiles, Locks, opened_to_change, opened_to_read};
 use shop_log::{ImageFolder, ImageView, LogFault, LogNames, land_in, sync_names, view_in};
 use std::fs::OpenFile;
-use std::io;
+use std::io::{self, ErrorKind};
 use std::os::unix::fs::MetadataExt;
 
 /// What is reported for this fault of a log.
@@ -155,6 +155,14 @@ where
     Ok(image)
 }
 
+/// Whether the name of a log is too long for a file, so that there is none.
+fn is_overlong(fault: &LogFault) -> bool {
+    match fault {
+        LogFault::File(error) => error.kind() == ErrorKind::InvalidFilename,
+        LogFault::Unfit(_) => false,
+    }
+}
+
 /// The sectors that the log beside the image at a path gives. None if there is no log, or the image has another size.
 /// `Log` if the log gives none; `TwoNames` if it gives them, and the image has a second name. The image's file is locked
 /// for reading: so none is begun while it is read.
@@ -178,6 +186,7 @@ where
             see_one_name(image)?;
             Ok(Some(shop))
         }
+        Err(fault) if is_overlong(&fault) => Ok(None),
         Err(fault) => Err(log_refusal(&fault)),
     }
 }

@@ -1,5 +1,5 @@
 //! What a disk has lost of its files.
-ghost use Rattle.std.specs.Prelude.{◌≡◌, IfErr, IfOk, option_map};
+ghost use Rattle.std.specs.Prelude.{◌≡◌, IfErr, IfOk};
 ghost use Rattle.opened_files.specs.Losses.{shortened as shortened_of, IsJudged, IsSeen};
 ghost use Rattle.command_faults.specs.declared.faults.CommandFault.TheVariants.{NoMemory};
 ghost use Rattle.opened_files.specs.declared.refusals.Refusal.TheVariants as refusals;
@@ -32,13 +32,13 @@ impl Loss {
     }
 }
 
-/// The place where the first file of an image is cut short, of all or of those of a name. None also if the image has
-/// another size, or its disk isn't sound. The only error is `NoMemory`.
-pub fn cut_in(alloc: Global, image: &[u8], name: Option<&[u8]>) -> Result<Option<Place>, Refusal>
-    ensures ok { IfOk result (IsSeen image.now (option_map (λ n. n.now) name.entry)) }
+/// The place where the first file of an image is cut short. None also if the image has another size, or its disk isn't
+/// sound. The only error is `NoMemory`.
+pub fn cut_in(alloc: Global, image: &[u8]) -> Result<Option<Place>, Refusal>
+    ensures ok { IfOk result (IsSeen image.now) }
     ensures err { IfErr result (λ refusal. refusal ≡ refusals.Fault NoMemory) }
 {
-    match find_image_cut(alloc, image, name) {
+    match find_image_cut(alloc, image) {
         Ok(cut) => Ok(cut),
         Err(ImageFault::Size) => Ok(None),
         Err(ImageFault::NoMemory) => Err(Refusal::Fault(CommandFault::NoMemory)),
@@ -52,7 +52,7 @@ pub fn loss_refusal(alloc: Global, image: &[u8], loss: Loss) -> Option<Refusal>
 {
     match loss {
         Loss::Accepted => None,
-        Loss::Refused => match cut_in(alloc, image, None) {
+        Loss::Refused => match cut_in(alloc, image) {
             Ok(None) => None,
             Ok(Some(place)) => Some(Refusal::Short(place)),
             Err(refusal) => Some(refusal),

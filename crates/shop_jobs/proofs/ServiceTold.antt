@@ -9,7 +9,7 @@ use Rattle.d64_image.specs.Images.{Image}
 use Rattle.host_session.specs.runs.Chains.{told_in}
 use Rattle.host_session.specs.runs.Outputs.{line_of}
 use Rattle.host_session.specs.shop.Shop.{IsShop, Shop, start_of}
-use Rattle.line_server.specs.Answering.{Answering}
+use Rattle.host_session.specs.events.Telling.{Output}
 use Rattle.line_server.specs.Batches.{BatchInput}
 use Rattle.shop_log.specs.life.Folders.{FolderHistory}
 use Rattle.shop_log.specs.life.LiveLogs.{of_live}
@@ -34,52 +34,52 @@ use Rattle.opened_files.specs.declared.losses.Loss.{Loss}
 use Rattle.shop_jobs.specs.declared.reply_lines.ReplyLines.{ReplyLines}
 use Rattle.shop_jobs.specs.declared.watched_files.WhileThere.{WhileThere}
 
-module _ {F D N R T : Type 0} {G : Ghosts F} (h : FolderHistory D) (i : BatchInput R) (a : Answering T) (image : List ℕ)
+module _ {F D N R T : Type 0} {G : Ghosts F} (h : FolderHistory D) (i : BatchInput R) (o : Output T) (image : List ℕ)
     (log : LiveLog F D G) (loss : Loss) (old_in new_in : R) (old new : WhileThere N T) (first final : T)
     (begun : old.out.now ≡ first) (back : old.out.ghost_name ≡ new.out.ghost_name → final ≡ new.out.now) where
   abbrev Run : LiveLog F D G → Result Unit CommandFault → Type 0
-  Run left ended = IsLoggedRun (of_live h) i (of_output (while_there a)) image log left old_in new_in old new ended
+  Run left ended = IsLoggedRun (of_live h) i (of_output (while_there o)) image log left old_in new_in old new ended
 
   abbrev Landed : Bool → Option D → JobEnd → Type 0
   Landed gone folder end = IsDoneAndLanded h (λ left ended. IsGuarded image loss (IsUnlogged log left old_in new_in old new)
       (IsEndOfRun (Run left)) ended) gone folder end
 
   told-some : (turns : List (Reply × LiveLog F D G)) (last : Option (Reply × LiveLog F D G))
-      → IsToldTo (of_output (while_there a)) old new turns last → IsToldSome a.output first final
-  told-some turns None x = passed-back old new first final begun back (IsToldSome a.output) x.2.0 (inr (x.0, inl x.2.2.0.0))
+      → IsToldTo (of_output (while_there o)) old new turns last → IsToldSome o first final
+  told-some turns None x = passed-back old new first final begun back (IsToldSome o) x.2.0 (inr (x.0, inl x.2.2))
   told-some turns (Some last) x =
-      passed-back old new first final begun back (IsToldSome a.output) x.3.0
-      (off-some a new.gone old.out.now new.out.now x.0 (last.0, x.1) x.3.1)
+      passed-back old new first final begun back (IsToldSome o) x.3.0
+      (off-some o new.gone old.out.now new.out.now x.0 (last.0, x.1) x.3.1)
 
-  untold : new ≡ old → IsToldSome a.output first final
+  untold : new ≡ old → IsToldSome o first final
   untold same = inl (watched-back old new first final begun back same)
 
   -- a service over a log passed replies alone
   pub served-some : (gone : Bool) (folder : Option D) (end : JobEnd) → Landed gone folder end
-      → IsToldSome a.output first final
+      → IsToldSome o first final
   served-some gone folder end x = of-run x.done
     where
       of-run : IsGuarded image loss (IsUnlogged log x.left old_in new_in old new) (IsEndOfRun (Run x.left)) x.ended
-          → IsToldSome a.output first final
+          → IsToldSome o first final
       of-run (inl (refusal, is, refused, why, same)) = untold same.2
       of-run (inr (may, (ended, is, run))) =
-          run-told (of_live h) i (of_output (while_there a)) image log x.left old_in new_in old new
-          (IsToldSome a.output first final) untold told-some ended run
+          run-told (of_live h) i (of_output (while_there o)) image log x.left old_in new_in old new
+          (IsToldSome o first final) untold told-some ended run
 
   run-all : (left : LiveLog F D G) (ended : Result Unit CommandFault) → Run left ended → IsOk (as_run ended)
-      → IsToldAll a.output image first final
+      → IsToldAll o image first final
   run-all left (Ok _) run ok =
       let y = run.served in
       let (s, shop) = y.shop in
       let over = y.all tt in
-      let x = subst (λ (l : Option (Reply × LiveLog F D G)). IsToldTo (of_output (while_there a)) old new y.turns l) over.0
+      let x = subst (λ (l : Option (Reply × LiveLog F D G)). IsToldTo (of_output (while_there o)) old new y.turns l) over.0
       y.told in (
         s,
         lines y.handled,
         (run.size, subst (λ (c : Image). IsShop c s) run.holds shop),
         record {
           turns = x.0;
-          is = passed-back old new first final begun back (λ t u. a.output.told t u x.0) x.2.0 x.2.2.0.0;
+          is = passed-back old new first final begun back (λ t u. o.told t u x.0) x.2.0 x.2.2;
           replies = x.1 ∙ all_told y.turns y.last (replies (start_of s) [] (lines y.handled)) over.0 (y.replies_are s shop)
               (over.1 ∙ sym (as_many_replies s (lines y.handled)));
         },
@@ -88,7 +88,7 @@ module _ {F D N R T : Type 0} {G : Ghosts F} (h : FolderHistory D) (i : BatchInp
 
   -- one that is done passed the replies of the image's shop to some lines
   pub served-all : (gone : Bool) (folder : Option D) (end : JobEnd) → Landed gone folder end
-      → OnOk end (IsToldAll a.output image first final)
+      → OnOk end (IsToldAll o image first final)
   served-all gone folder (Err refusal) x = tt
   served-all gone folder (Ok found) x = of-run x.done
     where
@@ -96,7 +96,7 @@ module _ {F D N R T : Type 0} {G : Ghosts F} (h : FolderHistory D) (i : BatchInp
       ok = landed-ok h x.left gone x.ended folder (Ok found) x.landed refl
 
       of-run : IsGuarded image loss (IsUnlogged log x.left old_in new_in old new) (IsEndOfRun (Run x.left)) x.ended
-          → IsToldAll a.output image first final
+          → IsToldAll o image first final
       of-run (inl (refusal, is, refused, why, same)) =
           absurd (false≢true (subst (λ (e : JobEnd). IsOk e) is ok))
       of-run (inr (may, (ended, is, run))) = run-all x.left ended run (subst (λ (e : JobEnd). IsOk e) is ok)

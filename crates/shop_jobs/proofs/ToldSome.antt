@@ -12,7 +12,6 @@ use Rattle.host_session.specs.events.Instants.{Instant, instant_of}
 use Rattle.host_session.specs.events.Telling.{Output}
 use Rattle.host_session.specs.runs.Chains.{over_instants}
 use Rattle.host_session.specs.runs.ScriptRuns.{IsScriptRun}
-use Rattle.line_server.specs.Answering.{Answering, IsHeldBack, answered}
 use Rattle.request_cards.specs.declared.reply.Reply.{Reply}
 use Rattle.shop_commands.specs.Plays.{IsFileFault, IsPlayEnd, IsPlayedOver}
 use Rattle.opened_files.specs.Ends.{Ended}
@@ -20,19 +19,12 @@ use Rattle.shop_jobs.specs.Replies.{IsToldSome}
 use Rattle.shop_jobs.specs.Runs.{IsPlayRun}
 use Rattle.shop_jobs.specs.WatchedFiles.{IsBrokenOff, media_for}
 
--- a reply that was held back was passed, or broken off
-pub held-some : {T : Type 0} (o : Output T) (old new : T) (turns : List (Reply × Instant)) (last : Reply × Instant)
-    → IsHeldBack o old new turns last → IsToldSome o old new
-held-some o old new turns last (inl off) = inr (turns, inr (last, off))
-held-some o old new turns last (inr told) = inr (turns ++ last ∷ [], inl told)
-
 -- whatever becomes of the last reply while the file is there, or once it has gone
-pub off-some : {T : Type 0} (a : Answering T) (gone : Bool) (old new : T) (turns : List (Reply × Instant))
-    (last : Reply × Instant) → IsBrokenOff (answered a) gone old new turns last → IsToldSome a.output old new
-off-some a gone old new turns last (inl (is, off)) = held-some a.output old new turns last off.0.all
-off-some a gone old new turns last (inr (is, inl told)) = inr (turns ++ (media_for last.0, last.1) ∷ [], inl told.0.0)
-off-some a gone old new turns last (inr (is, inr off)) =
-    held-some a.output old new turns (media_for last.0, last.1) off.0.all
+pub off-some : {T : Type 0} (o : Output T) (gone : Bool) (old new : T) (turns : List (Reply × Instant))
+    (last : Reply × Instant) → IsBrokenOff o gone old new turns last → IsToldSome o old new
+off-some o gone old new turns last (inl (is, off)) = inr (turns, inr (last, off))
+off-some o gone old new turns last (inr (is, inl told)) = inr (turns ++ (media_for last.0, last.1) ∷ [], inl told)
+off-some o gone old new turns last (inr (is, inr off)) = inr (turns, inr ((media_for last.0, last.1), off))
 
 -- a script that was run
 module _ {D T : Type 0} (h : History D) (o : Output T) (disk : D) (text : List ℕ) (old new : T) where

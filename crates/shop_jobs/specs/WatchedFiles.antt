@@ -1,11 +1,10 @@
 -- Replies that are passed only while the shop's file is there. Our own.
-use Rattle.std.specs.Prelude.{◌≡◌, ◌⊎◌, ⊤, Bool, true, false, List, [], ◌∷◌, ◌++◌, refl}
+use Rattle.std.specs.Prelude.{◌≡◌, ◌⊎◌, Bool, true, false, List, [], ◌∷◌, ◌++◌, refl}
 use Rattle.request_cards.specs.declared.reply.Reply.{Reply}
 use Rattle.request_cards.specs.declared.reply.Reply.TheVariants.{Cut, Syntax, Told}
 use Rattle.request_cards.specs.declared.reply.Word.TheVariants.{Media}
 use Rattle.host_session.specs.events.Instants.{Instant}
 use Rattle.host_session.specs.events.Telling.{Output}
-use Rattle.line_server.specs.Answering.{Answering, answered}
 use Rattle.shop_jobs.specs.declared.watched_files.WhileThere.{WhileThere}
 
 -- MEDIA to the same request; a message that is no request hears what it is
@@ -24,14 +23,15 @@ IsBrokenOff o gone old new turns last =
     ((gone ≡ false) × o.broken_off old new turns last)
     ⊎ ((gone ≡ true) × IsToldOrPart o old new turns (media_for last.0, last.1))
 
--- What an output to which replies go while a file is there says of itself: the file was there when each was passed.
-abbrev pub while_there : {N T : Type 0} → Answering T → Output (WhileThere N T)
-while_there a = record {
+-- What an output to which replies go while a file is there says of itself. The file was there before the first of those
+-- that were handed on together.
+abbrev pub while_there : {N T : Type 0} → Output T → Output (WhileThere N T)
+while_there o = record {
   told = λ old new turns. (new.out.ghost_name ≡ old.out.ghost_name) × (new.gone ≡ old.gone)
-      × (answered a).told old.out.now new.out.now turns;
+      × o.told old.out.now new.out.now turns;
   broken_off = λ old new turns last. (new.out.ghost_name ≡ old.out.ghost_name)
-      × IsBrokenOff (answered a) new.gone old.out.now new.out.now turns last;
-  is_handed_on = λ _. ⊤;
+      × IsBrokenOff o new.gone old.out.now new.out.now turns last;
+  is_handed_on = λ x. o.is_handed_on x.out.now;
   room = λ _. 0;
-  none = λ x. (refl, refl, (answered a).none x.out.now);
+  none = λ x. (refl, refl, o.none x.out.now);
 }

@@ -20,8 +20,9 @@ use crate::watched_files::{WhileThere, name_of, served_end};
 use command_faults::CommandFault;
 use d64_image::MemDisk;
 use disk_layout::Fault;
+use host_session::ReplySink;
 use image_file::{EndedFile, HostFiles, Locks, Stays, opened_to_change};
-use line_server::{Answers, BatchSource};
+use line_server::BatchSource;
 use opened_files::{
     Loss, Refusal, log_refusal, loss_refusal, opened_alone, read_shared, see_size, told,
 };
@@ -127,11 +128,11 @@ where
     D: LogFolder<L> + Drop,
     N: Stays,
     I: BatchSource,
-    T: Answers<TouchedDisk<MemDisk>>,
+    T: ReplySink<TouchedDisk<MemDisk>>,
     ensures { (gone : Bool) × (answers.new.gone ≡ true → gone ≡ true)
         × IsDoneAndLanded D.history (λ left ended. IsGuarded image.now loss
         (IsUnlogged log left input.old input.new answers.old answers.new)
-        (IsEndOfRun (IsLoggedRun (of_live D.history) I.input (of_output (while_there T.answering)) image.now log left
+        (IsEndOfRun (IsLoggedRun (of_live D.history) I.input (of_output (while_there T.output)) image.now log left
         input.old input.new answers.old answers.new)) ended) gone result.0 result.1 }
 {
     let mut log = log;
@@ -154,10 +155,10 @@ where
     D: LogFolder<L> + Drop,
     N: Stays + Drop,
     I: BatchSource,
-    T: Answers<TouchedDisk<MemDisk>>,
+    T: ReplySink<TouchedDisk<MemDisk>>,
     ensures quiet { IsLoggedEnd out.old out.new result }
-    ensures some { IsToldSome T.answering.output out.old out.new }
-    ensures all { OnOk result (IsToldAll T.answering.output image.now out.old out.new) }
+    ensures some { IsToldSome T.output out.old out.new }
+    ensures all { OnOk result (IsToldAll T.output image.now out.old out.new) }
 {
     let mut answers = WhileThere::new(&name, out);
     let (_, ended) = serve_begun(alloc, image, log, loss, input, &mut answers);

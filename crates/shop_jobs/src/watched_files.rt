@@ -10,7 +10,6 @@ use d64_image::Sectors;
 use disk_layout::Fault;
 use host_session::{NotTaken, ReplySink};
 use image_file::{FileName, HostFiles, Stays};
-use line_server::Answers;
 use opened_files::{Refusal, told};
 use request_cards::{Reply, Word};
 use std::fs::OpenFile;
@@ -46,12 +45,14 @@ fn media_for(reply: &Reply) -> Reply
     }
 }
 
-/// An output to which replies are passed while a file stays. Before each is passed, the file is looked for. After it has
-/// gone, MEDIA is passed in the place of the reply, and no other reply.
+/// An output to which replies are passed while a file stays. The file is looked for before the first of those that are
+/// handed on together. After it has gone, MEDIA is passed in the place of the reply, and handed on, and no other reply.
 #[derive(Drop)]
 pub struct WhileThere<'a, N, T> {
     file: &'a N,
     out: &'a mut T,
+    /// Whether it was there at the first reply that wasn't handed on yet.
+    seen: bool,
     gone: bool,
 }
 
@@ -64,6 +65,7 @@ impl<'a, N, T> WhileThere<'a, N, T> {
         WhileThere {
             file,
             out,
+            seen: false,
             gone: false,
         }
     }
@@ -78,21 +80,23 @@ impl<N: Stays, T> WhileThere<'_, N, T> {
     }
 }
 
-impl<'a, D: Sectors, N: Stays, T: Answers<D>> ReplySink<D> for WhileThere<'a, N, T> {
-    ghost output = { while_there T.answering };
+impl<'a, D: Sectors, N: Stays, T: ReplySink<D>> ReplySink<D> for WhileThere<'a, N, T> {
+    ghost output = { while_there T.output };
 
     fn tell(&mut self, reply: &Reply, disk: &D) -> Result<(), NotTaken> {
-        if !self.gone && self.file.is_there() {
-            return self.out.answer(reply, disk);
+        if !self.gone && (self.seen || self.file.is_there()) {
+            self.seen = true;
+            return self.out.tell(reply, disk);
         }
         self.gone = true;
-        let _ = self.out.answer(&media_for(reply), disk);
+        let _ = self.out.tell(&media_for(reply), disk);
+        let _ = self.out.hand_on();
         Err(NotTaken)
     }
 
-    // Each reply was handed on after it was passed.
     fn hand_on(&mut self) -> Result<(), NotTaken> {
-        Ok(())
+        self.seen = false;
+        self.out.hand_on()
     }
 }
 

@@ -1,15 +1,15 @@
 //! The first file of a disk that is cut short.
-ghost use Rattle.std.specs.Prelude.{◌≡◌, ◌↔◌, IfErr, IfOk, IsOk, IsTrue, List, ℕ, map, option_map};
+ghost use Rattle.std.specs.Prelude.{◌≡◌, ◌↔◌, IfErr, IfOk, IsOk, IsTrue, map};
 ghost use Rattle.d64_image.specs.Images.{Image};
 ghost use Rattle.d64_image.specs.Memory.{disk_image};
 ghost use Rattle.disk_layout.specs.Fault.{Holds, nowhere};
 ghost use Rattle.disk_layout.specs.Layout.{IsLayout, IsSound, Layout};
 ghost use Rattle.damaged_files.specs.cut.Cut.{HasStray};
 ghost use Rattle.disk_layout.specs.Listed.{HasStock};
-ghost use Rattle.damaged_files.specs.cut.Told.{IsAsked, IsToldOf};
+ghost use Rattle.damaged_files.specs.cut.Told.{IsAsked, IsToldOf, IsToldOfDisk};
 
 use crate::cut::listed::bytes_at;
-use crate::cut::names::{has_name, has_stock};
+use crate::cut::names::has_stock;
 use crate::cut::strays::has_stray;
 use crate::cut::tails::{Facts, cut_of};
 use arrayvec::ArrayVec;
@@ -17,25 +17,30 @@ use d64_image::{MemDisk, Place};
 use disk_layout::{Fault, Slot, map_place, read_directory};
 use layout_check::survey;
 
-/// Whether the call is about this entry: always without a name, otherwise if the entry has the name.
-fn is_asked(slot: &Slot, name: Option<&[u8]>) -> bool
-    ensures { IsTrue result ↔ IsAsked (option_map (λ n. n.now) name.entry) slot.now }
+/// Whether the call is about the entry with this number: about each, or about the one that is asked for.
+fn is_asked(number: usize, entry: Option<usize>) -> bool
+    ensures { IsTrue result ↔ IsAsked entry number }
 {
-    match name {
-        Some(name) => has_name(slot, name),
+    match entry {
+        Some(asked) => number == asked,
         None => true,
     }
 }
 
-/// The place where the first of these entries of a sound disk is cut short, among all of them or those of the name.
-fn first_cut(disk: &mut MemDisk, slots: &[Slot], name: Option<&[u8]>, facts: Facts) -> Option<Place>
+/// The place where the first of these entries of a sound disk is cut short, of all of them or of that number alone.
+fn first_cut(
+    disk: &mut MemDisk,
+    slots: &[Slot],
+    entry: Option<usize>,
+    facts: Facts,
+) -> Option<Place>
     ensures told { (l : Layout) → IsLayout (disk_image disk.old) l → slots.now ≡ map (λ f. f.slot) l.files
         → (IsTrue facts.strays ↔ HasStray (disk_image disk.old) l) → (IsTrue facts.shop ↔ HasStock l)
-        → IsToldOf (disk_image disk.old) l (option_map (λ n. n.now) name.entry) result }
+        → IsToldOf (disk_image disk.old) l entry result }
     ensures same { disk_image disk.new ≡ disk_image disk.old }
 {
-    for slot in slots {
-        if is_asked(slot, name) {
+    for (number, slot) in slots.iter().enumerate() {
+        if is_asked(number, entry) {
             if let Some(place) = cut_of(disk, slot, facts) {
                 return Some(place);
             }
@@ -44,14 +49,14 @@ fn first_cut(disk: &mut MemDisk, slots: &[Slot], name: Option<&[u8]>, facts: Fac
     None
 }
 
-/// Finds the first file of a sound disk that is cut short, in the order of the directory: of all files, or of those
-/// with a name, which has no shifted spaces at its end. Returns the sector where its chain ends, and None if none of
-/// them is cut short. If the disk isn't sound, the error is a fault that holds of it, as `survey` returns it.
+/// Finds the first file of a sound disk that is cut short, in the order of the directory: of all files, or of the one of
+/// the used entry with this number, from 0. Returns the sector where its chain ends, and None if none of them is cut
+/// short. If the disk isn't sound, the error is a fault that holds of it, as `survey` returns it.
 ///
 /// Nothing is written, and no memory is allocated. It takes about 20 KB of the stack.
-pub fn find_cut(disk: &mut MemDisk, name: Option<&[u8]>) -> Result<Option<Place>, Fault>
+pub fn find_cut(disk: &mut MemDisk, entry: Option<usize>) -> Result<Option<Place>, Fault>
     ensures ok { IfOk result (λ told. (l : Layout) → IsLayout (disk_image disk.old) l
-        → IsToldOf (disk_image disk.old) l (option_map (λ n. n.now) name.entry) told) }
+        → IsToldOf (disk_image disk.old) l entry told) }
     ensures err { IfErr result (Holds nowhere (disk_image disk.old)) }
     // the result is Ok exactly on a sound disk
     ensures sound { IsOk result ↔ IsSound (disk_image disk.old) }
@@ -64,5 +69,16 @@ pub fn find_cut(disk: &mut MemDisk, name: Option<&[u8]>) -> Result<Option<Place>
         strays: has_stray(&bytes_at(disk, map_place()), &found),
         shop: has_stock(slots.as_slice()),
     };
-    Ok(first_cut(disk, slots.as_slice(), name, facts))
+    Ok(first_cut(disk, slots.as_slice(), entry, facts))
+}
+
+/// Finds the same, and returns None also if the disk isn't sound: then no file of it is checked.
+pub fn sound_cut(disk: &mut MemDisk, entry: Option<usize>) -> Option<Place>
+    ensures told { IsToldOfDisk (disk_image disk.old) entry result }
+    ensures same { disk_image disk.new ≡ disk_image disk.old }
+{
+    match find_cut(disk, entry) {
+        Ok(cut) => cut,
+        Err(_) => None,
+    }
 }

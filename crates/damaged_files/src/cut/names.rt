@@ -1,24 +1,16 @@
 //! Entries of the directory by their names.
-ghost use Rattle.std.specs.Prelude.{◌≡◌, ◌↔◌, ℕ, IsTrue, Some, slice_get, slice_range};
-ghost use Rattle.disk_layout.specs.Rest.{slot_name};
+ghost use Rattle.std.specs.Prelude.{◌≡◌, ◌↔◌, ℕ, IsTrue, Some, slice_get};
 ghost use Rattle.disk_layout.specs.declared.slot.Slot.{Slot};
 ghost use Rattle.disk_layout.specs.Listed.{IsStock, NeverGrows, is_plain};
 
 use disk_layout::{EntryView, REQUESTS_LENGTH, REQUESTS_NAME, STOCK_LENGTH, STOCK_NAME, Slot};
-
-/// Whether the slot has this name.
-pub(crate) fn has_name(slot: &Slot, name: &[u8]) -> bool
-    ensures { IsTrue result ↔ (slice_range slot.now.bytes 5 21 ≡ slot_name name.now) }
-{
-    EntryView::new(&slot.bytes).has_name(name)
-}
 
 /// Whether the slot is that of a shop's `STOCK`.
 fn is_stock(slot: &Slot) -> bool
     ensures { IsTrue result ↔ IsStock slot.now }
 {
     let entry = EntryView::new(&slot.bytes);
-    entry.is_relative() && entry.record_length() == STOCK_LENGTH && has_name(slot, STOCK_NAME)
+    entry.is_relative() && entry.record_length() == STOCK_LENGTH && entry.has_name(STOCK_NAME)
 }
 
 /// Whether one of these slots is that of a shop's `STOCK`.

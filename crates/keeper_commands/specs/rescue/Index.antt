@@ -1,6 +1,6 @@
 -- The index of the files that were rescued: comma-separated values (RFC 4180), a line for each. Our own.
-use Rattle.std.specs.Prelude.{ℕ, ◌+◌, ◌%◌, List, [], ◌∷◌, ◌++◌, None, Option, Some, codes, decimal}
-use Rattle.std.specs.Prelude.{if◌then◌else◌, length, nat_eq, nat_le, nat_lt}
+use Rattle.std.specs.Prelude.{ℕ, ◌%◌, List, [], ◌++◌, None, Option, Some, codes, decimal}
+use Rattle.std.specs.Prelude.{if◌then◌else◌, length, nat_eq, nat_lt}
 use Rattle.std.specs.Int.{bit_at}
 use Rattle.line_text.specs.bytes.Texts.{text_of}
 use Rattle.d64_image.specs.declared.place.Place.{Place}

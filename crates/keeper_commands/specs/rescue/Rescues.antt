@@ -1,14 +1,13 @@
 -- What is rescued of the files of a disk, and the files that are made of it. Our own.
-use Rattle.std.specs.Prelude.{◌≡◌, ◌≢◌, ◌⊎◌, ◌≤◌, ℕ, ◌+◌, ◌/◌, ◌%◌, ◌&&◌, Bool, List, [], ◌∷◌, ◌++◌, None, Option, Some, codes}
+use Rattle.std.specs.Prelude.{◌≡◌, ◌≢◌, ◌⊎◌, ◌≤◌, ℕ, ◌+◌, Bool, List, [], ◌∷◌, ◌++◌, None, Option, Some, codes}
 use Rattle.std.specs.Prelude.{false, true}
-use Rattle.std.specs.Prelude.{if◌then◌else◌, length, map, nat_eq, nat_le}
+use Rattle.std.specs.Prelude.{if◌then◌else◌, length, map, nat_eq}
 use Rattle.std.specs.List.{AllByRecursion}
 use Rattle.std.specs.Option.{option_or}
 use Rattle.d64_image.specs.Images.{Image}
 use Rattle.d64_image.specs.Memory.{sectors_in}
 use Rattle.d64_image.specs.declared.place.Place.{Place}
 use Rattle.disk_layout.specs.Directory.{type_byte, used_slots}
-use Rattle.disk_layout.specs.Layout.{record_length}
 use Rattle.disk_layout.specs.declared.faults.Fault.{Fault}
 use Rattle.disk_layout.specs.declared.slot.Slot.{Slot}
 use Rattle.disk_rescue.specs.Reached.{IsReached}

@@ -55,14 +55,10 @@ static COUNTED: [(&[Change], Option<(u8, u8)>); 7] = [
     (&[BLOCK, TAKEN, ENTRY, (18, 1, 66, &[0x80])], None),
 ];
 
-/// Where the first file of this disk is cut short, of all or of a name.
-fn cut(
-    rt: &(impl Abort + AllocGlobal),
-    changes: &[Change],
-    name: Option<&[u8]>,
-) -> Option<(u8, u8)> {
+/// Where the first file of this disk is cut short.
+fn cut(rt: &(impl Abort + AllocGlobal), changes: &[Change]) -> Option<(u8, u8)> {
     let disk = changed(rt, changes);
-    match find_image_cut(rt.alloc(), disk.bytes(), name) {
+    match find_image_cut(rt.alloc(), disk.bytes()) {
         Ok(Some(place)) => Some((place.track(), place.sector())),
         Ok(None) => None,
         Err(fault) => panic!(rt; "the image isn't taken: {fault:?}"),
@@ -72,7 +68,7 @@ fn cut(
 /// Checks that this is reported of each disk.
 fn are_told(rt: &(impl Abort + AllocGlobal), rows: &[(&[Change], Option<(u8, u8)>)]) {
     for (row, &(changes, wanted)) in rows.iter().enumerate() {
-        same_at(rt, cut(rt, changes, None), wanted, row);
+        same_at(rt, cut(rt, changes), wanted, row);
     }
 }
 
@@ -84,16 +80,4 @@ fn files_that_list_more_are_cut_short(rt: HostRuntime) {
 #[test]
 fn files_that_count_more_are_cut_short(rt: HostRuntime) {
     are_told(&rt, &COUNTED);
-}
-
-#[test]
-fn a_name_is_asked_for(rt: HostRuntime) {
-    let one_more: &[Change] = &[(17, 3, 18, &[17, 9])];
-    same_at(&rt, cut(&rt, one_more, Some(b"STOCK")), None, "STOCK");
-    same_at(
-        &rt,
-        cut(&rt, one_more, Some(b"REQUESTS")),
-        Some((17, 2)),
-        "REQUESTS",
-    );
 }

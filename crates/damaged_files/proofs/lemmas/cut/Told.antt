@@ -1,22 +1,16 @@
 -- What is told of an image's bytes.
-use Rattle.std.proofs.Common.{◌≡◌, List, length, subst, ℕ}
+use Rattle.std.proofs.Common.{◌≡◌, List, length, ℕ}
 use Rattle.std.specs.Prelude.{None, Option, Some}
 use Rattle.d64_image.specs.Images.{Image}
-use Rattle.d64_image.specs.Memory.{sectors_in}
 use Rattle.d64_image.specs.declared.place.Place.{Place}
 use Rattle.disk_layout.specs.Layout.{IsLayout, IsSound, Layout}
-use Rattle.damaged_files.specs.cut.Told.{IsCutShort, IsToldOf, IsToldOfImage}
+use Rattle.damaged_files.specs.cut.Told.{IsCutShort, IsToldOf, IsToldOfDisk, IsToldOfImage}
 
--- of a disk that holds them
-pub told-of-image : (image : List ℕ) (now : Image) (name : Option (List ℕ)) (o : Option Place) → now ≡ sectors_in image
-    → IsSound now → ((l : Layout) → IsLayout now l → IsToldOf now l name o) → IsToldOfImage image name o
-told-of-image image now name None same sound told =
-    let P : Image → Type 0 = λ i. (l : Layout) → IsLayout i l → IsToldOf i l name None in
-    subst P same told
-told-of-image image now name (Some p) same (l, is) told =
-    let P : Image → Type 0 = λ i. IsLayout i l × IsToldOf i l name (Some p) in
-    let (there, first) = subst P same (is, told l is) in
-    (l, there, first)
+-- of a sound disk
+pub told-of-disk : (img : Image) (entry : Option ℕ) (o : Option Place) → IsSound img
+    → ((l : Layout) → IsLayout img l → IsToldOf img l entry o) → IsToldOfDisk img entry o
+told-of-disk img entry None sound told = told
+told-of-disk img entry (Some p) (l, is) told = (l, is, told l is)
 
 -- a file is cut short where one is told
 pub told-cut : (image : List ℕ) (p : Place) → length image ≡ 174848 → IsToldOfImage image None (Some p)

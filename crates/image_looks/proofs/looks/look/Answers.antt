@@ -6,8 +6,9 @@ use Rattle.disk_reports.specs.AllFaults.{AreListed}
 use Rattle.disk_reports.specs.Listings.{IsCheckFault, IsListFault, IsListed}
 use Rattle.disk_reports.specs.Outcomes.{IsDescribeFault}
 use Rattle.shop_commands.specs.Shops.{IsShowFault, IsShown}
-use Rattle.image_looks.specs.Looks.{AreBytesTaken, AreRecordsTaken, IsChecked, IsTakingEnd, WhyNoBytes, WhyNoRecords}
-use Rattle.image_looks.proofs.Looked.{if-all, printed, quietly-printed}
+use Rattle.keeper_commands.specs.Printed.{AreBytesTaken}
+use Rattle.image_looks.specs.Looks.{AreRecordsTaken, IsChecked, IsTakingEnd, WhyNoBytes, WhyNoRecords}
+use Rattle.image_looks.proofs.Looked.{if-all, if-both, printed, quietly-printed, taken}
 use Rattle.image_looks.proofs.looks.look.Goals as goal
 
 pub returns-in-List : goal.returns-in-List
@@ -70,14 +71,24 @@ returns-in-Records g c =
     let done = c.take_records in
     rw at.is (subst (λ (name : List ℕ).
     IsTakingEnd (AreRecordsTaken g.W.Write.contents at.form at.candidates c.args.image.now name)
-    (WhyNoRecords g.W.Write.contents at.form at.candidates c.args.image.now name) c.args.image.now name c.args.out.now
-    done.new.out done.result) c.as_bytes.ensures done.ensures)
+    (WhyNoRecords g.W.Write.contents at.form at.candidates c.args.image.now name) c.args.out.now
+    done.new.out c.taken_end.result) c.as_bytes.ensures
+    (taken c.args.out.now done.new.out
+    (AreRecordsTaken g.W.Write.contents at.form at.candidates c.args.image.now c.as_bytes.result.now)
+    (WhyNoRecords g.W.Write.contents at.form at.candidates c.args.image.now c.as_bytes.result.now) done.result
+    c.taken_end.result c.taken_end.ensures done.ensures.ok
+    done.ensures.err))
 
 pub returns-in-Bytes : goal.returns-in-Bytes
 returns-in-Bytes g c =
     let at = c.in-Bytes in
-    let done = c.take_bytes in
+    let done = c.bytes_image in
     rw at.is (subst (λ (name : List ℕ).
     IsTakingEnd (AreBytesTaken g.W.Write.contents at.form at.candidates c.args.image.now name)
-    (WhyNoBytes g.W.Write.contents at.form at.candidates c.args.image.now name) c.args.image.now name c.args.out.now
-    done.new.out done.result) c.as_bytes-in-Bytes.ensures done.ensures)
+    (WhyNoBytes g.W.Write.contents at.form at.candidates c.args.image.now name) c.args.out.now
+    done.new.out c.taken_end-in-Bytes.result) c.as_bytes-in-Bytes.ensures
+    (taken c.args.out.now done.new.out
+    (AreBytesTaken g.W.Write.contents at.form at.candidates c.args.image.now c.as_bytes-in-Bytes.result.now)
+    (WhyNoBytes g.W.Write.contents at.form at.candidates c.args.image.now c.as_bytes-in-Bytes.result.now) done.result
+    c.taken_end-in-Bytes.result c.taken_end-in-Bytes.ensures
+    done.ensures.ok (if-both _ _ done.result done.ensures.err done.ensures.part)))

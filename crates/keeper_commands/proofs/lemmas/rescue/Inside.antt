@@ -1,6 +1,6 @@
 -- The names of the files that are made lie in the folder, and differ.
-use Rattle.std.proofs.Common.{◌≡◌, ◌≢◌, ◌<◌, ◌≤◌, ◌+◌, ◌%◌, ◌++◌, ◌∷◌, ◌⊎◌, inl, inr, ℕ, zero, suc, Bool, true, false, List, [], Option, Some, None, ap, append_assoc, arith, get_or, length, map, refl, subst, sym, take, drop, ◌∙◌}
-use Rattle.std.specs.Prelude.{Contains, IsTrue, codes, if◌then◌else◌, nat_eq, slice_range}
+use Rattle.std.proofs.Common.{◌≡◌, ◌≢◌, ◌<◌, ◌≤◌, ◌+◌, ◌%◌, ◌++◌, ◌∷◌, ◌⊎◌, inl, inr, ℕ, Bool, true, false, List, [], Option, Some, None, ap, append_assoc, arith, get_or, length, map, refl, subst, sym, ◌∙◌}
+use Rattle.std.specs.Prelude.{Contains, IsTrue, codes, if◌then◌else◌, nat_eq}
 use Rattle.std.specs.List.{AllByRecursion}
 use Rattle.std.proofs.lemmas.Bool.{false≢true}
 use Rattle.std.proofs.lemmas.Bool.Decides.{Decides-eqb}
@@ -17,7 +17,7 @@ use Rattle.line_text.specs.petscii.FileNames.{IsSafeName, ending_of, ending_text
 use Rattle.line_text.specs.declared.petscii.file_names.Ending.{Ending}
 use Rattle.line_text.specs.declared.petscii.file_names.Ending.TheVariants.{Del, Seq, Prg, Usr, Rel, Other, Records}
 use Rattle.disk_rescue.proofs.Lengths.{name-short}
-use Rattle.keeper_commands.specs.rescue.Folders.{NewFile, StaysInside, new_file}
+use Rattle.keeper_commands.specs.rescue.Folders.{NewFile, StaysInside}
 use Rattle.disk_rescue.specs.Names.{name_of}
 use Rattle.keeper_commands.specs.Found.{records_length}
 use Rattle.keeper_commands.specs.rescue.Rescues.{all_files, bytes_in, entry_file, files_from, files_of, index_of_files, line_files}

@@ -1,5 +1,5 @@
 -- Files added one after another.
-use Rattle.std.proofs.Common.{◌≡◌, ◌++◌, ◌∷◌, ℕ, List, [], Option, Some, None, Ok, Err, Bool, true, false, not, inl, inr, ap, append_assoc, refl, subst, sym, take, ◌∙◌}
+use Rattle.std.proofs.Common.{◌≡◌, ◌++◌, ◌∷◌, List, [], Option, Some, None, Ok, Err, Bool, true, not, inl, inr, ap, append_assoc, refl, subst, sym, take, ◌∙◌}
 use Rattle.std.proofs.lemmas.List.{append-nil}
 use Rattle.std.specs.Prelude.{OnErr, Result, if◌then◌else◌, map}
 use Rattle.keeper_commands.specs.rescue.Memory.{file_in}

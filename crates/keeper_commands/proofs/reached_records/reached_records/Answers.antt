@@ -18,7 +18,7 @@ use Rattle.keeper_commands.proofs.reached_records.reached_records.Goals as goal
 pub returns-in_err-put_reached-clause-end : goal.returns-in_err-put_reached-clause-end
 returns-in_err-put_reached-clause-end g c =
     let p = err_from_is_err_and c.from_residual.result c.from_residual.ensures.1 in
-    let file = reached-file (disk_image c.args.disk.now) c.args.name.now c.args.first c.in-Ok.file.slot
+    let file = reached-file (disk_image c.args.disk.now) c.args.name.now c.args.first c.in-Ok.file.number c.in-Ok.file.slot
     c.find_file.new.blocks.items c.in-Ok.file.last c.in-Ok.file.fault (unwrap_or c.in-Ok.file.fault c.args.first)
     c.requires c.in-Ok.ensures.ok refl in
     rw (p.1 ∙ ap Err p.2) (put-failed g.W.Write.contents c.args.form (disk_image c.args.disk.now) c.args.name.now
@@ -30,7 +30,7 @@ returns-in_err-flush-clause-end g c =
     let p = err_from_is_err_and c.from_residual-in_err-flush.result c.from_residual-in_err-flush.ensures.1 in
     rw (p.1 ∙ ap Err (p.2 ∙ c.in_err-flush.ensures.err)) (
       unwrap_or c.in-Ok.file.fault c.args.first,
-      reached-file (disk_image c.args.disk.now) c.args.name.now c.args.first c.in-Ok.file.slot
+      reached-file (disk_image c.args.disk.now) c.args.name.now c.args.first c.in-Ok.file.number c.in-Ok.file.slot
           c.find_file.new.blocks.items c.in-Ok.file.last c.in-Ok.file.fault
           (unwrap_or c.in-Ok.file.fault c.args.first) c.requires c.in-Ok.ensures.ok refl,
     )
@@ -41,7 +41,7 @@ returns-clause-end g c =
     let after = g.W.Write.contents c.flush.new.out in
     let length_of = record_length c.in-Ok.file.slot in
     inr (record {
-      file = reached-file (disk_image c.args.disk.now) c.args.name.now c.args.first c.in-Ok.file.slot
+      file = reached-file (disk_image c.args.disk.now) c.args.name.now c.args.first c.in-Ok.file.number c.in-Ok.file.slot
           c.find_file.new.blocks.items c.in-Ok.file.last c.in-Ok.file.fault c.unwrap_or.result c.requires
           c.in-Ok.ensures.ok c.unwrap_or.ensures;
       printed = subst (λ (img : Image). Appends before after (records_as c.args.form
@@ -55,18 +55,18 @@ returns-clause-end g c =
 
 pub returns-in_err-put_reached-clause-part : goal.returns-in_err-put_reached-clause-part
 returns-in_err-put_reached-clause-part g c = reached-part g.W.Write.contents c.args.form (disk_image c.args.disk.now)
-    c.args.name.now c.args.out.now c.put_reached.new.out c.args.first c.in-Ok.file.slot c.find_file.new.blocks.items
+    c.args.name.now c.args.out.now c.put_reached.new.out c.args.first c.in-Ok.file.number c.in-Ok.file.slot c.find_file.new.blocks.items
     c.in-Ok.file.last c.in-Ok.file.fault c.requires c.in-Ok.ensures.ok _ c.find_file.ensures.same _
     c.as_slice.ensures.value c.in_err-put_reached.ensures.part
 
 pub returns-in_err-flush-clause-part : goal.returns-in_err-flush-clause-part
 returns-in_err-flush-clause-part g c = reached-part g.W.Write.contents c.args.form (disk_image c.args.disk.now)
-    c.args.name.now c.args.out.now c.flush.new.out c.args.first c.in-Ok.file.slot c.find_file.new.blocks.items
+    c.args.name.now c.args.out.now c.flush.new.out c.args.first c.in-Ok.file.number c.in-Ok.file.slot c.find_file.new.blocks.items
     c.in-Ok.file.last c.in-Ok.file.fault c.requires c.in-Ok.ensures.ok _ c.find_file.ensures.same _
     c.as_slice.ensures.value (part-all _ _ _ (Appends-kept _ _ _ _ c.in_ok-put_reached.ensures.ok c.flush.ensures.kept))
 
 pub returns-clause-part : goal.returns-clause-part
 returns-clause-part g c = reached-part g.W.Write.contents c.args.form (disk_image c.args.disk.now)
-    c.args.name.now c.args.out.now c.flush.new.out c.args.first c.in-Ok.file.slot c.find_file.new.blocks.items
+    c.args.name.now c.args.out.now c.flush.new.out c.args.first c.in-Ok.file.number c.in-Ok.file.slot c.find_file.new.blocks.items
     c.in-Ok.file.last c.in-Ok.file.fault c.requires c.in-Ok.ensures.ok _ c.find_file.ensures.same _
     c.as_slice.ensures.value (part-all _ _ _ (Appends-kept _ _ _ _ c.in_ok-put_reached.ensures.ok c.flush.ensures.kept))

@@ -1,15 +1,16 @@
 -- The image is sound, the file was found, and its records were printed; or why not.
 use Rattle.std.proofs.Common.{◌≡◌, Err, List, inl, inr, length, refl, subst, sym, ◌∙◌, ap, ℕ}
-use Rattle.std.proofs.lemmas.Result.{IfErr-weaker, err_from_is_err_and}
+use Rattle.std.proofs.lemmas.Result.{err_from_is_err_and}
 use Rattle.std.proofs.KnownBytes.{Appends-kept}
 use Rattle.std.specs.Io.KnownBytes.{Appends}
+use Rattle.std.specs.Prelude.{Some}
+use Rattle.damaged_files.specs.cut.Told.{IsToldOfDisk}
 use Rattle.d64_image.specs.Images.{Image}
 use Rattle.d64_image.specs.Memory.{disk_image, sectors_in}
 use Rattle.disk_layout.specs.Fault.{Holds, nowhere}
 use Rattle.disk_layout.specs.Layout.{File, IsLayout, IsSound, Layout}
 use Rattle.disk_layout.specs.Rest.{IsFirst}
 use Rattle.disk_layout.specs.Records as records_of
-use Rattle.d64_image.proofs.Told.{at-ok}
 use Rattle.keeper_commands.proofs.ReachedRecords.{reached-end, records-unloaded}
 use Rattle.keeper_commands.specs.Forms.{records_as}
 use Rattle.command_faults.proofs.Parts.{at-error, part-all}
@@ -63,11 +64,11 @@ put_records_as-requires g c =
         entry_of c.in-Ok.file,
         found.0,
         subst (λ (img : Image). IsFileOf img sound.0 (entry_of c.in-Ok.file) found.0 c.in-Ok.file)
-            (sym c.find.ensures.reads.image) found.2,
+            (sym (c.sound_cut-cut.ensures.same ∙ c.find.ensures.reads.image)) found.2,
       );
     }
 
-found-file : (image name : List ℕ) (img : Image) (l : Layout) (n : ℕ) (f : File) → length image ≡ 174848
+abbrev found-file : (image name : List ℕ) (img : Image) (l : Layout) (n : ℕ) (f : File) → length image ≡ 174848
     → img ≡ sectors_in image → IsLayout img l → IsFirst l name n f → IsRecordFile image name f
 found-file image name img l n f size same is first = record {
   size = size;
@@ -91,19 +92,19 @@ returns-in_err-put_records_as-clause-err g c =
           found.0 loaded.0 (c.unsoundness.ensures.same ∙ loaded.1) sound.1 found.1,
     ))
 
-pub returns-clause-err : goal.returns-clause-err
-returns-clause-err g c =
+pub returns-in_err-flush-clause-err : goal.returns-in_err-flush-clause-err
+returns-in_err-flush-clause-err g c =
     let loaded = c.in_ok-disk.ensures.ok in
     let sound = still (disk_image c.in_ok-disk.disk) (disk_image c.unsoundness.new.disk) c.unsoundness.ensures.same
     c.in_default.ensures.fault in
     let found = c.in-Ok.ensures.ok sound.0 sound.1 in
-    IfErr-weaker c.flush.result _ _
-    (λ fault is. rw is (inl (
+    let p = err_from_is_err_and c.from_residual-in_err-flush.result c.from_residual-in_err-flush.ensures.1
+    in
+    rw (p.1 ∙ ap Err (p.2 ∙ c.in_err-flush.ensures.err)) (inl (
       found.0,
       found-file c.args.image.now c.args.name.now (disk_image c.unsoundness.new.disk) sound.0 (entry_of c.in-Ok.file)
           found.0 loaded.0 (c.unsoundness.ensures.same ∙ loaded.1) sound.1 found.1,
-    )))
-    c.flush.ensures.err
+    ))
 
 pub returns-clause-ok : goal.returns-clause-ok
 returns-clause-ok g c =
@@ -112,17 +113,22 @@ returns-clause-ok g c =
     c.in_default.ensures.fault in
     let found = c.in-Ok.ensures.ok sound.0 sound.1 in
     let of = subst (λ (img : Image). IsFileOf img sound.0 (entry_of c.in-Ok.file) found.0 c.in-Ok.file)
-    (sym c.find.ensures.reads.image) found.2 in
-    at-ok c.flush.result (record {
-      file = found.0;
-      is_file = found-file c.args.image.now c.args.name.now (disk_image c.unsoundness.new.disk) sound.0
-          (entry_of c.in-Ok.file) found.0 loaded.0 (c.unsoundness.ensures.same ∙ loaded.1) sound.1 found.1;
-      printed = subst (λ (img : Image). Appends (g.W.Write.contents c.args.out.now) (g.W.Write.contents c.flush.new.out)
-          (records_as c.args.form (records_of.records img found.0)))
-          (c.find.ensures.reads.image ∙ c.unsoundness.ensures.same ∙ loaded.1)
-          (Appends-kept _ _ _ _ (c.in_ok-put_records_as.ensures.ok sound.0 (entry_of c.in-Ok.file) found.0 of)
-          c.flush.ensures.kept);
-    })
+    (sym (c.sound_cut-cut.ensures.same ∙ c.find.ensures.reads.image)) found.2 in
+    let n = entry_of c.in-Ok.file in
+    let at = c.unsoundness.ensures.same ∙ loaded.1 in (
+      record {
+        file = found.0;
+        is_file = found-file c.args.image.now c.args.name.now (disk_image c.unsoundness.new.disk) sound.0 n found.0 loaded.0
+            at sound.1 found.1;
+        printed = subst (λ (img : Image). Appends (g.W.Write.contents c.args.out.now) (g.W.Write.contents c.flush.new.out)
+            (records_as c.args.form (records_of.records img found.0)))
+            (c.sound_cut-cut.ensures.same ∙ c.find.ensures.reads.image ∙ at)
+            (Appends-kept _ _ _ _ (c.in_ok-put_records_as.ensures.ok sound.0 n found.0 of) c.flush.ensures.kept);
+      },
+      subst (λ (img : Image). IsToldOfDisk img (Some n) c.sound_cut-cut.result) (c.find.ensures.reads.image ∙ at)
+          (subst (λ (m : ℕ). IsToldOfDisk (disk_image c.find.new.disk) (Some m) c.sound_cut-cut.result) c.entry.ensures
+          c.sound_cut-cut.ensures.told),
+    )
 
 pub returns-in_err-put_records_as-clause-part : goal.returns-in_err-put_records_as-clause-part
 returns-in_err-put_records_as-clause-part g c =
@@ -131,7 +137,7 @@ returns-in_err-put_records_as-clause-part g c =
     c.in_default.ensures.fault in
     let found = c.in-Ok.ensures.ok sound.0 sound.1 in
     let of = subst (λ (img : Image). IsFileOf img sound.0 (entry_of c.in-Ok.file) found.0 c.in-Ok.file)
-    (sym c.find.ensures.reads.image) found.2 in
+    (sym (c.sound_cut-cut.ensures.same ∙ c.find.ensures.reads.image)) found.2 in
     let p = err_from_is_err_and c.from_residual-in_err-put_records_as.result c.from_residual-in_err-put_records_as.ensures.1
     in
     rw (p.1 ∙ ap Err p.2) (inl (
@@ -140,25 +146,26 @@ returns-in_err-put_records_as-clause-part g c =
           found.0 loaded.0 (c.unsoundness.ensures.same ∙ loaded.1) sound.1 found.1,
       subst (λ (img : Image). HandsPart (g.W.Write.contents c.args.out.now)
           (g.W.Write.contents c.put_records_as.new.out) (records_as c.args.form (records_of.records img found.0)))
-          (c.find.ensures.reads.image ∙ c.unsoundness.ensures.same ∙ loaded.1)
+          (c.sound_cut-cut.ensures.same ∙ c.find.ensures.reads.image ∙ c.unsoundness.ensures.same ∙ loaded.1)
           (c.in_err-put_records_as.ensures.part sound.0 (entry_of c.in-Ok.file) found.0 of),
     ))
 
-pub returns-clause-part : goal.returns-clause-part
-returns-clause-part g c =
+pub returns-in_err-flush-clause-part : goal.returns-in_err-flush-clause-part
+returns-in_err-flush-clause-part g c =
     let loaded = c.in_ok-disk.ensures.ok in
     let sound = still (disk_image c.in_ok-disk.disk) (disk_image c.unsoundness.new.disk) c.unsoundness.ensures.same
     c.in_default.ensures.fault in
     let found = c.in-Ok.ensures.ok sound.0 sound.1 in
     let of = subst (λ (img : Image). IsFileOf img sound.0 (entry_of c.in-Ok.file) found.0 c.in-Ok.file)
-    (sym c.find.ensures.reads.image) found.2 in
-    at-error c.flush.result (inl (
+    (sym (c.sound_cut-cut.ensures.same ∙ c.find.ensures.reads.image)) found.2 in
+    let p = err_from_is_err_and c.from_residual-in_err-flush.result c.from_residual-in_err-flush.ensures.1 in
+    rw (p.1 ∙ ap Err p.2) (inl (
       found.0,
       found-file c.args.image.now c.args.name.now (disk_image c.unsoundness.new.disk) sound.0 (entry_of c.in-Ok.file)
           found.0 loaded.0 (c.unsoundness.ensures.same ∙ loaded.1) sound.1 found.1,
       part-all _ _ _ (subst (λ (img : Image). Appends (g.W.Write.contents c.args.out.now) (g.W.Write.contents c.flush.new.out)
           (records_as c.args.form (records_of.records img found.0)))
-          (c.find.ensures.reads.image ∙ c.unsoundness.ensures.same ∙ loaded.1)
+          (c.sound_cut-cut.ensures.same ∙ c.find.ensures.reads.image ∙ c.unsoundness.ensures.same ∙ loaded.1)
           (Appends-kept _ _ _ _ (c.in_ok-put_records_as.ensures.ok sound.0 (entry_of c.in-Ok.file) found.0 of)
           c.flush.ensures.kept)),
     ))

@@ -1,5 +1,5 @@
 -- The file was found, and the records among its bytes were printed; or the output failed, or there was no memory.
-use Rattle.std.proofs.Common.{◌∙◌, Err, List, ap, subst}
+use Rattle.std.proofs.Common.{◌∙◌, Err, List, ap, refl, subst}
 use Rattle.std.proofs.KnownBytes.{Appends-kept}
 use Rattle.std.proofs.lemmas.Result.{err_from_is_err_and}
 use Rattle.std.specs.Io.KnownBytes.{Appends}
@@ -26,12 +26,12 @@ returns-in_err-put_reached g c =
       err = rw (p.1 ∙ ap Err p.2) (put-stopped c.args.image.now (Records All) c.args.name.now
           (AreUnclosedPrinted g.W.Write.contents c.args.form c.args.image.now c.args.name.now c.args.out.now
           c.put_reached.new.out) c.args.out.now c.put_reached.new.out c.in-Ok.file.fault
-          (file-there c.args.image.now (Records All) c.args.name.now (disk_image c.in_ok-disk.disk) c.in-Ok.file.slot
+          (file-there c.args.image.now (Records All) c.args.name.now (disk_image c.in_ok-disk.disk) c.in-Ok.file.number c.in-Ok.file.slot
           c.find_file.new.blocks.items c.in-Ok.file.last c.in-Ok.file.fault loaded.0 loaded.1 c.in-Ok.ensures.ok)
           _ c.in_err-put_reached.ensures.err);
       part = rw (p.1 ∙ ap Err p.2) (unclosed-part g.W.Write.contents c.args.form c.args.image.now c.args.name.now
           c.args.out.now c.put_reached.new.out c.in-Ok.file.fault (file-there c.args.image.now (Records All)
-          c.args.name.now (disk_image c.in_ok-disk.disk) c.in-Ok.file.slot
+          c.args.name.now (disk_image c.in_ok-disk.disk) c.in-Ok.file.number c.in-Ok.file.slot
           c.find_file.new.blocks.items c.in-Ok.file.last c.in-Ok.file.fault loaded.0 loaded.1 c.in-Ok.ensures.ok) _
           (c.find_file.ensures.same ∙ loaded.1) _ c.as_slice.ensures.value c.in_err-put_reached.ensures.part);
     }
@@ -44,12 +44,12 @@ returns-in_err-flush g c =
       ok = rw (p.1 ∙ ap Err p.2) tt;
       err = rw (p.1 ∙ ap Err (p.2 ∙ c.in_err-flush.ensures.err)) (
         c.in-Ok.file.fault,
-        file-there c.args.image.now (Records All) c.args.name.now (disk_image c.in_ok-disk.disk) c.in-Ok.file.slot
+        file-there c.args.image.now (Records All) c.args.name.now (disk_image c.in_ok-disk.disk) c.in-Ok.file.number c.in-Ok.file.slot
             c.find_file.new.blocks.items c.in-Ok.file.last c.in-Ok.file.fault loaded.0 loaded.1 c.in-Ok.ensures.ok,
       );
       part = rw (p.1 ∙ ap Err p.2) (unclosed-part g.W.Write.contents c.args.form c.args.image.now c.args.name.now
           c.args.out.now c.flush.new.out c.in-Ok.file.fault (file-there c.args.image.now (Records All)
-          c.args.name.now (disk_image c.in_ok-disk.disk) c.in-Ok.file.slot
+          c.args.name.now (disk_image c.in_ok-disk.disk) c.in-Ok.file.number c.in-Ok.file.slot
           c.find_file.new.blocks.items c.in-Ok.file.last c.in-Ok.file.fault loaded.0 loaded.1 c.in-Ok.ensures.ok) _
           (c.find_file.ensures.same ∙ loaded.1) _ c.as_slice.ensures.value
           (part-all _ _ _ (Appends-kept _ _ _ _ c.in_ok-put_reached.ensures.ok c.flush.ensures.kept)));
@@ -62,11 +62,13 @@ returns g c =
     let after = g.W.Write.contents c.flush.new.out in
     let size = record_length c.in-Ok.file.slot in
     let printed = Appends-kept _ _ _ _ c.in_ok-put_reached.ensures.ok c.flush.ensures.kept in
-    let file = file-there c.args.image.now (Records All) c.args.name.now (disk_image c.in_ok-disk.disk) c.in-Ok.file.slot
+    let file = file-there c.args.image.now (Records All) c.args.name.now (disk_image c.in_ok-disk.disk) c.in-Ok.file.number c.in-Ok.file.slot
     c.find_file.new.blocks.items c.in-Ok.file.last c.in-Ok.file.fault loaded.0 loaded.1 c.in-Ok.ensures.ok in
     let both = printed-end c.args.image.now (Records All) c.args.name.now
     (AreUnclosedPrinted g.W.Write.contents c.args.form c.args.image.now c.args.name.now c.args.out.now c.flush.new.out)
-    c.args.out.now c.flush.new.out c.in-Ok.file.fault c.ended.result c.ended.ensures (record {
+    c.args.out.now c.flush.new.out (λ f t. t.file.number) _
+    (c.in_ok-put_reached.ensures.same ∙ c.find_file.ensures.same ∙ loaded.1) c.in-Ok.file.number c.in-Ok.file.fault
+    c.ended.result c.ended.ensures (record {
       file = file;
       printed = subst (λ (img : Image). Appends before after
           (records_as c.args.form (records_of size (file_bytes img c.find_file.new.blocks.items c.in-Ok.file.last))))
@@ -74,7 +76,7 @@ returns g c =
           (subst (λ (bs : List Place). Appends before after (records_as c.args.form
           (records_of size (file_bytes (disk_image c.find_file.new.disk) bs c.in-Ok.file.last))))
           c.as_slice.ensures.value printed);
-    }) in
+    }) refl in
     record {
       ok = both.0;
       err = both.1;

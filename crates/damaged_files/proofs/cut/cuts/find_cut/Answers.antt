@@ -1,6 +1,6 @@
 -- The survey, the directory, and then what both tell of the disk.
 use Rattle.std.proofs.Common.{ap, map, subst, sym, ◌∷◌, ◌∙◌, ◌≡◌, IsTrue}
-use Rattle.std.specs.Prelude.{Contains, ◌↔◌, option_map}
+use Rattle.std.specs.Prelude.{Contains, ◌↔◌}
 use Rattle.d64_image.specs.Images.{Image, Sector, sector}
 use Rattle.d64_image.specs.Memory.{disk_image, memory}
 use Rattle.d64_image.specs.declared.place.Place.{Place}
@@ -56,5 +56,5 @@ returns-clause-ok c l is =
     ) in
     let Q : Image → Type 0 = λ i. IsLayout i l → c.as_slice-2.result.now ≡ map (λ (f : File). f.slot) l.files
     → (IsTrue c.has_stray.result ↔ HasStray i l) → (IsTrue c.has_stock.result ↔ HasStock l)
-    → IsToldOf i l (option_map (λ n. n.now) c.args.name) c.first_cut.result in
+    → IsToldOf i l c.args.entry c.first_cut.result in
     subst Q all (c.first_cut.ensures.told l) is (c.as_slice-2.ensures.value ∙ entries) strays stock

@@ -1,5 +1,5 @@
 use Rattle.std.proofs.Common.{◌≡◌, ◌<◌, ℕ, IsTrue, map}
-use Rattle.std.specs.Prelude.{Some, option_map, slice_get}
+use Rattle.std.specs.Prelude.{Some, slice_get}
 use Rattle.d64_image.specs.Memory.{disk_image}
 use Rattle.d64_image.specs.declared.place.Place.{Place}
 use Rattle.disk_layout.specs.Layout.{File, IsLayout, Layout}
@@ -7,11 +7,11 @@ use Rattle.damaged_files.specs.cut.Cut.{IsCutIn}
 use Rattle.damaged_files.specs.cut.Told.{IsAsked}
 use Rattle.damaged_files.proofs.cut.cuts.first_cut.Given as goal
 
-abbrev pub invariant-loop-slot : goal.invariant-loop-slot
-invariant-loop-slot l = record {
+abbrev pub invariant-loop-number : goal.invariant-loop-number
+invariant-loop-number l = record {
   same : disk_image l.disk ≡ disk_image l.fn.disk;
   none : (m : Layout) → IsLayout (disk_image l.fn.disk) m → l.slots ≡ map (λ (f : File). f.slot) m.files → (k : ℕ)
-      (g : File) (q : Place) → k < l.slot-index → slice_get m.files k ≡ Some g
-      → IsAsked (option_map (λ n. n.now) l.name) g.slot
+      (g : File) (q : Place) → k < l.number → slice_get m.files k ≡ Some g
+      → IsAsked l.entry k
       → ¬ (IsCutIn (disk_image l.fn.disk) (IsTrue l.facts.strays) (IsTrue l.facts.shop) g q);
 }

@@ -1,5 +1,5 @@
 -- There was no memory for the lines.
-use Rattle.std.proofs.Common.{inr, sym, ◌∙◌}
+use Rattle.std.proofs.Common.{inr}
 use Rattle.std.proofs.lemmas.Result.{err_from_is_err_and}
 use Rattle.keeper_commands.proofs.lemmas.rescue.Parts.{none-added}
 use Rattle.keeper_commands.proofs.rescue.making.make_records.Goals as goal

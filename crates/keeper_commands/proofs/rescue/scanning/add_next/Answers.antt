@@ -1,5 +1,5 @@
 -- There is room for one sector more.
-use Rattle.std.proofs.Common.{ap, lit<, sym, ◌<◌, ◌∙◌}
+use Rattle.std.proofs.Common.{ap, lit<, sym, ◌∙◌}
 use Rattle.keeper_commands.proofs.lemmas.rescue.Scanned.{few-next}
 use Rattle.keeper_commands.specs.rescue.Scanned.{is_among}
 use Rattle.keeper_commands.proofs.rescue.scanning.add_next.Goals as goal
