@@ -73,7 +73,7 @@ def rows(text, heading):
 
 
 def option_of(row):
-    """An option from its row, such as `-h, --help` or `--tills <T>`."""
+    """An option from its row, such as `-h, --help` or `--tills <TILLS>`."""
     short = re.search(r"(?<!\S)-(\w)\b", row[0])
     long = re.search(r"--([a-z-]+)", row[0])
     value = re.search(r"<(\w+)>", row[0])
