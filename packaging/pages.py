@@ -94,6 +94,8 @@ def words_of(program):
         missing = [value for value in re.findall(r"<\w+>", usage) if value not in named]
         if missing or not more:
             sys.exit(f"pages: the help of {row[0]} isn't read whole: {missing}")
+        if wide := [line for line in text.splitlines() if len(line) > 80]:
+            sys.exit(f"pages: the help of {row[0]} has more than 80 columns: {wide}")
         found.append(word)
     return found
 
