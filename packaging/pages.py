@@ -4,7 +4,8 @@
     packaging/pages.py PROGRAM FOLDER NAME COMMIT
 
 PROGRAM is asked for --help, and so is each of its subcommands. So the pages name the words that the program takes, and no others.
-The man page also has the faults that `check` prints and the words of refusals, each with its meaning, from docs/KEEPERS.md.
+The man page also has the faults that `check` prints and the words of refusals, each with its meaning, from docs/KEEPERS.md, and what
+that says about those in ADVICE.
 NAME is the command under which the program is installed, COMMIT names the sources that it was built from. FOLDER gets `NAME.1`,
 `NAME.bash`, `_NAME` (zsh) and `NAME.fish`."""
 
@@ -15,6 +16,8 @@ from dataclasses import dataclass, field
 from pathlib import Path
 
 GUIDE = Path(__file__).resolve().parent.parent / "docs/KEEPERS.md"
+# sections of the guide that stand whole in the man page
+ADVICE = ("A part of a file was lost", "`DEVICE`")
 
 STATUSES = (
     ("0", "Success; also when help was asked for."),
@@ -142,6 +145,10 @@ def explained_words():
             lines += [".TP", f".B {escaped(plain(refusal[1]))}", escaped(plain(refusal[2]))]
         elif line.startswith("Status "):
             lines += [".PP", escaped(plain(line))]
+    for heading in ADVICE:
+        lines.append(f".SS {escaped(plain(heading))}")
+        for mark, text in re.findall(r"(?m)^(\d+\.|-|) ?(\S.*)$", section(f"### {heading}", "#{2,3}")):
+            lines += [f".IP {escaped(mark)} 3" if mark else ".PP", escaped(plain(text))]
     return lines
 
 
