@@ -4,7 +4,8 @@
     packaging/pages.py PROGRAM FOLDER NAME COMMIT
 
 PROGRAM is asked for --help, and so is each of its subcommands. So the pages name the words that the program takes, and no others.
-The man page also has the faults that `check` prints and the words of refusals, each with its meaning, from docs/KEEPERS.md.
+The man page also has the faults that `check` prints and the words of refusals, each with its meaning, from docs/KEEPERS.md, and what
+that says about those in ADVICE.
 NAME is the command under which the program is installed, COMMIT names the sources that it was built from. FOLDER gets `NAME.1`,
 `NAME.bash`, `_NAME` (zsh) and `NAME.fish`."""
 
@@ -15,6 +16,8 @@ from dataclasses import dataclass, field
 from pathlib import Path
 
 GUIDE = Path(__file__).resolve().parent.parent / "docs/KEEPERS.md"
+# sections of the guide that stand whole in the man page
+ADVICE = ("A part of a file was lost", "`DEVICE`")
 
 STATUSES = (
     ("0", "Success; also when help was asked for."),
@@ -73,7 +76,7 @@ def rows(text, heading):
 
 
 def option_of(row):
-    """An option from its row, such as `-h, --help` or `--tills <T>`."""
+    """An option from its row, such as `-h, --help` or `--tills <TILLS>`."""
     short = re.search(r"(?<!\S)-(\w)\b", row[0])
     long = re.search(r"--([a-z-]+)", row[0])
     value = re.search(r"<(\w+)>", row[0])
@@ -94,6 +97,8 @@ def words_of(program):
         missing = [value for value in re.findall(r"<\w+>", usage) if value not in named]
         if missing or not more:
             sys.exit(f"pages: the help of {row[0]} isn't read whole: {missing}")
+        if wide := [line for line in text.splitlines() if len(line) > 80]:
+            sys.exit(f"pages: the help of {row[0]} has more than 80 columns: {wide}")
         found.append(word)
     return found
 
@@ -140,6 +145,10 @@ def explained_words():
             lines += [".TP", f".B {escaped(plain(refusal[1]))}", escaped(plain(refusal[2]))]
         elif line.startswith("Status "):
             lines += [".PP", escaped(plain(line))]
+    for heading in ADVICE:
+        lines.append(f".SS {escaped(plain(heading))}")
+        for mark, text in re.findall(r"(?m)^(\d+\.|-|) ?(\S.*)$", section(f"### {heading}", "#{2,3}")):
+            lines += [f".IP {escaped(mark)} 3" if mark else ".PP", escaped(plain(text))]
     return lines
 
 

@@ -1,10 +1,11 @@
 #!/usr/bin/env python3
-"""Sees that docs/PROMISES.md names no clause that isn't there, and prints a line for each that isn't.
+"""Sees that docs/PROMISES.md names no clause that isn't there, and other pages for programmers no name, and prints a line for each.
 
 Below each promise stand calls in backticks, and in brackets behind them their clauses. A call is a function, a type, whose methods
 it stands for, or a folder or file of tests. A clause is a label of a contract of one of these calls, a
 field of a record that the contract cites, a word of the contract itself, or a record of specs/ on which it rests. A promise has
-30 words at most. The status is 1 if something isn't found, or a promise is longer."""
+30 words at most. In PAGES each name in backticks is one of the sources, of specs/, or of OTHERS; and in the lines of docs/PROOF.md that
+number the theorem each clause is one of the calls before the colon. The status is 1 if something isn't found, or a promise is longer."""
 
 import re
 import sys
@@ -13,6 +14,9 @@ from pathlib import Path
 TOP = Path(__file__).resolve().parent.parent
 LONGEST = 30
 WORD = r"[A-Za-z_]\w*"
+PAGES = ("README.md", "docs/PROOF.md", "docs/MAP.md", "docs/EMBED.md", "docs/LOG.md", "docs/POWER_CUTS.md", "crates/*/README.md")
+# names in backticks of the kit, of its verdict, or of other programs
+OTHERS = {"HANDLES", "grep", "itoa", "native", "search", "statements", "thiserror"}
 
 
 def record_fields():
@@ -68,6 +72,24 @@ def long_promises():
             yield f"PROMISES.md:{number}: {words} words: {line[2:60]}"
 
 
+def unknown_names(everywhere):
+    """A line for each name in backticks of PAGES that isn't there."""
+    for file in (it for form in PAGES for it in sorted(TOP.glob(form))):
+        text = re.sub(r"(?ms)^```.*?^```", "", file.read_text())
+        named = {it for it in re.findall(r"`([^`\n]+)`", text) if re.fullmatch(rf"{WORD}(::{WORD})*", it)}
+        unknown = {word for it in named for word in re.findall(WORD, it)} - everywhere - OTHERS
+        yield from (f"{file.relative_to(TOP)}: no such name: {it}" for it in sorted(unknown))
+
+
+def unknown_clauses(words, fields):
+    """A line for each clause in the theorem's lines of docs/PROOF.md that isn't one of the calls named with it."""
+    for line in re.findall(r"(?m)^\d\. \*\*.*\((`.*`)\)$", (TOP / "docs/PROOF.md").read_text()):
+        for calls, clauses in re.findall(r"([^;:]*(?:::[^;:]*)*): ([^;:]*)(?:;|$)", line):
+            known = set(fields).union(*(words.get(it.split("::")[-1], set()) for it in re.findall(r"`([^`]+)`", calls)))
+            missing = [it for it in re.findall(rf"`({WORD})`", clauses) if it not in known]
+            yield from (f"PROOF.md: {calls.strip()}: no such clause: {it}" for it in missing)
+
+
 def main():
     fields = record_fields()
     words = contract_words(fields)
@@ -89,7 +111,8 @@ def main():
                 known |= fields.get(clause, set()) if clause in known else set()
             missing = [it for it in re.findall(rf"`({WORD})`", clauses) if it not in known]
             lines += [f"PROMISES.md:{number}: {', '.join(names)}: no such clause: {it}" for it in missing]
-    print("\n".join(lines) or "docs/PROMISES.md names no clause that isn't there")
+    lines += [*unknown_names(everywhere), *unknown_clauses(words, fields)]
+    print("\n".join(lines) or "docs/PROMISES.md and other pages name nothing that isn't there")
     return 1 if lines else 0
 
 

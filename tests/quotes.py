@@ -2,9 +2,10 @@
 """Sees that what documents quote whole stands so in the sources.
 
 In README.md and docs/*.md a line `<!-- FILE: NAME -->` stands before a block of code that quotes the definition NAME of FILE, with
-the comment over it. Of a FILE of Rust NAME is a trait, and the block has a line for each function of its implementation there: name
-and body. Both have to be the same, line by line. `--write` puts the definition into the block. Without words nothing is written, and
-the status is 1 where a block isn't up to date, where NAME isn't there, or where nothing is quoted."""
+the comment over it. Of a FILE of Rust NAME is a trait that is implemented there, and the block has a line for each of its functions:
+name and body; or it is a function or a trait, which the block has without comments, attributes and blank lines. Both have to be the
+same, line by line. `--write` puts the definition into the block. Without words nothing is written, and the status is 1 where a block
+isn't up to date, where NAME isn't there, or where nothing is quoted."""
 
 import re
 import sys
@@ -24,11 +25,22 @@ def bodies(lines, trait):
     return "".join(f"{name}: {' '.join(body.split()).replace(' .', '.')}\n" for name, body in found)
 
 
+def item(lines, name):
+    """The one function or trait of this name among these lines, as a block has it; None where it isn't there."""
+    heads = [at for at, line in enumerate(lines) if re.match(rf" *(pub(\(crate\))? )?(fn|trait) {name}\b", line)]
+    if len(heads) != 1:
+        return None
+    indent = len(lines[heads[0]]) - len(lines[heads[0]].lstrip())
+    end = lines.index(" " * indent + "}", heads[0])
+    said = [it[indent:] for it in lines[heads[0] : end + 1] if it.strip() and not re.match(r"\s*(//|#\[)", it)]
+    return "".join(f"{it}\n" for it in said)
+
+
 def definition(file, name):
     """A definition with the comment over it, from its file; None where it isn't there."""
     lines = (TOP / file).read_text(encoding="utf-8").split("\n")
     if file.endswith(".rt"):
-        return bodies(lines, name)
+        return bodies(lines, name) or item(lines, name)
     heads = [at for at, line in enumerate(lines) if re.match(rf"(unfoldable |abbrev )?pub (record |data )?{name}\b", line)]
     if len(heads) != 1:
         return None

@@ -14,7 +14,7 @@ required id = record (new_rule id) { required = true }
 abbrev pub required_several : Text → Rule
 required_several id = record (required id) { action = Some Append }
 
--- a value that is required after two hyphens and this word: --tills T
+-- a value that is required after two hyphens and this word: --tills TILLS
 abbrev pub required_behind : Text → Text → Rule
 required_behind word id = record (required id) { long = Some word }
 
@@ -28,7 +28,7 @@ optional_behind word id = record (new_rule id) { long = Some word }
 
 -- a subcommand that has columns for fields, if --fields is given, or at positions
 abbrev pub may_have_columns : App → App
-may_have_columns a = with_rule (with_rule a (flag (codes "fields"))) (optional_behind (codes "at") (codes "P"))
+may_have_columns a = with_rule (with_rule a (flag (codes "fields"))) (optional_behind (codes "at") (codes "POSITIONS"))
 
 -- a subcommand over an image: check IMAGE
 abbrev pub over_image : Text → App
@@ -38,9 +38,9 @@ over_image name = with_rule (new_app name) (required (codes "IMAGE"))
 abbrev pub over_images : Text → App
 over_images name = with_rule (new_app name) (required_several (codes "IMAGE"))
 
--- format IMAGE --tills T [--new]
+-- format IMAGE --tills TILLS [--new]
 abbrev pub format : App
-format = with_rule (with_rule (over_image (codes "format")) (required_behind (codes "tills") (codes "T")))
+format = with_rule (with_rule (over_image (codes "format")) (required_behind (codes "tills") (codes "TILLS")))
     (flag (codes "new"))
 
 -- a subcommand that prints text of the disk, in one of two character sets, if --text or --mixed is given
@@ -93,7 +93,7 @@ repair = with_rule (may_run_dry (with_rule (may_accept_loss (over_image (codes "
 abbrev pub may_be_unclosed : App → App
 may_be_unclosed a = with_rule a (flag (codes "unclosed"))
 
--- records IMAGE NAME [--text] [--mixed] [--fields] [--at P] [--unclosed]
+-- records IMAGE NAME [--text] [--mixed] [--fields] [--at POSITIONS] [--unclosed]
 abbrev pub records : App
 records = may_be_unclosed (may_have_columns (may_be_text (with_rule (over_image (codes "records")) (required (codes "NAME")))))
 
@@ -101,12 +101,12 @@ records = may_be_unclosed (may_have_columns (may_be_text (with_rule (over_image 
 abbrev pub bytes : App
 bytes = may_be_unclosed (may_be_text (with_rule (over_image (codes "bytes")) (required (codes "NAME"))))
 
--- make IMAGE NAME --length L [--accept-loss] [--dry-run]
+-- make IMAGE NAME --length BYTES [--accept-loss] [--dry-run]
 abbrev pub make : App
 make = may_run_dry (may_accept_loss (with_rule (with_rule (over_image (codes "make")) (required (codes "NAME")))
-    (required_behind (codes "length") (codes "L"))))
+    (required_behind (codes "length") (codes "BYTES"))))
 
--- store IMAGE NAME RECORDS [--accept-loss] [--fields] [--at P] [--dry-run]
+-- store IMAGE NAME RECORDS [--accept-loss] [--fields] [--at POSITIONS] [--dry-run]
 abbrev pub store : App
 store = may_run_dry (may_have_columns (may_accept_loss (with_rule (with_rule (over_image (codes "store"))
     (required (codes "NAME"))) (required (codes "RECORDS")))))
@@ -124,10 +124,10 @@ rename = may_run_dry (with_rule (with_rule (over_image (codes "rename")) (requir
 abbrev pub delete : App
 delete = may_run_dry (with_rule (over_image (codes "delete")) (required (codes "NAME")))
 
--- new IMAGE --name N --id I
+-- new IMAGE --name NAME --id ID
 abbrev pub new : App
-new = with_rule (with_rule (over_image (codes "new")) (required_behind (codes "name") (codes "N")))
-    (required_behind (codes "id") (codes "I"))
+new = with_rule (with_rule (over_image (codes "new")) (required_behind (codes "name") (codes "NAME")))
+    (required_behind (codes "id") (codes "ID"))
 
 -- map IMAGE..
 abbrev pub map : App

@@ -7,7 +7,7 @@ pub(crate) const CHANGES: &[Subcommand] = &[NEW, MAKE, STORE, PUT, RENAME, DELET
 
 /// The name of a new disk.
 const DISK_NAME: Value = Value {
-    name: "N",
+    name: "NAME",
     word: Some("name"),
     count: Count::One,
     help: "The disk's name, at most 16 bytes",
@@ -15,18 +15,19 @@ const DISK_NAME: Value = Value {
 
 /// The ID of a new disk.
 const DISK_ID: Value = Value {
-    name: "I",
+    name: "ID",
     word: Some("id"),
     count: Count::One,
     help: "The disk's ID, two bytes",
 };
 
-/// `new IMAGE --name N --id I`
+/// `new IMAGE --name NAME --id ID`
 const NEW: Subcommand = Subcommand {
     name: "new",
-    about: "Makes the image of an empty disk",
+    about: "Make the image of an empty disk",
     more: "\
-Prints FORMATTED once the image is on the disk. The disk has no file.
+It prints FORMATTED once the image is on the disk. The disk has no file. To make
+a shop, use format.
 
 Exit status:
   0  the image was made
@@ -40,18 +41,18 @@ Example: ledger new work.d64 --name WORK --id 01",
 
 /// The length of the records of a new file.
 const LENGTH: Value = Value {
-    name: "L",
+    name: "BYTES",
     word: Some("length"),
     count: Count::One,
     help: "How many bytes a record has, 1 to 254",
 };
 
-/// `make IMAGE NAME --length L [--accept-loss] [--dry-run]`
+/// `make IMAGE NAME --length BYTES [--accept-loss] [--dry-run]`
 const MAKE: Subcommand = Subcommand {
     name: "make",
-    about: "Makes a relative file with a block of empty records",
+    about: "Make a relative file with a block of empty records",
     more: "\
-Prints MADE.
+It prints MADE. To fill the file, use store.
 
 Exit status:
   0  the file was made
@@ -73,16 +74,15 @@ const RECORD_LINES: Value = Value {
     help: "The records as `records` prints them, or /dev/stdin",
 };
 
-/// `store IMAGE NAME RECORDS [--accept-loss] [--fields] [--at P] [--dry-run]`
+/// `store IMAGE NAME RECORDS [--accept-loss] [--fields] [--at POSITIONS] [--dry-run]`
 const STORE: Subcommand = Subcommand {
     name: "store",
-    about: "Stores records in a relative file, and prints those that changed",
+    about: "Store records in a relative file, and print those that changed",
     more: "\
-Prints the line of each record that changed. The file grows as far as the
-greatest record number. With --fields a CR ends each column after the number.
-With --at 1,25,49 each column goes to its position, with zeros between them; a
-column that goes beyond the next position is refused. Otherwise a line has one
-column.
+It prints the line of each record that changed. The file grows up to the highest
+record number. With --fields a CR ends each column after the number. With --at
+1,25,49 each column goes to its position, with zeros between them; a column that
+goes beyond the next position is refused. Otherwise a line has one column.
 
 Exit status:
   0  the records were stored
@@ -123,9 +123,9 @@ const FILE_TYPE: Value = Value {
 /// `put IMAGE NAME FILE --type TYPE [--dry-run]`
 const PUT: Subcommand = Subcommand {
     name: "put",
-    about: "Puts a file of the host on the disk",
+    about: "Put a file of the host on the disk",
     more: "\
-Prints PUT. An empty FILE gives a file with one byte, a carriage return.
+It prints PUT. An empty FILE gives a file with one byte, a carriage return.
 
 Exit status:
   0  the file is on the disk
@@ -158,9 +158,9 @@ const NEW_NAME: Value = Value {
 /// `rename IMAGE OLD NEW [--dry-run]`
 const RENAME: Subcommand = Subcommand {
     name: "rename",
-    about: "Gives a file another name",
+    about: "Give a file another name",
     more: "\
-Prints RENAMED. It renames the first file that has the name OLD.
+It renames the first file that has the name OLD, and prints RENAMED.
 
 Exit status:
   0  the file was renamed
@@ -177,9 +177,9 @@ Example: ledger rename old.d64 LETTER 'LETTER 1'",
 /// `delete IMAGE NAME [--dry-run]`
 const DELETE: Subcommand = Subcommand {
     name: "delete",
-    about: "Deletes a file, and frees its sectors",
+    about: "Delete a file, and free its sectors",
     more: "\
-Prints DELETED. It deletes the first file of this name, and frees its sectors.
+It deletes the first file that has this name, and prints DELETED.
 
 Exit status:
   0  the file was deleted

@@ -66,7 +66,7 @@ fn explainable_of<'a>(alloc: Global, subcommand: &Subcommand) -> Result<Command<
 fn described<'a>(alloc: Global) -> Command<'a>
     ensures { app_of result ≡ new_app (codes "ledger") }
 {
-    let about = "Keeps a shop's stock on a 1541 disk (D64), and checks, reads and repairs disks";
+    let about = "Keep a shop's stock on a 1541 disk (D64), and check, read and repair disks";
     named(alloc, "ledger", about, MORE)
 }
 

@@ -19,5 +19,6 @@ command reads it there. LOG with status 1: the log is of another image.
 If a command fails, standard error has one line. On a terminal, or with
 --explain, a second line names the file or says what to do.
 
-\"ledger COMMAND --help\" has an example of each command. \"man ledger-1541\", of
-the package, has all of this, and every word that the commands print.";
+\"ledger COMMAND --help\" has an example of each command. Debian's package calls
+the program ledger-1541. Its page \"man ledger-1541\" has all of this. There and
+in docs/KEEPERS.md is every word that the commands print.";

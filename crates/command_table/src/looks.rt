@@ -8,13 +8,13 @@ pub(crate) const LOOKS: &[Subcommand] = &[LIST, CHECK, MAP, PICTURE, FREE, SECTO
 /// `list IMAGE.. [--text] [--mixed]`
 const LIST: Subcommand = Subcommand {
     name: "list",
-    about: "Prints the directory of an image, or of several",
+    about: "Print the directory of an image, or of several",
     more: "\
-Prints the disk's name, a line for each entry, and how many blocks are free. `*`
-before the type: the file wasn't closed. `<` after it: the file is locked.
-`?` stands for a byte that ASCII lacks; with --text or --mixed its character.
+It prints the disk's name, a line for each entry, and how many blocks are free.
+`*` before the type: the file wasn't closed. `<` after it: the file is locked.
+`?` stands for a byte that ASCII lacks; --text and --mixed show its character.
 With several images each line begins with the image's name, also for an image
-that is refused, and the status is the greatest.
+that is refused. The exit status is then the highest of all.
 
 Exit status:
   0  the directory was printed
@@ -30,7 +30,7 @@ const JSON: Value = Value {
     name: "json",
     word: Some("json"),
     count: Count::Flag,
-    help: "Prints an object of JSON for each image, in a line",
+    help: "Print a line for each image, an object of JSON",
 };
 
 /// The flag that prints every fault.
@@ -38,15 +38,15 @@ const ALL: Value = Value {
     name: "all",
     word: Some("all"),
     count: Count::Flag,
-    help: "Prints every fault, each with the files that it concerns",
+    help: "Print every fault, each with the files that it concerns",
 };
 
 /// `check IMAGE.. [--json] [--all]`
 const CHECK: Subcommand = Subcommand {
     name: "check",
-    about: "Checks the layout of images: prints OK, or a fault and its sector",
+    about: "Check the layout of images: print OK, or a fault and its sector",
     more: "\
-Prints OK, or a fault and its sector, for example LOOP 17/0:
+It prints OK, or a fault and its sector, for example LOOP 17/0:
   MAPWRONG    the map of free sectors (BAM) is wrong about this sector; at 18/0:
               about the number of free sectors of a track
   COUNTWRONG  a relative file's entry in this sector has a wrong block count
@@ -58,14 +58,15 @@ Prints OK, or a fault and its sector, for example LOOP 17/0:
   BADTYPE     a closed entry in this sector has a type that doesn't exist
   BADLENGTH   a relative file's entry in this sector has record length 0 or 255
 \"man ledger-1541\" says what to do about each.
-On a terminal, or with --explain, SHORT and a sector follow if a file is cut
-short there; not with several images.
+If a file is cut short, SHORT and its last sector follow on a terminal or with
+--explain, but not for several images.
 With several images each line begins with the image's name, also for an image
-that is refused, and the status is the greatest.
-With --json each image gives an object of JSON in a line. Its `files` are those
-that the fault concerns, and `free` counts blocks. With --all every fault is
-printed, the first one first, with its files: OWNEDTWICE 6/17 \"A\" \"B\". MAPWRONG
-is only printed if the files are sound. With --json, --all has no effect.
+that is refused. The exit status is then the highest of all.
+With --json each image has a line, an object of JSON. Its `files` are those that
+the fault concerns, and `free` counts blocks. With --all every fault is printed
+with its files, for example OWNEDTWICE 6/17 \"A\" \"B\": first the one that check
+prints without it. MAPWRONG is only printed if the files are sound. With --json,
+--all has no effect.
 
 Exit status:
   0  OK
@@ -79,15 +80,15 @@ Example: ledger check ./*.[dD]64",
 /// `map IMAGE..`
 const MAP: Subcommand = Subcommand {
     name: "map",
-    about: "Prints the owner of each sector, the files, and the result of a check",
+    about: "Print the owner of each sector, the files, and the result of a check",
     more: "\
-Draws a damaged disk too, as far as its links can be followed:
+It draws a damaged disk too, as far as its links can be followed:
   *  the map of free sectors (BAM)      .  free
   =  the directory                      ?  taken, but in no file
   a  a block of the file with letter a  !  the sector of the fault
   A  a side sector of that file
 With several images each line begins with the image's name, also for an image
-that is refused, and the status is the greatest.
+that is refused. The exit status is then the highest of all.
 
 Exit status:
   0  the disk is clean
@@ -103,7 +104,7 @@ const SVG: Value = Value {
     name: "svg",
     word: Some("svg"),
     count: Count::Flag,
-    help: "Prints a poster, as an SVG file of its own",
+    help: "Print a poster, as an SVG file of its own",
 };
 
 /// The flag for a sheet of several images.
@@ -111,7 +112,7 @@ const SHEET: Value = Value {
     name: "sheet",
     word: Some("sheet"),
     count: Count::Flag,
-    help: "Prints a page with a small drawing of each image, at most 400",
+    help: "Print a page with a small drawing of each image, at most 400",
 };
 
 /// The flag that compares two images.
@@ -119,20 +120,20 @@ const COMPARE: Value = Value {
     name: "compare",
     word: Some("compare"),
     count: Count::Flag,
-    help: "Prints a page of the second of two images, with what differs from the first",
+    help: "Print a page of the second image: what differs from the first",
 };
 
 /// `picture IMAGE.. [--svg] [--sheet] [--compare]`
 const PICTURE: Subcommand = Subcommand {
     name: "picture",
-    about: "Prints a drawing of the disk as an HTML page, or as a poster",
+    about: "Print a drawing of the disk as an HTML page, or as a poster",
     more: "\
-Draws a damaged disk too, as far as its links can be followed. The page loads
+It draws a damaged disk too, as far as its links can be followed. The page loads
 nothing and has no script, and neither does the poster (297 by 420 mm).
-A sheet has a tile for each image, also for one that is refused, and ends with
-the greatest status of its images. With --compare the page shows the second
-image, marks the sectors that differ from the first, and lists the files and
-records that changed. The status is that of the second image.
+A sheet has a tile for each image, also for one that is refused. The exit status
+is then the highest of all. With --compare the page shows the second image,
+marks the sectors that differ from the first, and lists the files and records
+that changed. The exit status is that of the second image.
 
 Exit status:
   0  the disk is clean
@@ -148,10 +149,11 @@ Example: ledger picture --sheet ./*.d64 > all.html",
 /// `free IMAGE`
 const FREE: Subcommand = Subcommand {
     name: "free",
-    about: "Prints how many sectors of each track are free",
+    about: "Print how many sectors of each track are free",
     more: "\
-Prints a line for each track, for example TRACK 17 FREE 21, and how many blocks
-are free for files. The numbers are those of the disk's map, right or wrong.
+It prints a line for each track, for example TRACK 17 FREE 21, and how many
+blocks are free for files. The numbers are those of the disk's map, right or
+wrong. To free sectors that no file owns, use repair --free.
 
 Exit status:
   0  the numbers of free sectors were printed
@@ -173,12 +175,12 @@ const PLACE: Value = Value {
 /// `sector IMAGE T/S`
 const SECTOR: Subcommand = Subcommand {
     name: "sector",
-    about: "Prints a sector in hexadecimal digits, its owner and its link",
+    about: "Print a sector in hexadecimal digits, its owner and its link",
     more: "\
-Prints the sector's bytes, sixteen in a line, with the characters that a C64
+It prints the sector's bytes, sixteen in a line, with the characters that a C64
 shows for them; then OWNER and the file's line as `map` prints it, and LINK and
-the sector that comes next. After LINK END stands the number of the last byte of
-the chain. A damaged disk is printed too.
+the next sector. LINK END is followed by the number of the chain's last byte. It
+prints sectors of a damaged disk too.
 
 Exit status:
   0  the sector was printed

@@ -12,15 +12,15 @@ const UNCLOSED: Value = Value {
     name: "unclosed",
     word: Some("unclosed"),
     count: Count::Flag,
-    help: "Takes the first file with the name, closed or not",
+    help: "Take the first file with the name, closed or not",
 };
 
-/// `records IMAGE NAME [--text] [--mixed] [--fields] [--at P] [--unclosed]`
+/// `records IMAGE NAME [--text] [--mixed] [--fields] [--at POSITIONS] [--unclosed]`
 const RECORDS: Subcommand = Subcommand {
     name: "records",
-    about: "Prints the records of a relative file, a line each",
+    about: "Print the records of a relative file, a line each",
     more: "\
-Prints a line for each record, for example 1,\"MILK\\0d\". If the file is
+It prints a line for each record, for example 1,\"MILK\\0d\". If the file is
 damaged, it prints what can be read, and then reports a fault.
 --text and --mixed print lines for people: `store` doesn't take them back.
 --fields prints a column for each field, which a CR ends: 1,\"MILK\",\"12\". A last
@@ -43,9 +43,9 @@ Example: ledger records old.d64 ADDRESS > address.csv",
 /// `bytes IMAGE NAME [--text] [--mixed] [--unclosed]`
 const BYTES: Subcommand = Subcommand {
     name: "bytes",
-    about: "Prints the bytes of a file of any type",
+    about: "Print the bytes of a file of any type",
     more: "\
-Prints the bytes of the first closed file with this name. If the file is
+It prints the bytes of the first closed file with this name. If the file is
 damaged, it prints what can be read, and then reports the fault. With --text or
 --mixed each CR ends a line. With --unclosed it takes the first file with this
 name, and reports UNCLOSED if that isn't closed.
@@ -74,7 +74,7 @@ const DELETED: Value = Value {
     name: "deleted",
     word: Some("deleted"),
     count: Count::Flag,
-    help: "Takes out deleted files too, if no other file has a block of theirs",
+    help: "Take out deleted files too, if no other file has their blocks",
 };
 
 /// The flag that looks for sectors of a lost directory.
@@ -82,20 +82,20 @@ const SCAN: Value = Value {
     name: "scan",
     word: Some("scan"),
     count: Count::Flag,
-    help: "Reads other sectors of track 18 too that look like the directory's",
+    help: "Read other sectors of track 18 too if they look like entries",
 };
 
 /// `extract IMAGE FOLDER [--deleted] [--scan]`
 const EXTRACT: Subcommand = Subcommand {
     name: "extract",
-    about: "Takes all files out of an image, as far as they can be read",
+    about: "Take all files out of an image, as far as they can be read",
     more: "\
-Makes FOLDER, and in it a file for each entry of the directory, for example
-01-LETTER 02.prg. A relative file also has its records as lines (.csv). What can
-be read of a damaged file is taken, and index.csv says what was found. Prints
-EXTRACTED if all files are whole. With --deleted deleted files come after all
-others (.del), if no block of theirs is also another file's. With --scan the
-other sectors of track 18 are read too that look like those of a directory.
+It makes FOLDER, and in it a file for each entry of the directory, for example
+01-LETTER 02.prg. A relative file also has its records as lines (.csv). It takes
+what can be read of a damaged file, and index.csv says what was found. It prints
+EXTRACTED if all files are whole. With --deleted it also takes deleted files
+whose blocks no other file has (.del), after all others. With --scan it also
+reads those other sectors of track 18 that look like sectors of a directory.
 
 Exit status:
   0  all files are whole
@@ -112,7 +112,7 @@ const FREE_SECTORS: Value = Value {
     name: "free",
     word: Some("free"),
     count: Count::Flag,
-    help: "Frees the sectors that are taken and belong to no file",
+    help: "Free the sectors that are taken and belong to no file",
 };
 
 /// The flag that builds side sectors anew.
@@ -120,19 +120,19 @@ const SIDES: Value = Value {
     name: "sides",
     word: Some("sides"),
     count: Count::Flag,
-    help: "Builds side sectors that disagree with their files anew first",
+    help: "First rebuild side sectors that disagree with their files",
 };
 
 /// `repair IMAGE [--accept-loss] [--free] [--dry-run] [--sides]`
 const REPAIR: Subcommand = Subcommand {
     name: "repair",
-    about: "Corrects the map, the side sectors and the block counts of a disk",
+    about: "Correct the map, the side sectors and the block counts of a disk",
     more: "\
-Prints MENDED and the sector for each sector that it changed, then OK. No file
-changes. Sectors that are marked as taken and belong to no file stay taken:
-KEPT and their number instead of OK. With --free it prints FREED and the sector
-for each of them. With --sides it first builds the side sectors of relative
-files anew from their chains, where they disagree, and prints MENDED for each.
+It prints MENDED and the sector for each sector that it changed, then OK. No
+file changes. Sectors that are marked as taken and belong to no file stay taken:
+it prints KEPT and their number instead of OK. With --free it frees them, and
+prints FREED and the sector for each. With --sides it first rebuilds the side
+sectors that disagree with their file's chain, and prints MENDED for each.
 
 Exit status:
   0  the disk is clean
@@ -147,13 +147,13 @@ Example: ledger repair --dry-run old.d64",
 /// `trim IMAGE`
 const TRIM: Subcommand = Subcommand {
     name: "trim",
-    about: "Prints tracks 1 to 35 of an image with 40, or with error bytes",
+    about: "Print tracks 1 to 35 of an image with 40, or with error bytes",
     more: "\
-Prints an image of 174848 bytes, as every other command takes it, from one of 35
-or 40 tracks with or without error bytes. On standard error it prints a line for
-each sector that the drive couldn't read, for example ERROR 23 17/4. A file that
-goes on past track 35 has one too: BEYOND, the sector whose link leads there,
-and its name.
+It prints an image of 174848 bytes, as every other command takes it, from one of
+35 or 40 tracks with or without error bytes. On standard error it prints a line
+for each sector that the drive couldn't read, for example ERROR 23 17/4. A file
+that goes on past track 35 has a line too: BEYOND, the sector whose link leads
+there, and the file's name.
 
 Exit status:
   0  all of the image is there

@@ -7,7 +7,7 @@ pub(crate) const SHOPS: &[Subcommand] = &[FORMAT, SHOW, PLAY, DRY, SERVE, COPY];
 
 /// The number of tills of a new shop.
 const TILLS: Value = Value {
-    name: "T",
+    name: "TILLS",
     word: Some("tills"),
     count: Count::One,
     help: "How many tills the shop has, 1 to 64",
@@ -18,21 +18,21 @@ const ONLY_NEW: Value = Value {
     name: "new",
     word: Some("new"),
     count: Count::Flag,
-    help: "Refuses to replace an image that exists",
+    help: "Refuse to replace an image that exists",
 };
 
-/// `format IMAGE --tills T [--new]`
+/// `format IMAGE --tills TILLS [--new]`
 const FORMAT: Subcommand = Subcommand {
     name: "format",
-    about: "Makes the image of an empty shop, or replaces it",
+    about: "Make the image of an empty shop, or replace it",
     more: "\
-Prints FORMATTED once the image is on the disk. Without --new it replaces IMAGE
-if that exists, and removes its log first.
+It prints FORMATTED once the image is on the disk. Without --new it replaces
+IMAGE without asking if that exists, and removes its log first.
 
 Exit status:
   0  the image was made
   1  FILE EXISTS, with --new: IMAGE or its log exists, and nothing was done
-  2  TILLS: T isn't 1 to 64
+  2  TILLS: not 1 to 64
   3  FILE (the file, its folder or the output failed), NO MEMORY, IN USE
 
 Example: ledger format --new shop.d64 --tills 4",
@@ -42,10 +42,10 @@ Example: ledger format --new shop.d64 --tills 4",
 /// `show IMAGE`
 const SHOW: Subcommand = Subcommand {
     name: "show",
-    about: "Prints the cards, and the last two requests of each till",
+    about: "Print the cards, and the last two requests of each till",
     more: "\
-Prints TOP (the greatest item that has room), a CARD for each item, and for each
-till its last two requests as TILL and PRIOR.
+It prints TOP (the highest item number that has room), a CARD for each item, and
+for each till its last two requests as TILL and PRIOR.
 
 Exit status:
   0  the shop was printed
@@ -69,15 +69,15 @@ const SYNC: Value = Value {
     name: "sync",
     word: Some("sync"),
     count: Count::Flag,
-    help: "Plays over a log beside the image, as `serve` does",
+    help: "Play over a log beside the image, as `serve` does",
 };
 
 /// `play IMAGE SCRIPT [--sync]`
 const PLAY: Subcommand = Subcommand {
     name: "play",
-    about: "Plays the messages of a script on the image, and prints the replies",
+    about: "Play the messages of a script on the image, and print the replies",
     more: "\
-Prints a reply for each line, for example 1,1,DONE,40. In a line such as
+It prints a reply for each line, for example 1,1,DONE,40. In a line such as
 \"@2 1,1,R,7,5\" the power fails after two writes; --sync refuses such a line.
 With --sync the requests are synced in IMAGE-log first, and come to IMAGE at the
 end. Without it a power loss can lose answered requests, or leave a wrong shop.
@@ -95,9 +95,9 @@ Example: ledger play --sync shop.d64 day.txt",
 /// `dry SCRIPT`
 const DRY: Subcommand = Subcommand {
     name: "dry",
-    about: "Prints the replies to a script on an empty shop, without a disk",
+    about: "Print the replies to a script on an empty shop, without a disk",
     more: "\
-Prints the replies that a fresh disk with 64 tills would give.
+It prints the replies that a fresh disk with 64 tills would give.
 
 Exit status:
   0  the replies were printed
@@ -112,10 +112,11 @@ Example: ledger dry day.txt",
 /// `serve IMAGE [--accept-loss]`
 const SERVE: Subcommand = Subcommand {
     name: "serve",
-    about: "Answers the messages on standard input, over a log beside the image",
+    about: "Answer the messages on standard input, over a log beside the image",
     more: "\
-Takes the lines at hand, 512 at most, syncs once, and prints their replies. What
-they changed is in IMAGE-log until the input ends; other commands read it there.
+It takes the lines at hand, 512 at most, syncs once, and prints their replies.
+What they changed is in IMAGE-log until the input ends; other commands read it
+there.
 
 Exit status:
   0  the input ended
@@ -139,9 +140,9 @@ const COPY_PATH: Value = Value {
 /// `copy IMAGE NEW`
 const COPY: Subcommand = Subcommand {
     name: "copy",
-    about: "Copies the image as it is now, also while it is served",
+    about: "Copy the image as it is now, also while it is served",
     more: "\
-Prints COPIED once the copy is on the disk. The copy needs no log.
+It prints COPIED once the copy is on the disk. The copy needs no log.
 
 Exit status:
   0  the image was copied

@@ -54,7 +54,7 @@ pub(crate) const EXPLAIN: Value = Value {
     name: "explain",
     word: Some("explain"),
     count: Count::Flag,
-    help: "Prints a second line on standard error if the command fails",
+    help: "Print a second line on standard error if it fails",
 };
 
 /// The flag of those that change the files of a disk: nothing is written.
@@ -62,7 +62,7 @@ pub(crate) const DRY_RUN: Value = Value {
     name: "dry-run",
     word: Some("dry-run"),
     count: Count::Flag,
-    help: "Prints the same lines, and writes nothing",
+    help: "Print the same lines, and write nothing",
 };
 
 /// The flag of those that print records or store them.
@@ -70,15 +70,15 @@ pub(crate) const FIELDS: Value = Value {
     name: "fields",
     word: Some("fields"),
     count: Count::Flag,
-    help: "A column for each field, which CR ends, instead of one column",
+    help: "Have a column for each field, which a CR ends",
 };
 
 /// The positions of those that print records or store them.
 pub(crate) const POSITIONS: Value = Value {
-    name: "P",
+    name: "POSITIONS",
     word: Some("at"),
     count: Count::Optional,
-    help: "A column from each of these positions on, for example 1,25,49",
+    help: "Have a column from each position on, for example 1,25,49",
 };
 
 /// The flag of those that print text of the disk.
@@ -86,7 +86,7 @@ pub(crate) const TEXT: Value = Value {
     name: "text",
     word: Some("text"),
     count: Count::Flag,
-    help: "Prints PETSCII as text in UTF-8: capitals and graphics",
+    help: "Print PETSCII as text in UTF-8: capitals and graphics",
 };
 
 /// The same of the other character set.
@@ -102,5 +102,5 @@ pub(crate) const ACCEPT_LOSS: Value = Value {
     name: "accept-loss",
     word: Some("accept-loss"),
     count: Count::Flag,
-    help: "Goes on if a file has lost its end (SHORT)",
+    help: "Go on if a file has lost its end (SHORT)",
 };

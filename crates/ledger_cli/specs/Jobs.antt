@@ -103,8 +103,8 @@ IsJob found (jobs.Extract choice image folder) = Has found (codes "extract")
 IsJob found (jobs.Change image effect edit) = Has found (word_of_edit edit)
     (λ rows. (image.now ≡ value (codes "IMAGE") rows) × IsEditIn edit rows × (effect ≡ effect_in rows))
 IsJob found (jobs.New image name id) = Has found (codes "new")
-    (λ rows. (image.now ≡ value (codes "IMAGE") rows) × IsNameOf (value (codes "N") rows) (name_bytes name)
-    × IsIdOf (value (codes "I") rows) id)
+    (λ rows. (image.now ≡ value (codes "IMAGE") rows) × IsNameOf (value (codes "NAME") rows) (name_bytes name)
+    × IsIdOf (value (codes "ID") rows) id)
 
 -- the text of a name is none that the subcommand takes
 abbrev pub IsRefusedName : Option (Text × List Row) → Type 0
@@ -112,7 +112,7 @@ IsRefusedName found =
     (Has found (codes "records") (HasNoName (codes "NAME")) ⊎ Has found (codes "bytes") (HasNoName (codes "NAME")))
     ⊎ (Has found (codes "store") (HasNoName (codes "NAME")) ⊎ (Has found (codes "make") (HasNoNewName (codes "NAME"))
     ⊎ (Has found (codes "delete") (HasNoName (codes "NAME")) ⊎ (Has found (codes "rename") HasNoRenaming
-    ⊎ (Has found (codes "new") (HasNoName (codes "N")) ⊎ Has found (codes "put") (HasNoNewName (codes "NAME")))))))
+    ⊎ (Has found (codes "new") (HasNoName (codes "NAME")) ⊎ Has found (codes "put") (HasNoNewName (codes "NAME")))))))
 
 -- the subcommand has columns, and its words give none
 abbrev pub AreRefusedColumns : Option (Text × List Row) → JobFault → Type 0
@@ -131,7 +131,7 @@ IsNoJob kinds found faults.Length =
 IsNoJob kinds found faults.Sector = (kinds ≡ []) × Has found (codes "sector") (λ rows. place_in rows ≡ None)
 IsNoJob kinds found faults.Images = (kinds ≡ []) × Has found (codes "picture") IsNoPicture
 IsNoJob kinds found faults.Id =
-    (kinds ≡ []) × Has found (codes "new") (λ rows. HasName (codes "N") rows × HasNoId rows)
+    (kinds ≡ []) × Has found (codes "new") (λ rows. HasName (codes "NAME") rows × HasNoId rows)
 IsNoJob kinds found faults.Kind =
     (kinds ≡ []) × Has found (codes "put") (λ rows. HasNewName (codes "NAME") rows × (type_in rows ≡ None))
 IsNoJob kinds found faults.Flags = (kinds ≡ []) × AreRefusedColumns found faults.Flags

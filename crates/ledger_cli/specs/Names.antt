@@ -46,7 +46,7 @@ pub record IsIdOf (text bytes : List ℕ) : Type 0 where
 
 -- no two bytes have the text that the words give as an ID
 abbrev pub HasNoId : List Row → Type 0
-HasNoId rows = (bytes : List ℕ) → AreBytes bytes → ¬ (IsIdOf (value (codes "I") rows) bytes)
+HasNoId rows = (bytes : List ℕ) → AreBytes bytes → ¬ (IsIdOf (value (codes "ID") rows) bytes)
 
 -- the job that is made of the name that the words give as NAME; or they give none
 abbrev pub IsNamedJob : List Row → (Name → Job) → Result Job JobFault → Type 0
@@ -95,9 +95,9 @@ IsRenamingJob rows image result =
 abbrev pub IsNewDiskJob : List Row → Bor Text → Result Job JobFault → Type 0
 IsNewDiskJob rows image result =
     ((name : Name) × (id : List ℕ) × (result ≡ Ok (jobs.New image name id))
-    × IsNameOf (value (codes "N") rows) (name_bytes name) × IsIdOf (value (codes "I") rows) id)
-    ⊎ (((result ≡ Err faults.Name) × HasNoName (codes "N") rows)
-    ⊎ ((result ≡ Err faults.Id) × HasName (codes "N") rows × HasNoId rows))
+    × IsNameOf (value (codes "NAME") rows) (name_bytes name) × IsIdOf (value (codes "ID") rows) id)
+    ⊎ (((result ≡ Err faults.Name) × HasNoName (codes "NAME") rows)
+    ⊎ ((result ≡ Err faults.Id) × HasName (codes "NAME") rows × HasNoId rows))
 
 -- the type of a file that has this word
 abbrev pub type_named : Text → Option FileType

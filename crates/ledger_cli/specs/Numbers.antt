@@ -9,11 +9,11 @@ use Rattle.command_table.specs.Grammar.{value}
 
 -- the number of tills that the words give: 1 to 64, without leading zeros
 abbrev pub tills_in : List Row → Option ℕ
-tills_in rows = number_in 1 64 (value (codes "T") rows)
+tills_in rows = number_in 1 64 (value (codes "TILLS") rows)
 
 -- the length of a record that they give: 1 to 254, without leading zeros
 abbrev pub length_in : List Row → Option ℕ
-length_in rows = number_in 1 254 (value (codes "L") rows)
+length_in rows = number_in 1 254 (value (codes "BYTES") rows)
 
 -- the sector of a track with these numbers, if both are given and the disk has it
 abbrev pub place_if_both : Option ℕ → Option ℕ → Option Place

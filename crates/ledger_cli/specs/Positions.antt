@@ -19,22 +19,22 @@ pub record AreListed (text : Text) (ps : List ℕ) : Type 0 where
 -- the words ask for no columns
 pub record AsksForNone (rows : List Row) : Type 0 where
   pub fields : is_given (codes "fields") rows ≡ false
-  pub at : first_of (codes "P") rows ≡ None
+  pub at : first_of (codes "POSITIONS") rows ≡ None
 
 -- the words give positions, and don't ask for fields
 pub record AsksFor (rows : List Row) (text : Text) : Type 0 where
   pub fields : is_given (codes "fields") rows ≡ false
-  pub at : first_of (codes "P") rows ≡ Some text
+  pub at : first_of (codes "POSITIONS") rows ≡ Some text
 
 -- the words ask for columns in this form
 abbrev pub AsksForColumns : List Row → ColumnForm → Type 0
-AsksForColumns rows forms.Fields = (is_given (codes "fields") rows ≡ true) × (first_of (codes "P") rows ≡ None)
+AsksForColumns rows forms.Fields = (is_given (codes "fields") rows ≡ true) × (first_of (codes "POSITIONS") rows ≡ None)
 AsksForColumns rows (forms.At positions) = (text : Text) × AsksFor rows text × AreListed text (starts positions)
 
 -- no columns are made: the words ask for both forms, or what they give as positions is none
 abbrev pub HasNoColumns : List Row → JobFault → Type 0
 HasNoColumns rows faults.Flags =
-    (text : Text) × (is_given (codes "fields") rows ≡ true) × (first_of (codes "P") rows ≡ Some text)
+    (text : Text) × (is_given (codes "fields") rows ≡ true) × (first_of (codes "POSITIONS") rows ≡ Some text)
 HasNoColumns rows faults.Positions = (text : Text) × AsksFor rows text × ((ps : List ℕ) → ¬ (AreListed text ps))
 HasNoColumns rows _ = ⊥
 

@@ -109,7 +109,7 @@ pub(crate) fn making<'a>(matches: &ArgMatches<'a>, image: &'a str) -> Result<Job
     let Some(name) = new_name(value_of(matches, "NAME")) else {
         return Err(JobFault::Name);
     };
-    match length_of(value_of(matches, "L")) {
+    match length_of(value_of(matches, "BYTES")) {
         Some(length) => {
             let loss = loss(matches);
             Ok(edited(matches, image, Edit::Make { length, loss, name }))
@@ -224,10 +224,10 @@ fn id_of(text: &str) -> Option<[u8; 2]>
 pub(crate) fn empty_disk<'a>(matches: &ArgMatches<'a>, image: &'a str) -> Result<Job<'a>, JobFault>
     ensures { IsNewDiskJob (rows_of (found_of matches.now)) image.entry result }
 {
-    let Some(name) = Name::read(value_of(matches, "N")) else {
+    let Some(name) = Name::read(value_of(matches, "NAME")) else {
         return Err(JobFault::Name);
     };
-    match id_of(value_of(matches, "I")) {
+    match id_of(value_of(matches, "ID")) {
         Some(id) => Ok(Job::New { image, name, id }),
         None => Err(JobFault::Id),
     }

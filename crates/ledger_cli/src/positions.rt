@@ -47,7 +47,7 @@ pub(crate) fn columns_asked<'a>(matches: &ArgMatches<'a>) -> Result<Option<Colum
     ensures { AreAsked (rows_of (found_of matches.now)) result }
 {
     let fields = is_given(matches, "fields");
-    let Some(text) = optional_value(matches, "P") else {
+    let Some(text) = optional_value(matches, "POSITIONS") else {
         return Ok(if fields {
             Some(ColumnForm::Fields)
         } else {

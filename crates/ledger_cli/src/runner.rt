@@ -68,11 +68,11 @@ fn refuse<E: Write>(err: &mut E, error: &io::Error) -> u8 {
 fn explain_words<E: Write>(fault: &JobFault, err: &mut E) {
     let _ = match fault {
         JobFault::Words(_) => Ok(()),
-        JobFault::Tills => writeln!(err, "ledger: T is 1 to 64"),
-        JobFault::Length => writeln!(err, "ledger: L is 1 to 254"),
+        JobFault::Tills => writeln!(err, "ledger: TILLS is 1 to 64"),
+        JobFault::Length => writeln!(err, "ledger: BYTES is 1 to 254"),
         JobFault::Sector => writeln!(
             err,
-            "ledger: T/S is a track and a sector that it has, as 17/4"
+            "ledger: T/S is a track and a sector that it has, such as 17/4"
         ),
         JobFault::Images => writeln!(
             err,
@@ -80,17 +80,17 @@ fn explain_words<E: Write>(fault: &JobFault, err: &mut E) {
         ),
         JobFault::Name => writeln!(
             err,
-            "ledger: a name has 1 to 16 bytes; one that isn't plain text is a backslash and two digits, as \\c1"
+            "ledger: a name has 1 to 16 bytes; one that isn't plain text is a backslash and two digits, such as \\c1"
         ),
         JobFault::Id => writeln!(
             err,
-            "ledger: I has two bytes; one that isn't plain text is a backslash and two digits, as \\c1"
+            "ledger: ID has two bytes; one that isn't plain text is a backslash and two digits, such as \\c1"
         ),
         JobFault::Flags => writeln!(err, "ledger: give --fields or --at, not both"),
         JobFault::Kind => writeln!(err, "ledger: TYPE is prg, seq or usr"),
         JobFault::Positions => writeln!(
             err,
-            "ledger: P is up to 32 numbers of 1 to 254, which rise from 1, such as 1,25,49"
+            "ledger: POSITIONS are up to 32 numbers of 1 to 254, which rise from 1, such as 1,25,49"
         ),
     };
 }
@@ -199,12 +199,10 @@ fn text_of<'a>(before: &[&str], word: &'a str) -> &'a str {
     }
 }
 
-/// The arguments as texts, all at one lifetime. The first is the name by which people call the program, whatever its
-/// file is called.
+/// The arguments as texts, all at one lifetime. The first is the name by which the program was called.
 fn texts_of<'a>(alloc: Global, words: &'a [String]) -> Result<Vec<&'a str>, AllocError> {
     let mut texts = Vec::new(alloc);
-    texts.push("ledger")?;
-    for word in words.iter().skip(1) {
+    for word in words {
         let text = text_of(texts.as_slice(), word.as_str());
         texts.push(text)?;
     }

@@ -33,7 +33,7 @@ fn job_of<'a>(alloc: Global, matches: &ArgMatches<'a>) -> Result<Job<'a>, JobFau
     let image = value_of(found, "IMAGE");
     let script = value_of(found, "SCRIPT");
     match name {
-        "format" => match tills_of(value_of(found, "T")) {
+        "format" => match tills_of(value_of(found, "TILLS")) {
             Some(tills) => Ok(formatting(found, image, tills)),
             None => Err(JobFault::Tills),
         },

@@ -27,11 +27,13 @@ pub(crate) enum About {
 }
 
 /// What is wrong with a disk, and with an image that is no shop's.
-const JUDGED: &str = "docs/KEEPERS.md says what the word means, and what to do";
+const JUDGED: &str =
+    "\"man ledger-1541\" or docs/KEEPERS.md says what the word means, and what to do";
 
 const NO_SHOP: &str = "it is no shop of this program, or another program wrote to it";
 
-const KEPT: &str = "no file owns what is kept, but another program may; `repair --free` frees it";
+const KEPT: &str =
+    "no file owns what is kept, but it may hold data; if you know that it doesn't, `repair --free` frees it";
 
 const FOREIGN_LOG: &str =
     "the log beside it is of another image, or not whole; docs/LOG.md says what to do";
