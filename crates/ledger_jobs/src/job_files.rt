@@ -1,6 +1,6 @@
 //! The files that a job names: its words for them, and their sizes.
 ghost use Rattle.std.specs.Prelude.{◌≡◌, option_map};
-ghost use Rattle.opened_files.specs.Rights as specs;
+ghost use Rattle.ledger_jobs.specs.JobRights as specs;
 
 use crate::jobs::Job;
 use arrayvec::ArrayVec;
