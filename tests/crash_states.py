@@ -11,7 +11,7 @@ served in bursts of 1 to 64 lines. The script replays them up to a random call o
 - Names that were made, changed or removed since the folder was synced reach the disk each or not, in any order.
 The shop of each state is shown, and served on. After that `show` has to print the shop after the first n lines, where n is at least
 the number of lines that were answered before the failure, and at most the number that were handed over; and each till's last answered
-request has to get its kept answer once more. Of some states the calls of the recovery are recorded too, and cut in the same way.
+request has to get its kept answer once more. The image alone has to be such a shop too, or to say that its log is away. Of some states the calls of the recovery are recorded too, and cut in the same way.
 
 Then the same without the calls that sync, which has to fail: otherwise nothing was tried. The status is 1 at the first state that is
 wrong, and if the states without syncs are all right. The last line says how much was tried."""
@@ -325,6 +325,7 @@ class Trial:
     def look(self, a_day, files, least, most, depth=1):
         """Looks at one state, in which at least and at most so many lines count."""
         self.states += 1
+        self.look_alone(a_day, files["shop.d64"], least, most)
         folder = self.put(files)
         image = folder / "shop.d64"
         status, shown, err = run(self.program, "show", image)
@@ -342,6 +343,13 @@ class Trial:
         need(told == [reply for _, reply in repeats], f"{where}: a repeat got another answer")
         need(sure(self.program, "show", image)[1:] == shown[1:], f"{where}: a recovery changed the shop")
         need(sure(self.program, "check", image) == ["OK"], f"{where}: check")
+
+    def look_alone(self, a_day, held, least, most):
+        """Without its log the image is refused, or has a shop in which all answered lines count."""
+        image = self.put({"shop.d64": held}) / "shop.d64"
+        status, shown, err = run(self.program, "show", image)
+        is_away = status == 1 and "LOG AWAY" in err
+        need(is_away or shown[1:] in a_day.shows[least : most + 1], f"the image alone is an older shop, and doesn't say so: {status} {err}")
 
     @staticmethod
     def repeats(a_day, count):

@@ -8,7 +8,8 @@ is full and lands it at the end; `play`, which lands a log and then changes IMAG
 and then puts another image in IMAGE's place. Each is stopped at a random
 call, by a kill or by a power loss, during recoveries too. A power loss keeps any of the unsynced changes of names, and
 tears each unsynced write: every byte of it comes or stays out. Each image that the next program finds must be one that
-was there since the last confirmed change. Now and then somebody puts another IMAGE there, damages the log, puts a file of
+was there since the last confirmed change. IMAGE is tagged while a service's log has the rest: no power loss leaves it tagged
+without a log, or untagged and older. Now and then somebody puts another IMAGE there, damages the log, puts a file of
 another kind at a name of it, or takes the log's name away under a service. The same is then tried with one step left out:
 the model must find that wrong, or it would be blind."""
 import collections
@@ -21,6 +22,8 @@ BLOCK = HEAD + PER * (1 + WIDTH)
 BLOCKS = 9                          # blocks of a log; the mark stands behind them
 LENGTH = BLOCK * BLOCKS + 1
 MORE, LAST = 1, 2
+TAGGED, TAG = 1, b'LA'              # the sector of IMAGE that has the tag behind its bytes
+TAG_AT = (TAGGED + 1) * WIDTH
 BASE = SECTORS // PER               # blocks of a commit, at most
 
 # each step that may be left out, and what is expected to go wrong without it
@@ -49,6 +52,12 @@ STEPS = {
     'looks': 'a service doesn\'t look for the log\'s name before it lands it',
     'length': 'the length of a new log is not synced first',
     'foreign': 'a file that is no log in the making is removed',
+    'tag': 'IMAGE is not tagged once the log of a service has its name',
+    'tag first': 'IMAGE is tagged before the log has its name',
+    'tag named': 'IMAGE is tagged before the name of the log is synced',
+    'tag kept': 'a sector that is written takes the tag away',
+    'tag taken': 'the log is removed before it is synced that the tag was taken away',
+    'tag early': 'the tag is taken away before IMAGE is synced',
 }
 
 
@@ -126,6 +135,11 @@ class Disk:
         self.seen = [bytearray(data) for data in self.kept]
         self.writes = [[] for _ in self.kept]
         self.names, self.changes = dict(self.kept_names), []
+
+
+def place(i):
+    """Where sector i of IMAGE begins."""
+    return i * WIDTH + (len(TAG) if i > TAGGED else 0)
 
 
 def put(data, at, new):
@@ -206,15 +220,30 @@ class World:
         self.rng, self.without, self.disk = rng, without, Disk()
         self.image = self.disk.create('IMAGE')
         first = [bytes((1 + rng.randrange(3), rng.randrange(3))) for _ in range(SECTORS)]
-        self.disk.write(self.image, 0, b''.join(first))
+        self.put_image(first)
         self.disk.sync(self.image)
         self.disk.sync_folder()
         self.may_be, self.confirmed = [first], 0
-        self.shared, self.reader, self.views, self.serving = True, None, 0, False
+        self.shared, self.reader, self.views, self.serving, self.replacing = True, None, 0, False, False
 
     def sectors(self):
         data = self.disk.seen[self.image]
-        return [bytes(data[i * WIDTH:(i + 1) * WIDTH]) for i in range(SECTORS)]
+        return [bytes(data[place(i):place(i) + WIDTH]) for i in range(SECTORS)]
+
+    def put_image(self, image):
+        for i, sector in enumerate(image):
+            self.disk.write(self.image, place(i), sector + bytes(len(TAG) if i == TAGGED else 0))
+
+    def has_tag(self):
+        return any(self.disk.seen[self.image][TAG_AT:TAG_AT + len(TAG)])
+
+    def see_tag(self):
+        """A tag stands there only with a log; and without it IMAGE has all that was confirmed, unless it is being replaced."""
+        if 'LOG' not in self.disk.names:
+            if self.has_tag():
+                raise Wrong('IMAGE says that its log is away')
+        elif not self.has_tag() and not self.replacing and self.sectors() not in self.may_be[self.confirmed:]:
+            raise Wrong('IMAGE is older, and does not say so')
 
     def find(self, image):
         """A program found this image: is it one of those that may be there?"""
@@ -307,14 +336,35 @@ class World:
         now = self.sectors()
         for i in range(SECTORS):
             if now[i] != image[i]:
-                disk.write(self.image, i * WIDTH, image[i])
+                tag = bytes(disk.seen[self.image][TAG_AT:TAG_AT + len(TAG)]) if i == TAGGED else b''
+                disk.write(self.image, place(i), image[i] + (bytes(len(tag)) if without == 'tag kept' else tag))
                 yield
+        if without == 'tag early':
+            yield from self.untag()
         if without != 'image':
             disk.sync(self.image)
             yield
 
+    def untag(self):
+        if self.has_tag():
+            self.disk.write(self.image, TAG_AT, bytes(len(TAG)))
+            yield
+
+    def tag(self):
+        if self.without != 'tag':
+            self.disk.write(self.image, TAG_AT, TAG)
+            yield
+            self.disk.sync(self.image)
+            yield
+
     def unlog(self):
+        if self.has_tag():
+            yield from self.untag()
+            if self.without != 'tag taken':
+                self.disk.sync(self.image)
+                yield
         self.disk.remove('LOG')
+        self.replacing = False
         yield
         if self.without != 'removed':
             self.disk.sync_folder()
@@ -327,6 +377,7 @@ class World:
         if without != 'begin':
             disk.sync_folder()
             yield
+        self.see_tag()
         if 'LOG' not in disk.names:
             return self.sectors()
         log = disk.names['LOG']
@@ -360,11 +411,16 @@ class World:
         if without != 'making':
             disk.sync_folder()
             yield
+        if without == 'tag first':
+            yield from self.tag()
         disk.rename('NEW', 'LOG')
         yield
+        if without == 'tag named':
+            yield from self.tag()
         if without != 'named':
             disk.sync_folder()
             yield
+        yield from self.tag()
         return log, BASE
 
     def lay_out(self):
@@ -460,6 +516,7 @@ class World:
             disk.sync_folder()
             yield
         disk.rename('NEW', 'LOG')
+        self.replacing = True
         yield
         if without != 'named':
             disk.sync_folder()
@@ -477,7 +534,7 @@ class World:
             image[index] = image[index][:1] + bytes([self.rng.randrange(256)])
             self.may_be.append(image)
             here = len(self.may_be) - 1
-            self.disk.write(self.image, index * WIDTH + 1, image[index][1:])
+            self.disk.write(self.image, place(index) + 1, image[index][1:])
             yield
             self.disk.sync(self.image)
             self.confirmed = here
@@ -487,8 +544,9 @@ class World:
         """After a crash someone puts another image in place of IMAGE. A log of the old one must be refused."""
         self.disk.sync(self.image)
         other = [bytes((9, self.rng.randrange(256))) for _ in range(SECTORS)]
-        self.disk.write(self.image, 0, b''.join(other))
+        self.put_image(other)
         self.disk.sync(self.image)
+        self.replacing = True
         log = self.disk.names.get('LOG')
         found = None if log is None else read_log(self.disk.seen[log])
         try:

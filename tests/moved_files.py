@@ -5,7 +5,7 @@
 
 Behind each change the next line hears MEDIA, standard error has DEVICE, and the status is 3; also a line that is repeated and known
 from memory. If the input ends instead, it ends so too, and over a log nothing is landed or removed. The same with the log of a
-running `serve`; then no reply is told to the next line. Files beside an image that are no logs stay. Of two `serve`s under one name only the one whose file the name leads to answers. It ends by itself and uses no network."""
+running `serve`; then no reply is told to the next line. The image alone, copied from under a `serve`, is refused (LOG AWAY). Files beside an image that are no logs stay. Of two `serve`s under one name only the one whose file the name leads to answers. It ends by itself and uses no network."""
 
 import os
 import shutil
@@ -113,6 +113,26 @@ def run(folder, *words):
     return done.returncode
 
 
+def alone(folder):
+    """A served image that is copied without its log says so, and so it does once the log is gone for good."""
+    fresh(folder)
+    served = Served(folder)
+    want("the first line", served.ask(b"1,1,S,15,7"), b"1,1,DONE,7")
+    shutil.copy(folder / "s.d64", folder / "c.d64")
+    words = ["show"], ["serve"], ["play", "/dev/null"], ["play", "--sync", "/dev/null"], ["repair"], ["delete", "STOCK"]
+    for word, *others in words:
+        done = subprocess.run([PROGRAM, word, "c.d64", *others], cwd=folder, stdin=subprocess.DEVNULL, capture_output=True)
+        want(f"{word} of the image alone", (done.returncode, done.stderr), (1, b"LOG AWAY\n"))
+    want("a check of it", run(folder, "check", "c.d64"), 0)
+    shutil.copy(folder / "s.d64-log", folder / "c.d64-log")
+    want("the image beside its log", run(folder, "show", "c.d64"), 0)
+    (folder / "c.d64-log").unlink()
+    want("a loss that is accepted", [run(folder, *it, "c.d64") for it in (["repair", "--accept-loss"], ["show"])], [0, 0])
+    want("the end of the service", served.end(), (0, b""))
+    want("a show of its image", run(folder, "show", "s.d64"), 0)
+    return len(words)
+
+
 def strangers(folder):
     """Files at the names of a log that are none stay, whatever runs. Returns how many commands ran."""
     tried = 0
@@ -181,7 +201,7 @@ def main():
                 else:
                     want(name, set(held(folder)), set(before))
                 tried += 1
-        tried += strangers(folder)
+        tried += strangers(folder) + alone(folder)
         # the goods of a shop whose copy came in its place are sold once: the second service lands the log of the first
         fresh(folder)
         first = Served(folder)

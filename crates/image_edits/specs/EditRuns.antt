@@ -4,12 +4,14 @@ use Rattle.image_file.specs.paths.Rights.{Rights}
 use Rattle.image_file.specs.paths.Standing.{Stands}
 use Rattle.image_edits.specs.Changes.{IsChangeEnd, IsShownEnd}
 use Rattle.image_edits.specs.Copies.{IsCopyEnd}
-use Rattle.image_edits.specs.Edits.{IsEdited, IsTextFor, IsUnedited}
+use Rattle.image_edits.specs.Edits.{IsEdited, IsTextFor, IsUnedited, loss_of}
 use Rattle.opened_files.specs.Ends.{JobEnd}
 use Rattle.opened_files.specs.HostFiles.{OfImage, OfWritten, RunEnds}
+use Rattle.opened_files.specs.Losses.{IsNear}
 use Rattle.image_edits.specs.declared.edit.Edit.{Edit}
 use Rattle.image_edits.specs.declared.edit.Effect.{Effect}
 use Rattle.image_edits.specs.declared.edit.Effect.TheVariants.{Printed, Written}
+use Rattle.shop_log.specs.life.Tags.{SaysLogAway}
 
 module _ {H W : Type 0} (rights : Rights H) (stands : H → List ℕ → Stands) (contents : W → Option (List ℕ)) (host : H) where
   -- it was copied to a file that is made; nothing is said of that file
@@ -17,11 +19,12 @@ module _ {H W : Type 0} (rights : Rights H) (stands : H → List ℕ → Stands)
   IsCopiedFrom path old new end = OfImage rights stands host path
       (λ all. RunEnds old new end (IsCopyEnd contents (take 174849 all) old new end))
 
-  -- its files were changed, all or nothing, or only what the change would print was printed
+  -- Its files were changed, all or nothing, or only what the change would print was printed. That isn't done to an image
+  -- whose log has the rest.
   abbrev pub IsEditOver : Effect → List ℕ → Edit → W → W → JobEnd → Type 0
   IsEditOver Written path edit old new end = RunEnds old new end ((image text : List ℕ)
-      × OfWritten stands host path (λ all. image ≡ take 174849 all) × IsTextFor stands host edit text
-      × IsChangeEnd contents (IsEdited edit text image) (IsUnedited edit text image) old new end)
+      × OfWritten stands host path (λ all. image ≡ take 174849 all) × (¬ (SaysLogAway image))
+      × IsTextFor stands host edit text × IsChangeEnd contents (IsEdited edit text image) (IsUnedited edit text image) old new end)
   IsEditOver Printed path edit old new end = RunEnds old new end ((image text : List ℕ)
-      × OfImage rights stands host path (λ all. image ≡ take 174849 all) × IsTextFor stands host edit text
-      × IsShownEnd contents (IsEdited edit text image) (IsUnedited edit text image) old new end)
+      × OfImage rights stands host path (λ all. image ≡ take 174849 all) × IsNear (loss_of edit) image
+      × IsTextFor stands host edit text × IsShownEnd contents (IsEdited edit text image) (IsUnedited edit text image) old new end)

@@ -16,6 +16,8 @@ use Rattle.opened_files.specs.HostFiles.{OfText}
 use Rattle.opened_files.specs.Names.{name_bytes}
 use Rattle.image_edits.specs.declared.edit.Edit.{Edit}
 use Rattle.image_edits.specs.declared.edit.Edit.TheVariants as edits
+use Rattle.opened_files.specs.declared.losses.Loss.{Loss}
+use Rattle.opened_files.specs.declared.losses.Loss.TheVariants as losses
 use Rattle.image_edits.specs.declared.edit.Unowned.{Unowned}
 use Rattle.image_edits.specs.declared.edit.Unowned.TheVariants.{Freed, Kept}
 use Rattle.rel_records.specs.File.{IsLength}
@@ -25,6 +27,14 @@ use Rattle.opened_files.specs.Losses.{shortened}
 abbrev pub frees : Unowned → Bool
 frees Kept = false
 frees Freed = true
+
+-- what is done if a disk has lost a part of a file, or the image its log; what doesn't ask leaves the image as it is
+abbrev pub loss_of : Edit → Loss
+loss_of (edits.Repair loss unowned) = loss
+loss_of (edits.RepairSides loss unowned) = loss
+loss_of (edits.Make size loss name) = loss
+loss_of (edits.Store records columns loss name) = loss
+loss_of _ = losses.Refused
 
 -- a new file can have the name that a file gets, and a record the bytes of one that is made
 abbrev pub IsFitEdit : Edit → Type 0

@@ -4,13 +4,14 @@ ghost use Rattle.disk_changes.specs.Changes.{IsChanged, IsFit, IsRefused};
 ghost use Rattle.image_edits.specs.Changes.{IsChangeEnd, as_change, stop_refusal as refusal_of};
 ghost use Rattle.opened_files.specs.HostFiles.{IsUnbegun, OfWritten, RunEnds};
 ghost use Rattle.opened_files.specs.Rights.{MayChangeImage};
+ghost use Rattle.shop_log.specs.life.Tags.{SaysLogAway};
 
 use command_faults::CommandFault;
 use disk_changes::{Change, Why};
 use disk_layout::Fault;
 use folder_changes::{Stop, change_image};
 use image_file::{EndedFile, HostFiles, Locks};
-use opened_files::{Refusal, opened_and_landed, read_synced, told};
+use opened_files::{Loss, Refusal, opened_and_landed, read_synced, see_log_away, told};
 use shop_log::{ImageFolder, LogNames};
 use std::fs::OpenFile;
 use std::io::Write;
@@ -40,7 +41,8 @@ pub fn change_end(ended: Result<u16, Stop>) -> Result<Option<Fault>, Refusal>
 }
 
 /// The bytes of the image at a path and its file, which this program has alone. No log is beside it, and all is synced.
-pub(crate) fn image_to_change<F, R>(rt: &R, path: &str) -> Result<(Vec<u8>, F), Refusal>
+/// `LogAway` if its log has the rest, isn't there, and no loss is accepted.
+pub(crate) fn image_to_change<F, R>(rt: &R, path: &str, loss: Loss) -> Result<(Vec<u8>, F), Refusal>
 where
     F: EndedFile + Locks + OpenFile + Drop,
     R: HostFiles<File = F> + AllocGlobal,
@@ -48,10 +50,12 @@ where
     ensures owned { IfOk result (λ taken. F.IsOwned taken.1) }
     ensures read { OfWritten R.stands rt.now path.now
         (λ all. IfOk result (λ taken. vec_items taken.0 ≡ take 174849 all)) }
+    ensures whole { IfOk result (λ taken. ¬ (SaysLogAway (vec_items taken.0))) }
     ensures err { IfErr result IsUnbegun }
 {
-    let mut file = opened_and_landed(rt, path)?;
+    let mut file = opened_and_landed(rt, path, loss)?;
     let image = read_synced(rt.alloc(), &mut file)?;
+    see_log_away(image.as_slice(), Loss::Refused)?;
     Ok((image, file))
 }
 

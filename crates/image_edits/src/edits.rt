@@ -1,13 +1,14 @@
 //! A change of an image's files, as the words ask for it, over its bytes and over those at a path.
-ghost use Rattle.std.specs.Prelude.{◌≡◌, IfErr, IfOk, List, ℕ, vec_items};
+ghost use Rattle.std.specs.Prelude.{◌≡◌, IfErr, IfOk, List, ℕ, take, vec_items};
 ghost use Rattle.command_faults.specs.declared.faults.CommandFault.TheVariants.{NoMemory};
 ghost use Rattle.disk_changes.specs.Changes.{IsChanged, IsFit, IsRefused};
 ghost use Rattle.disk_changes.specs.declared.changes.Changed.{Changed};
 ghost use Rattle.disk_changes.specs.declared.changes.Why.{Why};
 ghost use Rattle.image_edits.specs.Columns.{text_in};
-ghost use Rattle.image_edits.specs.Edits.{IsEdited, IsFitEdit, IsTextFor, IsUnedited};
-ghost use Rattle.opened_files.specs.HostFiles.{IsUnread, OfText};
+ghost use Rattle.image_edits.specs.Edits.{IsEdited, IsFitEdit, IsTextFor, IsUnedited, loss_of};
+ghost use Rattle.opened_files.specs.HostFiles.{IsUnbegun, IsUnread, OfImage, OfText};
 ghost use Rattle.image_edits.specs.EditRuns.{IsEditOver};
+ghost use Rattle.opened_files.specs.Losses.{IsNear};
 ghost use Rattle.opened_files.specs.Rights.{MayChangeImage, MayReadImage, MayReadText};
 ghost use Rattle.image_edits.specs.EditRights.{MayEdit, MayReadSource};
 ghost use Rattle.image_edits.specs.declared.edit.Effect.TheVariants.{Printed, Written};
@@ -21,12 +22,23 @@ use disk_layout::Fault;
 use folder_changes::show_change;
 use image_file::{EndedFile, HostFiles, Locks};
 use keeper_commands::plain_lines;
-use opened_files::{Refusal, image_at, script_to_play};
+use opened_files::{Loss, Refusal, image_at, script_to_play, see_log_away};
 use std::alloc::Global;
 use std::fs::OpenFile;
 use std::io::{Read, Write};
 
 impl Edit<'_> {
+    /// What is done if a disk has lost a part of a file, or the image its log.
+    pub fn loss(&self) -> Loss
+        ensures { result ≡ loss_of self.now }
+    {
+        match *self {
+            Edit::Repair { loss, .. } | Edit::RepairSides { loss, .. } => loss,
+            Edit::Make { loss, .. } | Edit::Store { loss, .. } => loss,
+            Edit::Rename { .. } | Edit::Delete { .. } | Edit::Put { .. } => Loss::Refused,
+        }
+    }
+
     /// The change that it asks for. `text` has the bytes of its FILE, or the lines of its RECORDS, in one column each; otherwise
     /// it isn't read.
     pub fn change<'n>(&'n self, text: &'n [u8]) -> Change<'n>
@@ -138,10 +150,27 @@ where
     requires fit { IsFitEdit edit.now }
     ensures { IsEditOver R.rights R.stands W.contents rt.now Written path.now edit.now out.old out.new result }
 {
-    let (image, file) = image_to_change(rt, path)?;
+    let (image, file) = image_to_change(rt, path, edit.loss())?;
     let text = text_for(rt, edit)?;
     let what = edit.change(text.as_slice());
     change_taken(rt, path, image.as_slice(), file, &what, out)
+}
+
+/// The bytes of the image at a path, as its shop is now, or of standard input. `LogAway` if its log has the rest, isn't
+/// there, and no loss is accepted.
+fn image_to_show<F, R>(rt: &R, path: &str, loss: Loss) -> Result<Vec<u8>, Refusal>
+where
+    F: Locks + OpenFile + Drop,
+    R: HostFiles<File = F> + Input + AllocGlobal,
+    requires { MayReadImage R.rights rt.now path.now }
+    ensures read { OfImage R.rights R.stands rt.now path.now
+        (λ all. IfOk result (λ image. vec_items image ≡ take 174849 all)) }
+    ensures near { IfOk result (λ image. IsNear loss (vec_items image)) }
+    ensures err { IfErr result IsUnbegun }
+{
+    let image = image_at(rt, path)?;
+    see_log_away(image.as_slice(), loss)?;
+    Ok(image)
 }
 
 /// Prints what a change of the image at a path would print, and leaves the image as it is.
@@ -160,7 +189,7 @@ where
     requires fit { IsFitEdit edit.now }
     ensures { IsEditOver R.rights R.stands W.contents rt.now Printed path.now edit.now out.old out.new result }
 {
-    let image = image_at(rt, path)?;
+    let image = image_to_show(rt, path, edit.loss())?;
     let text = text_for(rt, edit)?;
     let what = edit.change(text.as_slice());
     change_end(show_change(rt.alloc(), image.as_slice(), &what, out))

@@ -4,7 +4,7 @@ ghost use Rattle.command_faults.specs.declared.faults.CommandFault.TheVariants a
 ghost use Rattle.disk_reports.specs.AllFaults.{AreListed};
 ghost use Rattle.disk_reports.specs.Outcomes.{IsDescribeFault};
 ghost use Rattle.image_looks.specs.LookRuns.{IsLookedAt};
-ghost use Rattle.image_looks.specs.Looks.{AreRecordsTaken, IsLook, WhyNoRecords, taken_end as end_of};
+ghost use Rattle.image_looks.specs.Looks.{AreRecordsTaken, IsLook, IsShowEnd, WhyNoRecords, taken_end as end_of};
 ghost use Rattle.opened_files.specs.Rights.{MayReadImage};
 
 use crate::kinds::Look;
@@ -15,7 +15,7 @@ use disk_pictures::{free_image, map_image, picture_image, poster_image, sector_i
 use disk_reports::{check_image, list_faults, list_image};
 use image_file::{HostFiles, Locks};
 use keeper_commands::{Candidates, RecordForm, bytes_image, records_image, unclosed_records_image};
-use opened_files::{Refusal, image_at, job_end, run_end};
+use opened_files::{Loss, Refusal, image_at, job_end, run_end, see_log_away};
 use shop_commands::show_image;
 use std::alloc::Global;
 use std::fs::OpenFile;
@@ -47,6 +47,14 @@ fn taken_end(ended: Result<Option<Place>, CommandFault>) -> Result<Option<Fault>
     }
 }
 
+/// Prints what an image holds of a shop.
+fn print_shop<W: Write>(alloc: Global, image: &[u8], out: &mut W) -> Result<Option<Fault>, Refusal>
+    ensures { IsShowEnd W.contents image.now out.old out.new result }
+{
+    see_log_away(image, Loss::Refused)?;
+    run_end(show_image(alloc, image, out))
+}
+
 /// Prints the records of the first relative file of a name among the candidates. Returns where this file is cut short.
 fn take_records<W: Write>(
     alloc: Global,
@@ -70,7 +78,7 @@ fn take_records<W: Write>(
 ///
 /// `ImageSize`, `NoMemory`, and what the command of this look finds wrong with the image: nothing was printed then, unless
 /// the records or bytes of a damaged file are. `File` if the output failed, which may then have a part. `Short` if the file
-/// that was printed is cut short.
+/// that was printed is cut short. `LogAway` if a shop is to be shown whose log has the rest: nothing was printed.
 pub fn look<W: Write>(
     alloc: Global,
     what: &Look,
@@ -83,7 +91,7 @@ pub fn look<W: Write>(
         Look::List(form) => run_end(list_image(alloc, image, form, out)),
         Look::Check => job_end(check_image(alloc, image, out)),
         Look::Faults => job_end(faults_image(alloc, image, out)),
-        Look::Show => run_end(show_image(alloc, image, out)),
+        Look::Show => print_shop(alloc, image, out),
         Look::Map => job_end(map_image(alloc, image, out)),
         Look::Picture => job_end(picture_image(alloc, image, out)),
         Look::Poster => job_end(poster_image(alloc, image, out)),

@@ -21,7 +21,8 @@ use std::io::{Read, Write};
 ///
 /// It touches the files that the job's words name, and the log beside its image, in the ways for which it asks rights.
 ///
-/// `InUse` if another program has the image; `Log` if its log gives no image; `File` if a file couldn't be opened or
+/// `InUse` if another program has the image; `Log` if its log gives no image; `LogAway` if that has the rest of a shop, and
+/// isn't there; `File` if a file couldn't be opened or
 /// read. The other faults are those of `look`, `dry_run`, `format_image`, `new_run`, `play_durably`, `play_logged`,
 /// `serve_logged_guarded`, `copy_run`, `change_image`, `show_change`, `extract_run` and `comparing_run`. `Trim` ends with `File`, since it reports on standard error: call `do_trim`. What is
 /// wrong with one of several images is printed; only a failed output ends the job before the last of them.

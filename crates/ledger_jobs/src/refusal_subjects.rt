@@ -38,6 +38,9 @@ const KEPT: &str =
 const FOREIGN_LOG: &str =
     "the log beside it is of another image, or not whole; docs/LOG.md says what to do";
 
+const LOG_AWAY: &str =
+    "the last requests are in its log, which isn't beside it; docs/LOG.md says what to do";
+
 const SECOND_NAME: &str =
     "it has a second name (a hard link), and would have a log under each; keep one, or `copy` it";
 
@@ -106,6 +109,7 @@ pub(crate) fn subject_of(job: &Job<'_>, refusal: Refusal) -> About {
         Refusal::Kept(_) => About::Image(KEPT),
         Refusal::Exists => About::Made,
         Refusal::Log => About::Image(FOREIGN_LOG),
+        Refusal::LogAway => About::Image(LOG_AWAY),
         Refusal::TwoNames => About::Image(SECOND_NAME),
         Refusal::Short(_) => About::Image(CUT_SHORT),
         Refusal::ShopFile => About::Image(SHOP_FILE),

@@ -1,2 +1,3 @@
 pub mod HostFiles
 pub mod Named
+pub mod Near

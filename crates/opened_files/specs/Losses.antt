@@ -11,6 +11,7 @@ use Rattle.command_faults.specs.declared.faults.CommandFault.TheVariants as faul
 use Rattle.opened_files.specs.Ends.{JobEnd, as_run}
 use Rattle.opened_files.specs.declared.refusals.Refusal.{Refusal}
 use Rattle.opened_files.specs.declared.refusals.Refusal.TheVariants as refusals
+use Rattle.shop_log.specs.life.Tags.{SaysLogAway}
 
 -- what is seen of an image, if it has the size of a disk
 abbrev pub IsSeen : (image : List ℕ) → Option Place → Type 0
@@ -22,6 +23,10 @@ IsSeen image None = length image ≡ 174848 → IsToldOfImage image None None
 abbrev pub IsLossFault : (image : List ℕ) → Refusal → Type 0
 IsLossFault image refusal = ((p : Place) × (refusal ≡ refusals.Short p) × IsCutShort image p)
     ⊎ (refusal ≡ refusals.Fault faults.NoMemory)
+
+-- no log has the rest of the image, or what it has may be lost
+abbrev pub IsNear : Loss → (image : List ℕ) → Type 0
+IsNear loss image = (loss ≡ losses.Accepted) ⊎ (¬ (SaysLogAway image))
 
 -- no file of the image is cut short, or what is lost may be lost
 abbrev pub MayBeLost : (image : List ℕ) → Loss → Type 0

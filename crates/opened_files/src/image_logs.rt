@@ -3,17 +3,20 @@ ghost use Rattle.std.specs.Prelude.{◌≡◌, IfErr, IfOk, IsNone, false, strin
 ghost use Rattle.opened_files.specs.Ends.{log_refusal as refusal_of};
 ghost use Rattle.opened_files.specs.HostFiles.{HasNoLog, IsUnbegun, IsUnopened, IsUnread, IsUntaken};
 ghost use Rattle.opened_files.specs.Rights.{MayChangeImage, MayReadFile};
-ghost use Rattle.shop_log.specs.life.LogRights.{MayKeepLogOf};
+ghost use Rattle.shop_log.specs.life.LogRights.{MayKeepLogOf, log_of};
 ghost use Rattle.image_file.specs.paths.Rights.{Look, May, MayRead, MayWrite};
 ghost use Rattle.image_file.specs.paths.Standing.{AreOf, IsMissing};
 
 use crate::locks::{lock_exclusive, lock_shared};
+use crate::losses::Loss;
 use crate::outcomes::told;
 use crate::refusals::Refusal;
 use command_faults::CommandFault;
 use d64_image::IMAGE_BYTES;
 use image_file::{EndedFile, HostFiles, Locks, opened_to_change, opened_to_read};
-use shop_log::{ImageFolder, ImageView, LogFault, LogNames, land_in, sync_names, view_in};
+use shop_log::{
+    ImageFolder, ImageView, LogFault, LogNames, land_in, sync_names, untag_file, view_in,
+};
 use std::fs::OpenFile;
 use std::io::{self, ErrorKind};
 use std::os::unix::fs::MetadataExt;
@@ -118,8 +121,8 @@ where
 
 /// Ensures that no log stands beside the image at a path, whose file this program has alone. A log that stands there is
 /// landed, and its removal is synced. A program that came before may have been killed after it removed the log. A file of
-/// another size is no image, and its log is left alone.
-fn settle_log<F, R>(rt: &R, path: &str, image: &F) -> Result<(), Refusal>
+/// another size is no image, and its log is left alone. If a loss is accepted, the image isn't tagged then.
+fn settle_log<F, R>(rt: &R, path: &str, image: &F, loss: Loss) -> Result<(), Refusal>
 where
     F: EndedFile + Locks + OpenFile + Drop,
     R: HostFiles<File = F> + AllocGlobal,
@@ -131,16 +134,55 @@ where
         return Ok(());
     }
     let names = told(LogNames::of(rt, rt.alloc(), path))?;
+    accept_loss(rt, &names, path, loss)?;
     if told(is_there(rt, names.log()))? {
         return land_beside(rt, &names, path);
     }
     told(sync_names(rt, &names))
 }
 
+/// Whether a log stands beside an image.
+fn has_log<R: HostFiles>(rt: &R, names: &LogNames) -> io::Result<bool>
+    requires { May R.rights rt.now Look (log_of (string_bytes names.now.image)) }
+{
+    match rt.look_at(names.log()) {
+        Ok(_) => Ok(true),
+        Err(error) if error.kind() == io::ErrorKind::NotFound => Ok(false),
+        Err(error) => Err(error),
+    }
+}
+
+/// Takes the tag off the image at a path, which this program has alone, if the loss of its log is accepted and none stands
+/// beside it. That is synced. A file of another size is left alone.
+pub fn accept_loss<R: HostFiles>(
+    rt: &R,
+    names: &LogNames,
+    path: &str,
+    loss: Loss,
+) -> Result<(), Refusal>
+where
+    R::File: EndedFile,
+    requires image { MayWrite R.rights rt.now path.now }
+    requires log { May R.rights rt.now Look (log_of (string_bytes names.now.image)) }
+    ensures { IfErr result IsUnbegun }
+{
+    if loss == Loss::Refused || told(has_log(rt, names))? {
+        return Ok(());
+    }
+    let mut image = told(opened_to_change(rt, path))?;
+    if !is_sized(&image)? {
+        return Ok(());
+    }
+    match untag_file(&mut image) {
+        Ok(()) => Ok(()),
+        Err(_) => Err(Refusal::Fault(CommandFault::Device)),
+    }
+}
+
 /// The image's file at a path, which this program has alone and which is going to be written: a log that stood beside it
 /// was landed, and none is there. `Log` if the log gives no image: nothing was changed. A file of another size is no
-/// image, and its log is left alone.
-pub fn opened_and_landed<F, R>(rt: &R, path: &str) -> Result<F, Refusal>
+/// image, and its log is left alone. If a loss is accepted, the image isn't tagged then.
+pub fn opened_and_landed<F, R>(rt: &R, path: &str, loss: Loss) -> Result<F, Refusal>
 where
     F: EndedFile + Locks + OpenFile + Drop,
     R: HostFiles<File = F> + AllocGlobal,
@@ -151,7 +193,7 @@ where
     ensures err { IfErr result IsUnbegun }
 {
     let image = opened_alone(rt, path)?;
-    settle_log(rt, path, &image)?;
+    settle_log(rt, path, &image, loss)?;
     Ok(image)
 }
 

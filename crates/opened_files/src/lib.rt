@@ -14,10 +14,11 @@ mod refusals;
 pub use endings::{Ending, end, tell};
 pub use files::{AtPath, Older, STANDARD_INPUT, script_to_play, size_of};
 pub use image_logs::{
-    log_refusal, logged_image, opened_alone, opened_and_landed, opened_shared, see_size,
+    accept_loss, log_refusal, logged_image, opened_alone, opened_and_landed, opened_shared,
+    see_size,
 };
 pub use locks::{read_owned, read_shared, read_synced};
-pub use losses::{Loss, cut_in, loss_refusal};
+pub use losses::{Loss, cut_in, loss_refusal, see_log_away};
 pub use names::Name;
 pub use outcomes::{job_end, over_end, run_end, told};
 pub use readings::{image_at, image_of_file};

@@ -1,14 +1,17 @@
 //! What a disk has lost of its files.
-ghost use Rattle.std.specs.Prelude.{◌≡◌, IfErr, IfOk};
-ghost use Rattle.opened_files.specs.Losses.{shortened as shortened_of, IsJudged, IsSeen};
+ghost use Rattle.std.specs.Prelude.{◌≡◌, IfErr, IfOk, OnOk};
+ghost use Rattle.opened_files.specs.Losses.{shortened as shortened_of, IsJudged, IsNear, IsSeen};
 ghost use Rattle.command_faults.specs.declared.faults.CommandFault.TheVariants.{NoMemory};
+ghost use Rattle.opened_files.specs.declared.losses.Loss.TheVariants as losses;
 ghost use Rattle.opened_files.specs.declared.refusals.Refusal.TheVariants as refusals;
+ghost use Rattle.shop_log.specs.life.Tags.{SaysLogAway};
 
 use crate::refusals::Refusal;
 use command_faults::CommandFault;
 use d64_image::{ImageFault, Place};
 use damaged_files::{Shortened, find_image_cut};
 use disk_layout::Fault;
+use shop_log::is_log_away;
 use std::alloc::Global;
 
 /// What a job does on a disk that has lost a part of a file.
@@ -30,6 +33,17 @@ impl Loss {
             Loss::Accepted => Shortened::Accepted,
         }
     }
+}
+
+/// Refuses an image that says that its log has the rest of it, unless that loss is accepted: `LogAway`.
+pub fn see_log_away(image: &[u8], loss: Loss) -> Result<(), Refusal>
+    ensures ok { OnOk result (IsNear loss image.now) }
+    ensures err { IfErr result (λ refusal. (refusal ≡ refusals.LogAway) × (loss ≡ losses.Refused) × SaysLogAway image.now) }
+{
+    if loss == Loss::Refused && is_log_away(image) {
+        return Err(Refusal::LogAway);
+    }
+    Ok(())
 }
 
 /// The place where the first file of an image is cut short. None also if the image has another size, or its disk isn't

@@ -22,6 +22,8 @@ pub enum Refusal {
     Exists,
     /// The log beside the image can't be used: it is of another image, or isn't whole. Nothing was changed.
     Log,
+    /// The image says that its log has the rest of it, and no log stands beside it. Nothing was changed.
+    LogAway,
     /// The image's file has a second name, by which it would have another log. Nothing was changed.
     TwoNames,
     /// A file of the image is cut short: its chain ends at this sector, too early.
@@ -45,7 +47,7 @@ impl Refusal {
             Refusal::InUse => 3,
             Refusal::Kept(_) => 1,
             Refusal::Exists => 1,
-            Refusal::Log => 1,
+            Refusal::Log | Refusal::LogAway => 1,
             Refusal::TwoNames => 1,
             Refusal::Short(_) => 1,
             Refusal::ShopFile => 1,
@@ -60,7 +62,7 @@ impl Refusal {
     {
         match self {
             Refusal::Fault(_) | Refusal::InUse | Refusal::Exists | Refusal::Log => true,
-            Refusal::TwoNames | Refusal::Short(_) | Refusal::ShopFile => true,
+            Refusal::LogAway | Refusal::TwoNames | Refusal::Short(_) | Refusal::ShopFile => true,
             Refusal::Kept(_) | Refusal::Trimmed | Refusal::Several(_) => false,
         }
     }
@@ -87,6 +89,7 @@ impl Display for Refusal {
             Refusal::Kept(count) => write!(f, "KEPT {count}"),
             Refusal::Exists => f.write_str("FILE EXISTS"),
             Refusal::Log => f.write_str("LOG"),
+            Refusal::LogAway => f.write_str("LOG AWAY"),
             Refusal::TwoNames => f.write_str("TWO NAMES"),
             Refusal::Short(place) => write!(f, "SHORT {}/{}", place.track(), place.sector()),
             Refusal::ShopFile => f.write_str("SHOP FILE"),

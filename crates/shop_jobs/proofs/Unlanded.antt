@@ -26,6 +26,7 @@ landing_lost refusals.InUse = inl refl
 landing_lost (refusals.Kept n) = inl refl
 landing_lost refusals.Exists = inl refl
 landing_lost refusals.Log = inl refl
+landing_lost refusals.LogAway = inl refl
 landing_lost refusals.TwoNames = inl refl
 landing_lost (refusals.Short p) = inl refl
 landing_lost refusals.ShopFile = inl refl
@@ -82,6 +83,8 @@ unlanded_is (Err (refusals.Kept n)) fault =
 unlanded_is (Err refusals.Exists) fault =
     record { told = inl refl; out = λ out. elim out [ inl ok ↦ false≢true ok | inr e ↦ cc ] }
 unlanded_is (Err refusals.Log) fault =
+    record { told = inl refl; out = λ out. elim out [ inl ok ↦ false≢true ok | inr e ↦ cc ] }
+unlanded_is (Err refusals.LogAway) fault =
     record { told = inl refl; out = λ out. elim out [ inl ok ↦ false≢true ok | inr e ↦ cc ] }
 unlanded_is (Err refusals.TwoNames) fault =
     record { told = inl refl; out = λ out. elim out [ inl ok ↦ false≢true ok | inr e ↦ cc ] }

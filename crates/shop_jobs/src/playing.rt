@@ -7,7 +7,9 @@ use crate::reply_lines::ReplyLines;
 use crate::shop_runs::dry_run;
 use disk_layout::Fault;
 use image_file::{EndedFile, HostFiles, Locks};
-use opened_files::{Refusal, job_end, opened_and_landed, read_owned, script_to_play};
+use opened_files::{
+    Loss, Refusal, job_end, opened_and_landed, read_owned, script_to_play, see_log_away,
+};
 use std::fs::OpenFile;
 use std::io::Write;
 
@@ -26,8 +28,9 @@ where
     requires script { MayReadText R.rights rt.now script.now }
     ensures { IsPlayedOverFile R.rights R.stands W.contents rt.now path.now script.now out.old out.new result }
 {
-    let mut file = opened_and_landed(rt, path)?;
+    let mut file = opened_and_landed(rt, path, Loss::Refused)?;
     let image = read_owned(rt.alloc(), &mut file)?;
+    see_log_away(image.as_slice(), Loss::Refused)?;
     let script = script_to_play(rt, script)?;
     let mut printer = ReplyLines::new(out);
     let (_, ended) = play_durably(

@@ -8,6 +8,7 @@ ghost use Rattle.shop_jobs.specs.LoggedRuns.{IsLoggedRun, IsUnlogged};
 ghost use Rattle.opened_files.specs.Losses.{IsEndOfRun, IsGuarded};
 ghost use Rattle.shop_jobs.specs.WatchedFiles.{while_there};
 ghost use Rattle.shop_log.specs.life.LiveLogs.{of_live};
+ghost use Rattle.shop_log.specs.life.Tags.{SaysLogAway};
 ghost use Rattle.line_server.specs.logged.Reporting.{of_output};
 ghost use Rattle.opened_files.specs.Rights.{MayChangeImage};
 ghost use Rattle.image_file.specs.paths.Rights.{Look, May, MayWrite};
@@ -24,7 +25,8 @@ use host_session::ReplySink;
 use image_file::{EndedFile, HostFiles, Locks, Stays, opened_to_change};
 use line_server::BatchSource;
 use opened_files::{
-    Loss, Refusal, log_refusal, loss_refusal, opened_alone, read_shared, see_size, told,
+    Loss, Refusal, accept_loss, log_refusal, loss_refusal, opened_alone, read_shared, see_log_away,
+    see_size, told,
 };
 use shop_log::{
     ImageFolder, LiveLog, LogFault, LogFile, LogFolder, LogNames, LogRoom, SystemLog, TouchedDisk,
@@ -34,7 +36,7 @@ use std::alloc::Global;
 use std::fs::OpenFile;
 use std::io::{BufReader, Write};
 
-/// The folder of the image at a path, which this program has alone.
+/// The folder of the image at a path, which this program has alone. The image is tagged while a log has the rest of it.
 fn folder_of<'a, F, R>(
     rt: &'a R,
     names: &'a LogNames,
@@ -47,25 +49,20 @@ where
     requires log { MayKeepLogOf R.rights rt.now (string_bytes names.now.image) }
 {
     let image = told(opened_to_change(rt, path))?;
-    told(ImageFolder::new(rt, names, image))
+    Ok(told(ImageFolder::new(rt, names, image))?.tagging())
 }
 
 /// The sectors of the shop that a folder gives, which the image has from then on. `Log` if its log gives none: nothing
-/// was changed. `Short` if a file of the image is cut short and no loss is accepted.
+/// was changed.
 fn shop_of<L: LogFile, D: LogFolder<L>, R: AllocGlobal>(
     rt: &R,
     folder: &mut D,
-    loss: Loss,
 ) -> Result<Vec<[u8; 256]>, Refusal>
     ensures { IfOk result (λ shop. length shop.items ≡ 683) }
 {
-    let shop = match land_in(rt.alloc(), folder) {
-        Ok(shop) => shop,
-        Err(fault) => return Err(log_refusal(&fault)),
-    };
-    match loss_refusal(rt.alloc(), shop.as_slice().as_flattened(), loss) {
-        None => Ok(shop),
-        Some(refusal) => Err(refusal),
+    match land_in(rt.alloc(), folder) {
+        Ok(shop) => Ok(shop),
+        Err(fault) => Err(log_refusal(&fault)),
     }
 }
 
@@ -208,8 +205,9 @@ pub(crate) fn cleared_end<F: OpenFile, R: HostFiles<File = F>, T>(
     ended
 }
 
-/// The bytes of the image in this file, which nobody else writes and of which nothing was read. `Device` if they aren't
-/// those of this shop, which was landed: then the image's path leads to another file.
+/// The bytes of the image in this file, which nobody else writes and of which nothing was read. `LogAway` if a log that
+/// isn't there has the rest. `Device` if they aren't those of this shop, which was landed: then the image's path leads to
+/// another file.
 fn landed_bytes<F: Locks>(
     alloc: Global,
     image: &mut F,
@@ -218,8 +216,10 @@ fn landed_bytes<F: Locks>(
     requires shared { F.IsShared image.old }
     ensures shop { IfOk result (λ bytes. vec_items bytes ≡ flat_map (λ sector. sector) shop.now) }
     ensures read { IfOk result (λ bytes. IfSome (F.unread image.old) (λ all. vec_items bytes ≡ take 174849 all)) }
+    ensures whole { IfOk result (λ bytes. ¬ (SaysLogAway (vec_items bytes))) }
 {
     let bytes = told(read_shared(alloc, image))?;
+    see_log_away(bytes.as_slice(), Loss::Refused)?;
     if bytes.as_slice() != shop.as_flattened() {
         return Err(Refusal::Fault(CommandFault::Device));
     }
@@ -227,7 +227,8 @@ fn landed_bytes<F: Locks>(
 }
 
 /// The bytes of the shop of the image at a path, and a log beside it that was begun with them. A log that stood there was
-/// landed: the image has these bytes then. Other programs may read it from then on.
+/// landed: the image has these bytes then. Other programs may read it from then on. `Short` if a file of the image is cut
+/// short and no loss is accepted.
 pub(crate) fn begun_beside<'a, F, R>(
     rt: &'a R,
     path: &str,
@@ -247,9 +248,12 @@ where
 {
     let alloc = rt.alloc();
     let mut folder = folder_of(rt, names, path)?;
-    let shop = shop_of(rt, &mut folder, loss)?;
+    let shop = shop_of(rt, &mut folder)?;
     let room = told(LogRoom::new(alloc).map_err(From::from))?;
     let bytes = landed_bytes(alloc, image, shop.as_slice())?;
+    if let Some(refusal) = loss_refusal(alloc, bytes.as_slice(), loss) {
+        return Err(refusal);
+    }
     let log = match LiveLog::begin(alloc, folder, room, shop) {
         Ok(log) => log,
         Err((error, _)) => return cleared_end(rt, path, image, names, told(Err(error))),
@@ -284,6 +288,7 @@ where
     let mut input = told(BufReader::new(alloc, rt.reader()))?;
     let name = name_of(rt, path, &image)?;
     let names = told(LogNames::of(rt, alloc, path))?;
+    accept_loss(rt, &names, path, loss)?;
     let (bytes, log) = begun_beside(rt, path, &names, &mut image, loss)?;
     let ended = serve_printed(alloc, bytes.as_slice(), log, loss, &mut input, name, out);
     cleared_end(rt, path, &image, &names, ended)

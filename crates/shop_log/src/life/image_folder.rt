@@ -9,6 +9,8 @@ use crate::life::log_folder::LogFolder;
 use crate::life::log_names::{LogNames, forget_making, see_log, sync_names};
 use crate::life::open_log::OpenLog;
 use crate::life::system_log::SystemLog;
+use crate::life::tagged_files::{is_file_tagged, tag_file, untag_file};
+use crate::life::tags::{TAGGED, put_tag, take_tag};
 use crate::log::LOG_BYTES;
 use image_file::{
     EndedFile, HostFiles, Identity, opened_to_change, opened_to_read, private_mode, regular,
@@ -21,7 +23,8 @@ use std::os::unix::fs::MetadataExt;
 /// An image's open file, and the names of its log beside it. The file is read, written, synced and closed. It isn't
 /// locked: the caller does that. Once a log was read or got its name, it alone is opened, replaced or removed by that name.
 /// If the name leads to another file, or the log has another length, the call is an error, and does nothing. Nothing is
-/// known of what the files hold: they are trusted to satisfy the contract of `LogFolder`.
+/// known of what the files hold: they are trusted to satisfy the contract of `LogFolder`, with what IMAGE has but for its
+/// tag as IMAGE. The tag stays until the log's name is removed.
 #[derive(Drop)]
 pub struct ImageFolder<'a, R: HostFiles> {
     rt: &'a R,
@@ -29,6 +32,8 @@ pub struct ImageFolder<'a, R: HostFiles> {
     image: R::File,
     // the file that is the log
     log: Option<Identity>,
+    // whether IMAGE is tagged once its log has its name
+    tags: bool,
     // the log may be kept
     ghost keeps: { MayKeepLogOf R.rights rt.now (string_bytes names.now.image) } by { Prim.hlevel props },
 }
@@ -45,12 +50,15 @@ pub(crate) fn log_to_read<R: HostFiles>(rt: &R, names: &LogNames) -> io::Result<
     }
 }
 
-/// Reads the 683 sectors of an image.
+/// Reads the 683 sectors of an image, without its tag.
 pub(crate) fn read_sectors<F: Read + Seek>(file: &mut F, image: &mut [[u8; 256]]) -> io::Result<()>
+    requires { length image.old ≡ 683 }
     ensures { length image.new ≡ length image.old }
 {
     file.seek(SeekFrom::Start(0))?;
-    file.read_exact(image.as_flattened_mut())
+    file.read_exact(image.as_flattened_mut())?;
+    take_tag(&mut image[TAGGED]);
+    Ok(())
 }
 
 impl<'a, R: HostFiles> ImageFolder<'a, R>
@@ -70,7 +78,14 @@ where
             names,
             image,
             log: None,
+            tags: false,
         })
+    }
+
+    /// The same for a service, which tags IMAGE once its log has its name, and that is synced.
+    pub fn tagging(mut self) -> ImageFolder<'a, R> {
+        self.tags = true;
+        self
     }
 
     /// An open file as the log, or as one in the making that hasn't its name yet.
@@ -121,7 +136,11 @@ where
     }
 
     fn write_sector(&mut self, index: usize, sector: &[u8; 256]) -> io::Result<()> {
-        self.image.put_over(sector, 256 * index as u64)
+        let mut bytes = *sector;
+        if index == TAGGED && is_file_tagged(&mut self.image)? {
+            put_tag(&mut bytes);
+        }
+        self.image.put_over(&bytes, 256 * index as u64)
     }
 
     fn sync_image(&mut self) -> io::Result<()> {
@@ -176,11 +195,16 @@ where
 
     fn remove_log(&mut self) -> io::Result<()> {
         self.see_log()?;
+        untag_file(&mut self.image)?;
         self.log = None;
         self.rt.take_name(self.names.log())
     }
 
     fn sync_folder(&mut self) -> io::Result<()> {
-        sync_names(self.rt, self.names)
+        sync_names(self.rt, self.names)?;
+        if self.tags && self.log.is_some() {
+            return tag_file(&mut self.image);
+        }
+        Ok(())
     }
 }

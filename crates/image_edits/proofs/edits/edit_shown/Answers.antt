@@ -1,8 +1,11 @@
 -- What is printed is of the bytes that the host says.
-use Rattle.std.proofs.Common.{◌∙◌, Err, ap, inl, subst, sym}
+use Rattle.std.proofs.Common.{◌∙◌, Err, List, ap, inl, subst, sym, ℕ}
+use Rattle.std.specs.Prelude.{vec_items}
 use Rattle.std.proofs.lemmas.Result.{err_from_is_err_and}
 use Rattle.image_edits.proofs.ChangedOver.{not-begun, told-weaker}
-use Rattle.image_edits.specs.Edits.{IsTextFor}
+use Rattle.image_edits.specs.Edits.{IsTextFor, loss_of}
+use Rattle.opened_files.specs.Losses.{IsNear}
+use Rattle.opened_files.specs.declared.losses.Loss.{Loss}
 use Rattle.image_edits.proofs.edits.edit_shown.Goals as goal
 
 pub returns-in_err-image : goal.returns-in_err-image
@@ -22,6 +25,8 @@ returns g c =
       image,
       c.as_slice.result.now,
       (λ other alone all is. c.as_slice-2.ensures.value ∙ c.in_ok-image.ensures.read other alone all is),
+      subst (λ (bytes : List ℕ). IsNear (loss_of c.args.edit.now) bytes) (sym c.as_slice-2.ensures.value)
+          (subst (λ (loss : Loss). IsNear loss (vec_items c.in_ok-image.image)) c.loss.ensures c.in_ok-image.ensures.near),
       subst (IsTextFor g.R.HostFiles.stands c.args.rt.now c.args.edit.now) (sym c.as_slice.ensures.value)
           c.in_ok-text.ensures.read,
       (

@@ -1,8 +1,9 @@
 -- The change is of the bytes that the host says.
-use Rattle.std.proofs.Common.{◌∙◌, Err, ap, inl, subst, sym}
+use Rattle.std.proofs.Common.{◌∙◌, Err, List, ap, inl, subst, sym, ℕ}
 use Rattle.std.proofs.lemmas.Result.{err_from_is_err_and}
 use Rattle.image_edits.proofs.ChangedOver.{not-begun, run-weaker, told-weaker}
 use Rattle.image_edits.specs.Edits.{IsTextFor}
+use Rattle.shop_log.specs.life.Tags.{SaysLogAway}
 use Rattle.image_edits.proofs.edits.edit_written.Goals as goal
 
 pub returns-in_err-image : goal.returns-in_err-image
@@ -25,6 +26,7 @@ returns g c =
       image,
       c.as_slice.result.now,
       (λ all is. c.as_slice-2.ensures.value ∙ c.in_ok-image.ensures.read all is),
+      subst (λ (bytes : List ℕ). ¬ (SaysLogAway bytes)) (sym c.as_slice-2.ensures.value) c.in_ok-image.ensures.whole,
       subst (IsTextFor g.R.HostFiles.stands c.args.rt.now c.args.edit.now) (sym c.as_slice.ensures.value)
           c.in_ok-text.ensures.read,
       (

@@ -5,7 +5,6 @@ use Rattle.disk_pictures.specs.Views.{AreFreePrinted, IsSectorPrinted, IsViewFau
 use Rattle.disk_reports.specs.AllFaults.{AreListed}
 use Rattle.disk_reports.specs.Listings.{IsCheckFault, IsListFault, IsListed}
 use Rattle.disk_reports.specs.Outcomes.{IsDescribeFault}
-use Rattle.shop_commands.specs.Shops.{IsShowFault, IsShown}
 use Rattle.keeper_commands.specs.Printed.{AreBytesTaken}
 use Rattle.image_looks.specs.Looks.{AreRecordsTaken, IsChecked, IsTakingEnd, WhyNoBytes, WhyNoRecords}
 use Rattle.image_looks.proofs.Looked.{if-all, if-both, printed, quietly-printed, taken}
@@ -30,10 +29,7 @@ returns-in-Faults g c =
     c.job_end-in-Faults.result c.job_end-in-Faults.ensures done.ensures.ok done.ensures.err done.ensures.untouched)
 
 pub returns-in-Show : goal.returns-in-Show
-returns-in-Show g c =
-    let done = c.show_image in
-    rw c.in-Show.is (quietly-printed c.args.out.now done.new.out (IsShown g.W.Write.contents c.args.image.now) (IsShowFault c.args.image.now) done.result
-    c.run_end-in-Show.result c.run_end-in-Show.ensures done.ensures.ok done.ensures.err done.ensures.untouched)
+returns-in-Show g c = rw c.in-Show.is c.print_shop.ensures
 
 pub returns-in-Map : goal.returns-in-Map
 returns-in-Map g c =

@@ -14,8 +14,8 @@ returns g c =
     let told = g.W.Write.contents in
     let file = c.play_durably-ended.result.0 in
     let ended = c.play_durably-ended.result.1 in
-    let image = c.as_slice.result.now in
-    let script = c.as_slice-2.result.now in
+    let image = c.as_slice-2.result.now in
+    let script = c.as_slice-3.result.now in
     let at = IsShopAt g.R.HostFiles.stands c.args.rt.now c.args.path.now in
     let read = of-file g.R.HostFiles.stands c.args.rt.now c.args.path.now _
     (λ all. vec_items c.in_ok-image.image ≡ take 174849 all) c.in_ok-file.ensures.bytes c.in_ok-image.ensures.read in (
@@ -25,9 +25,9 @@ returns g c =
           ended c.play_durably-ended.ensures.run,
       λ other all holds. played-at told (IsShopOf image) at
           (shop-at g.R.HostFiles.stands c.args.rt.now c.args.path.now (vec_items c.in_ok-image.image) image read
-          c.as_slice.ensures.value) c.args.out.now _ all c.job_end.result
+          c.as_slice-2.ensures.value) c.args.out.now _ all c.job_end.result
           (play-plain told _ file before behind c.args.out.now _ c.new-printer.ensures.out
           (λ same. search rules) image script ended c.job_end.result all
-          (c.as_slice-2.ensures.value ∙ c.in_ok-script.ensures.read other all holds) c.job_end.ensures
+          (c.as_slice-3.ensures.value ∙ c.in_ok-script.ensures.read other all holds) c.job_end.ensures
           c.play_durably-ended.ensures.run),
     )

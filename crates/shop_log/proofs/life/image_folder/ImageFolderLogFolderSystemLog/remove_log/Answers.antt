@@ -9,3 +9,6 @@ returns-in_err-see_log g c = acts _ _ unlogged IsRemoving _ (λ s. inl refl)
 
 pub returns : goal.returns
 returns g c = acts _ _ unlogged IsRemoving _ (λ s. inl refl)
+
+pub returns-in_err-untag_file : goal.returns-in_err-untag_file
+returns-in_err-untag_file g c = acts _ _ unlogged IsRemoving _ (λ s. inl refl)

@@ -7,3 +7,8 @@ use Rattle.shop_log.proofs.life.image_folder.ImageFolderLogFolderSystemLog.write
 pub returns : goal.returns
 returns g c = acts _ _ (with_sector c.args.index c.args.sector.now) (IsImageWritten c.args.index c.args.sector.now) _
     (λ s. record { log = refl; making = refl; each = λ i j low small. inl refl })
+
+pub returns-in_err-is_file_tagged : goal.returns-in_err-is_file_tagged
+returns-in_err-is_file_tagged g c =
+    acts _ _ (with_sector c.args.index c.args.sector.now) (IsImageWritten c.args.index c.args.sector.now) _
+    (λ s. record { log = refl; making = refl; each = λ i j low small. inl refl })
