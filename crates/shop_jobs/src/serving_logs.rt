@@ -23,7 +23,8 @@ use disk_layout::Fault;
 use image_file::{EndedFile, HostFiles, Locks, Stays, opened_to_change};
 use line_server::{Answers, BatchSource};
 use opened_files::{
-    Loss, Refusal, log_refusal, loss_refusal, opened_alone, read_shared, see_size, told,
+    Loss, Refusal, log_refusal, loss_refusal, opened_alone, read_shared, see_no_lost_log, see_size,
+    told,
 };
 use shop_log::{
     ImageFolder, LiveLog, LogFault, LogFile, LogFolder, LogNames, LogRoom, SystemLog, TouchedDisk,
@@ -45,6 +46,7 @@ where
     requires image { MayWrite R.rights rt.now path.now }
     requires log { MayKeepLogOf R.rights rt.now (string_bytes names.now.image) }
 {
+    see_no_lost_log(rt, names)?;
     let image = told(opened_to_change(rt, path))?;
     told(ImageFolder::new(rt, names, image))
 }
