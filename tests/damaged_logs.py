@@ -5,7 +5,8 @@
 
 PROGRAM is what `tools/program` prints. Each request is a commit of one block or more. In each block of each commit a bit is turned, or
 512 bytes are lost. Damage that a torn last commit can't leave has to end as LOG, and nothing may be changed then. In the last commit, and
-in the last block of the one before it, damage may give the shop before it, and nothing else. It ends by itself and uses no network."""
+in the last block of the one before it, damage may give the shop before it, and nothing else. `copy --log` has to give the shop before the
+commit that is damaged, or cut off; and of the whole log the image that `copy` gives. It ends by itself and uses no network."""
 
 import random
 import subprocess
@@ -70,6 +71,23 @@ def damages(draw, log, q):
         yield "lost", log[:at] + bytes(512) + log[at + 512 :]
 
 
+def salvaged(program, folder, log, shows, k):
+    """Looks whether `copy --log` takes the first k commits of a log: the base and those after it."""
+    (folder / "hurt-log").write_bytes(log)
+    done = subprocess.run([program, "copy", "--log", "hurt-log", "new.d64"], cwd=folder, capture_output=True)
+    want("the log is read", (folder / "hurt-log").read_bytes() == log, [True])
+    if not k:
+        want("no base", (done.returncode, done.stderr.splitlines()[0], (folder / "new.d64").exists()), [(1, b"LOG", False)])
+        return None
+    words = [line.split() for line in done.stdout.decode().splitlines()]
+    want("salvage", (done.returncode, words[:2]), [(0, [["COPIED"], ["COMMITS", str(k)]])])
+    shown = subprocess.run([program, "show", "new.d64"], cwd=folder, capture_output=True)
+    want("the shop of the whole commits", (shown.returncode, shown.stdout), [shows[k - 1]])
+    image = (folder / "new.d64").read_bytes()
+    (folder / "new.d64").unlink()
+    return image, int(words[2][1])
+
+
 def main(program, commits=12, seed=1):
     draw, tried = random.Random(seed), 0
     with tempfile.TemporaryDirectory() as place:
@@ -78,10 +96,21 @@ def main(program, commits=12, seed=1):
         log, image = (folder / "s.d64-log").read_bytes(), (folder / "s.d64").read_bytes()
         found = commits_of(log)
         want("commits", len(found), [commits + 1])
+        subprocess.run([program, "copy", "s.d64", "copy.d64"], cwd=folder, check=True, stdout=subprocess.DEVNULL)
+        whole = ((folder / "copy.d64").read_bytes(), 0)
+        for new in ("copy.d64", "s.d64", "gone.d64"):
+            (folder / "gone.d64-log").write_bytes(b"junk")
+            done = subprocess.run([program, "copy", "--log", "s.d64-log", new], cwd=folder, capture_output=True)
+            want(f"a log copied to {new}", (done.returncode, done.stderr), [(1, b"FILE EXISTS\n")])
+        want("what stood there", ((folder / "copy.d64").read_bytes(), (folder / "s.d64").read_bytes()), [(whole[0], image)])
+        want("the whole log", salvaged(program, folder, log, shows, commits + 1) == whole, [True])
         for k, blocks in enumerate(found):
+            salvaged(program, folder, log[: blocks[-1] * BLOCK + draw.randrange(11)], shows, k)
             for q in blocks if k else draw.sample(blocks, 5):
                 for how, hurt in damages(draw, log, q):
                     (folder / "s.d64-log").write_bytes(hurt)
+                    left = salvaged(program, folder, hurt, shows, k)
+                    want("blocks left", left is None or left[1] >= found[-1][-1] - blocks[0] + (0 if k == commits else 1), [True])
                     older = k and (k == commits or k == commits - 1 and q == blocks[-1])
                     name = f"block {q} of commit {k} {how}"
                     want(name, show(program, folder), [shows[k - 1]] if older else [(1, b"LOG")])

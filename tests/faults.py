@@ -49,7 +49,12 @@ def watched():
 
 def has_image(path):
     """Whether it's a folder with an image."""
-    return os.path.isdir(path) and any(it.endswith(".d64") for it in os.listdir(path))
+    return os.path.isdir(path) and any(is_image(it) for it in os.listdir(path))
+
+
+def is_image(path):
+    """Whether it's the name of an image, or of one in the making."""
+    return path.endswith((".d64", ".d64.new"))
 
 
 class Faults:
@@ -78,7 +83,7 @@ class Faults:
     def decide(self, number, call, given):
         """The error of a call, or what it returns, as a number that isn't positive; None where it goes on."""
         path = self.path_of(number, call, given)
-        kind = "image" if path.endswith(".d64") else "log" if ".d64-log" in path else "folder" if has_image(path) else ""
+        kind = "image" if is_image(path) else "log" if ".d64-log" in path else "folder" if has_image(path) else ""
         if call in (FSYNC, FDATASYNC) and kind:
             self.done.append(SYNCS[kind])
             return errno.EIO if self.is_due(SYNCS[kind]) else None

@@ -9,13 +9,14 @@ is calculated by `shop_rule.py`. It tries:
   With room for the log it serves.
 - A disk that another program fills while `serve` runs: its log has all its room, so each line is answered. When the log is full and no
   room is left for a new one, `serve` ends with `DEVICE`, and every answered line is in the shop.
-- `copy` and `format --new` without room for an image: `FILE`, status 3; what was made is no image, and every command refuses it.
+- `copy`, `format --new`, `new` and `extract` without room: `FILE`, status 3, and nothing is left. With room they work.
 - A folder that can't be written, with a log and without one: words that read work, words that write report `FILE` and change nothing.
 
 The status is 1 at the first difference; the last line says how much was tried."""
 
 import os
 import random
+import shutil
 import subprocess
 import sys
 import tempfile
@@ -121,16 +122,22 @@ class Trial:
             want(got == shop.shown(), "show prints another shop")
 
     def no_room_for_an_image(self):
-        """`copy`, `format --new` and `new` without room."""
-        disk, image, _ = self.shop_on(IMAGE_BYTES + 8 * PAGE)
-        for words in (["copy", image, disk.folder / "new.d64"], ["format", "--new", disk.folder / "new.d64", "--tills", 4],
-                      ["new", disk.folder / "new.d64", "--name", "NEW", "--id", "01"]):
-            status, out, err = run(self.program, *words)
-            want((status, out, err) == (3, [], "FILE"), f"{words[0]} without room: {status}, {out}, {err}")
-            got = run(self.program, "check", disk.folder / "new.d64")
-            want(got == (1, [], "IMAGE SIZE"), f"{words[0]} without room leaves what check calls {got}")
-            (disk.folder / "new.d64").unlink()
-            self.tried += 1
+        """`copy`, `format --new`, `new` and `extract` without room, and with it."""
+        disk, image, _ = self.shop_on(2 * IMAGE_BYTES + 60 * PAGE)
+        new = disk.folder / "new"
+        for words in (["copy", image, new], ["format", "--new", new, "--tills", 4], ["new", new, "--name", "NEW", "--id", "01"],
+                      ["extract", image, new]):
+            for room in (0, 1, 2, 7):
+                disk.fill()
+                os.truncate(disk.folder / "filler", (disk.folder / "filler").stat().st_size - room * PAGE)
+                status, out, err = run(self.program, *words)
+                want((status, out, err) == (3, [], "FILE"), f"{words[0]} with {room} pages: {status}, {out}, {err}")
+                left = sorted(it.name for it in disk.folder.iterdir())
+                want(left == ["filler", "shop.d64"], f"{words[0]} with {room} pages leaves {left}")
+                self.tried += 1
+            (disk.folder / "filler").unlink()
+            want(run(self.program, *words)[0] == 0, f"{words[0]} with room is refused")
+            shutil.rmtree(new) if new.is_dir() else new.unlink()
         disk.close()
 
     def read_only(self):

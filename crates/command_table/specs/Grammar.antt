@@ -71,9 +71,9 @@ may_accept_loss a = with_rule a (flag (codes "accept-loss"))
 abbrev pub serve : App
 serve = may_accept_loss (over_image (codes "serve"))
 
--- copy IMAGE NEW
+-- copy IMAGE NEW [--log]
 abbrev pub copy : App
-copy = with_rule (over_image (codes "copy")) (required (codes "NEW"))
+copy = with_rule (with_rule (over_image (codes "copy")) (required (codes "NEW"))) (flag (codes "log"))
 
 -- extract IMAGE FOLDER [--deleted] [--scan]
 abbrev pub extract : App

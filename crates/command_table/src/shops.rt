@@ -137,18 +137,29 @@ const COPY_PATH: Value = Value {
     help: "The copy's path, where no file may stand yet",
 };
 
-/// `copy IMAGE NEW`
+/// The flag that copies what a log alone has.
+const OF_LOG: Value = Value {
+    name: "log",
+    word: Some("log"),
+    count: Count::Flag,
+    help: "IMAGE is a log, and NEW gets the image of its whole commits",
+};
+
+/// `copy IMAGE NEW [--log]`
 const COPY: Subcommand = Subcommand {
     name: "copy",
     about: "Copy the image as it is now, also while it is served",
     more: "\
-It prints COPIED once the copy is on the disk. The copy needs no log.
+Prints COPIED once the copy is on the disk. The copy needs no log. With --log it
+reads a log alone, and also prints COMMITS (how many it took, the image that the
+log began with among them) and LEFT (how many blocks it left out after them).
 
 Exit status:
   0  the image was copied
   1  IMAGE SIZE, LOG, or FILE EXISTS (NEW, or its log): nothing was done
   3  FILE, NO MEMORY, IN USE
 
-Example: ledger copy shop.d64 backup.d64",
-    values: &[IMAGE, COPY_PATH],
+Examples: ledger copy shop.d64 backup.d64
+          ledger copy --log shop.d64-log rescued.d64",
+    values: &[IMAGE, COPY_PATH, OF_LOG],
 };

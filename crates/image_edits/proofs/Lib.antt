@@ -3,3 +3,4 @@ pub mod Copied
 pub mod EditRead
 pub mod MadeTold
 pub mod NewMade
+pub mod Salvaged

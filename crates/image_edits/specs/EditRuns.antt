@@ -1,23 +1,30 @@
 -- What a job that changes or copies an image comes to over the bytes that the host says. Our own.
-use Rattle.std.specs.Prelude.{◌≡◌, ℕ, List, Option, take}
+use Rattle.std.specs.Prelude.{◌≡◌, ◌⊎◌, ℕ, IfErr, IsErr, List, Option, codes, take}
 use Rattle.image_file.specs.paths.Rights.{Rights}
 use Rattle.image_file.specs.paths.Standing.{Stands}
 use Rattle.image_edits.specs.Changes.{IsChangeEnd, IsShownEnd}
 use Rattle.image_edits.specs.Copies.{IsCopyEnd}
 use Rattle.image_edits.specs.Edits.{IsEdited, IsTextFor, IsUnedited, loss_of}
 use Rattle.opened_files.specs.Ends.{JobEnd}
-use Rattle.opened_files.specs.HostFiles.{OfImage, OfWritten, RunEnds}
+use Rattle.opened_files.specs.HostFiles.{IsUnread, OfImage, OfWritten, RunEnds}
 use Rattle.opened_files.specs.Losses.{IsNear}
+use Rattle.image_edits.specs.Salvages.{IsSalvageEnd}
 use Rattle.image_edits.specs.declared.edit.Edit.{Edit}
 use Rattle.image_edits.specs.declared.edit.Effect.{Effect}
 use Rattle.image_edits.specs.declared.edit.Effect.TheVariants.{Printed, Written}
 use Rattle.shop_log.specs.life.Tags.{SaysLogAway}
 
+-- The image of the log at a path was copied to a file that is made; nothing is said of that file. Or the log wasn't read.
+abbrev pub IsSalvagedFrom : {H W : Type 0} → (H → List ℕ → Stands) → (W → Option (List ℕ)) → H → List ℕ → W → W → JobEnd
+    → Type 0
+IsSalvagedFrom stands contents host path old new end = OfWritten stands host path
+    (λ all. IsSalvageEnd contents (take 4198400 all) old new end ⊎ ((new ≡ old) × IsErr end × IfErr end IsUnread))
+
 module _ {H W : Type 0} (rights : Rights H) (stands : H → List ℕ → Stands) (contents : W → Option (List ℕ)) (host : H) where
   -- it was copied to a file that is made; nothing is said of that file
   abbrev pub IsCopiedFrom : List ℕ → W → W → JobEnd → Type 0
   IsCopiedFrom path old new end = OfImage rights stands host path
-      (λ all. RunEnds old new end (IsCopyEnd contents (take 174849 all) old new end))
+      (λ all. RunEnds old new end (IsCopyEnd contents (codes "COPIED\n") (take 174849 all) old new end))
 
   -- Its files were changed, all or nothing, or only what the change would print was printed. That isn't done to an image
   -- whose log has the rest.

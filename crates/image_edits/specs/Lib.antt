@@ -5,4 +5,5 @@ pub mod EditRights
 pub mod EditRuns
 pub mod Edits
 pub mod NewDisks
+pub mod Salvages
 pub mod Trims

@@ -6,6 +6,7 @@ mod copying;
 mod edit;
 mod edits;
 mod new_disks;
+mod salvaging;
 mod trimming;
 
 pub use changing::change_end;
@@ -13,4 +14,5 @@ pub use copying::{copy_run, do_copying};
 pub use edit::{Columns, Edit, Effect, Unowned};
 pub use edits::do_edit;
 pub use new_disks::{do_new, new_run};
+pub use salvaging::{do_salvaging, salvage_run};
 pub use trimming::{do_trim, trim_run};

@@ -70,7 +70,7 @@ where
     requires name { length (name_bytes name.now) ≤ 16 }
     ensures { IsMakingEnd W.contents (codes "FORMATTED\n") out.old out.new result }
 {
-    let mut file = OverwrittenFile::new(AtPath::new(rt, path, Older::Kept));
+    let mut file = OverwrittenFile::new(AtPath::new(rt, path, Older::Kept, None));
     let made = new_run(rt.alloc(), name.as_bytes(), id, &mut file, out);
-    over_end(made, file.opener().refused())
+    over_end(made, file.given_up().refused())
 }

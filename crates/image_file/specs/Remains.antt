@@ -74,3 +74,8 @@ pub record IsBroughtWhole {F E : Type 0} (r : Remains F) (old new : F) (result :
   pub same : r.held new ≡ r.held old
   pub remain : Changes r old new (λ from s. ⊥)
   pub ok : OnOk result ((s : List ℕ) → r.remain new (r.moment new) s → r.held new ≡ Some s)
+
+-- a file got its name: what it holds is as before, and so is what may remain of that
+pub record IsFinished {F : Type 0} (r : Remains F) (old new : F) : Type 0 where
+  pub same : r.held new ≡ r.held old
+  pub remain : Changes r old new (λ from s. ⊥)

@@ -2,16 +2,22 @@
 use crate::remaining::EndedFile;
 use std::io;
 
-/// A way to open a file for writing, without cutting it.
+/// A way to open a file for writing, without cutting it. If there is none, it may be made under another name.
 pub trait OpensFile {
     /// The opened file.
     type File: EndedFile + Drop;
 
-    /// Opens the file.
+    /// Opens the file, or makes it.
     fn open(&mut self) -> io::Result<Self::File>;
 
     /// Syncs the folder of the file, so that its name stays if the machine loses power.
     fn sync_folder(&mut self) -> io::Result<()>;
+
+    /// Gives the file its own name, if it was made under another one, and syncs that.
+    fn give_name(&mut self, file: &Self::File) -> io::Result<()>;
+
+    /// Removes the file, if it was made and hasn't its own name.
+    fn remove_unnamed(&mut self, file: &Self::File);
 }
 
 /// A file that is overwritten. It is opened at the first use; nothing is touched before. Syncing it also syncs its
@@ -28,8 +34,11 @@ impl<O: OpensFile> OverwrittenFile<O> {
         OverwrittenFile { opens, file: None }
     }
 
-    /// How the file is opened.
-    pub fn opener(&self) -> &O {
+    /// How the file was opened. A file that was made and hasn't its own name is removed: nothing more is written.
+    pub fn given_up(&mut self) -> &O {
+        if let Some(file) = &self.file {
+            self.opens.remove_unnamed(file);
+        }
         &self.opens
     }
 
@@ -58,5 +67,12 @@ impl<O: OpensFile> EndedFile for OverwrittenFile<O> {
     fn sync_whole(&mut self) -> io::Result<()> {
         self.opened()?.sync_whole()?;
         self.opens.sync_folder()
+    }
+
+    fn finish(&mut self) -> io::Result<()> {
+        match &self.file {
+            Some(file) => self.opens.give_name(file),
+            None => Ok(()),
+        }
     }
 }

@@ -1,6 +1,6 @@
 //! Files that are overwritten, and what may remain of them after a power loss.
 ghost use Rattle.std.specs.Prelude.{OnOk};
-ghost use Rattle.image_file.specs.Remains.{IsBroughtWhole, IsEndedBehind, IsPutOver, Remains, unknown};
+ghost use Rattle.image_file.specs.Remains.{IsBroughtWhole, IsEndedBehind, IsFinished, IsPutOver, Remains, unknown};
 
 use std::fs::{File, Metadata, Permissions};
 use std::io;
@@ -23,6 +23,10 @@ pub trait EndedFile {
     /// Syncs all that it holds, and its length.
     fn sync_whole(&mut self) -> io::Result<()>
         ensures { IsBroughtWhole remains self.old self.new result };
+
+    /// Nothing more is written, and all is synced: a file that was made under another name gets its own.
+    fn finish(&mut self) -> io::Result<()>
+        ensures { IsFinished remains self.old self.new };
 
     /// Lets those people read and write it who may do so with the file that this metadata describes, as far as the system
     /// allows that, and nobody else.
@@ -50,6 +54,10 @@ impl EndedFile for File {
 
     fn sync_whole(&mut self) -> io::Result<()> {
         self.sync_all()
+    }
+
+    fn finish(&mut self) -> io::Result<()> {
+        Ok(())
     }
 
     // a file that can't be given away has its maker as its owner

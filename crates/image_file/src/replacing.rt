@@ -51,12 +51,13 @@ fn seal<F: EndedFile>(file: &mut F, image: &[u8]) -> io::Result<()>
 
 /// Replaces all that a file holds with an image. If power fails on the way, there remains what could remain before, or
 /// bytes that aren't the image of a sound disk, or the image. At Ok the image remains. At an error any of the three
-/// may: the file may be spoiled.
+/// may: the file may be spoiled. A file that was made for it gets its name at the end.
 pub fn replace_image<F: EndedFile>(file: &mut F, image: &[u8]) -> io::Result<()>
     requires size { length image.now ≡ 174848 }
     ensures { IsReplaced F.remains file.old file.new image.now result }
 {
     spoil(file)?;
     fill(file, image)?;
-    seal(file, image)
+    seal(file, image)?;
+    file.finish()
 }

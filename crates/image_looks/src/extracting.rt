@@ -1,94 +1,21 @@
 //! All files of an image, taken out to a folder that is new.
-ghost use Rattle.std.specs.Prelude.{◌≡◌, IfOk, string_bytes};
-ghost use Rattle.std.proofs.Props.{props};
+ghost use Rattle.std.specs.Prelude.{◌≡◌, IfErr, IsErr, IsOk, OnOk};
+ghost use Rattle.command_faults.specs.declared.faults.CommandFault.TheVariants as faults;
 ghost use Rattle.image_looks.specs.Extracts.{IsExtractEnd, IsExtractTold, IsFolderEnd, refusal_found, refusal_of};
 ghost use Rattle.image_looks.specs.LookRuns.{IsExtractedFrom};
 ghost use Rattle.opened_files.specs.Rights.{MayFill, MayReadImage};
-ghost use Rattle.opened_files.specs.Rights as specs;
 
+use crate::new_folders::{KeptFolder, SystemFolder};
 use command_faults::CommandFault;
 use d64_image::Place;
 use disk_layout::Fault;
 use image_file::{EndedFile, HostFiles, Locks};
-use keeper_commands::{Choice, NewFolder, extract_image};
+use keeper_commands::{Choice, extract_image};
 use opened_files::{Refusal, cut_in, image_at, run_end};
 use shop_commands::put_whole;
 use std::alloc::Global;
 use std::fs::OpenFile;
-use std::io::{self, Read, Write};
-
-/// A folder of the system, which is made when the first file in it is; and whether something stood at its path then.
-#[derive(Drop)]
-struct SystemFolder<'a, R: HostFiles> {
-    rt: &'a R,
-    path: &'a str,
-    is_made: bool,
-    has_stood: bool,
-    // it may be made, and files in it
-    ghost fills: { MayFill R.rights rt.now path.now } by { Prim.hlevel props },
-}
-
-impl<'a, R: HostFiles> SystemFolder<'a, R> {
-    /// The folder at this path, which isn't made yet.
-    fn new(rt: &'a R, path: &'a str) -> SystemFolder<'a, R>
-        requires { MayFill R.rights rt.now path.now }
-    {
-        SystemFolder {
-            rt,
-            path,
-            is_made: false,
-            has_stood: false,
-        }
-    }
-}
-
-impl<R: HostFiles> SystemFolder<'_, R> {
-    /// Checks that the folder is made. An error if something stood at its path before.
-    fn see_made(&mut self) -> io::Result<()> {
-        if self.is_made {
-            return Ok(());
-        }
-        match self.rt.make_folder(self.path) {
-            Ok(()) => {
-                self.is_made = true;
-                Ok(())
-            }
-            Err(error) => {
-                if error.kind() == io::ErrorKind::AlreadyExists {
-                    self.has_stood = true;
-                }
-                Err(error)
-            }
-        }
-    }
-}
-
-/// The path of the file of this name in a folder.
-fn path_in(alloc: Global, folder: &str, name: &[u8]) -> io::Result<String>
-    ensures { IfOk result (λ path. string_bytes path ≡ specs.path_in folder.now name.now) }
-{
-    let Ok(name) = std::str::from_utf8(name) else {
-        return Err(io::ErrorKind::InvalidInput.into());
-    };
-    let mut path = String::new(alloc);
-    path.push_str(folder)?;
-    path.push_str("/")?;
-    path.push_str(name)?;
-    Ok(path)
-}
-
-impl<F, R> NewFolder for SystemFolder<'_, R>
-where
-    F: EndedFile + Drop,
-    R: HostFiles<File = F> + AllocGlobal,
-{
-    fn make(&mut self, name: &[u8], bytes: &[u8]) -> io::Result<()> {
-        self.see_made()?;
-        let path = path_in(self.rt.alloc(), self.path, name)?;
-        let mut file = self.rt.make_file(path.as_str(), 0o666)?;
-        file.put_over(bytes, 0)
-    }
-}
+use std::io::{Read, Write};
 
 /// Why files that were all made aren't whole: their first fault, or that a file is cut short there.
 fn found_refusal(found: Option<Fault>, cut: Option<Place>) -> Option<Refusal>
@@ -127,21 +54,44 @@ fn tell_extracted<W: Write>(refused: Option<Refusal>, out: &mut W) -> Result<Opt
     run_end(put_whole(out, b"EXTRACTED\n"))
 }
 
-/// Makes the chosen files of an image in a folder, as `extract_image` does, and prints `EXTRACTED` if all are whole. Otherwise
-/// nothing is printed. `Keep` has the first fault of a file or of the directory, or why the files aren't made. `Short`: a
-/// file of a sound disk is cut short. `File` if the output failed; `NoMemory`.
-pub fn extract_run<N: NewFolder, W: Write>(
+/// Keeps a folder whose files were all made; one in which they weren't isn't kept. `File` if it can't be kept.
+fn keep_made<N: KeptFolder>(
+    ended: &Result<Option<Fault>, CommandFault>,
+    folder: &mut N,
+) -> Result<(), CommandFault>
+    ensures same { N.files folder.new ≡ N.files folder.old }
+    ensures unmade { IsErr ended.now → folder.new ≡ folder.old }
+    ensures kept { OnOk result (IsOk ended.now → N.IsKept folder.new) }
+    ensures err { IfErr result (λ fault. (fault ≡ faults.File) × IsOk ended.now) }
+{
+    match ended {
+        Ok(_) => match folder.keep() {
+            Ok(()) => Ok(()),
+            Err(_) => Err(CommandFault::File),
+        },
+        Err(_) => Ok(()),
+    }
+}
+
+/// Makes the chosen files of an image in a folder, as `extract_image` does, keeps it, and prints `EXTRACTED` if all are whole.
+/// Otherwise nothing is printed. `Keep` has the first fault of a file or of the directory, or why the files aren't made. `Short`: a
+/// file of a sound disk is cut short. `File` if the folder can't be kept, or the output failed; `NoMemory`.
+pub fn extract_run<N: KeptFolder, W: Write>(
     alloc: Global,
     choice: Choice,
     image: &[u8],
     folder: &mut N,
     out: &mut W,
 ) -> Result<Option<Fault>, Refusal>
-    ensures { IsExtractEnd N.files W.contents choice image.now folder.old folder.new out.old out.new result }
+    ensures run { IsExtractEnd N.files W.contents choice image.now folder.old folder.new out.old out.new result }
+    ensures kept { OnOk result (N.IsKept folder.new) }
 {
     let cut = cut_in(alloc, image)?;
     let ended = extract_image(alloc, choice, image, folder);
-    tell_extracted(extract_refusal(ended, cut), out)
+    match keep_made(&ended, folder) {
+        Ok(()) => tell_extracted(extract_refusal(ended, cut), out),
+        Err(fault) => Err(Refusal::Fault(fault)),
+    }
 }
 
 /// The end of a job that fills a folder. If it isn't done, and something stood at the folder's path, that is why.
@@ -177,5 +127,5 @@ where
     let image = image_at(rt, path)?;
     let mut files = SystemFolder::new(rt, folder);
     let ended = extract_run(rt.alloc(), choice, image.as_slice(), &mut files, out);
-    folder_end(ended, files.has_stood)
+    folder_end(ended, files.given_up())
 }

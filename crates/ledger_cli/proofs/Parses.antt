@@ -125,6 +125,20 @@ pub play-fit : (image script : Bor Text) (synced : Bool)
 play-fit image script true = tt
 play-fit image script false = tt
 
+pub copy-met : (found : Option (Text × List Row)) (rows : List Row) (image copy : Bor Text) (logged : Bool)
+    → is_given (codes "log") rows ≡ logged → found ≡ Some (codes "copy", rows) → image.now ≡ value (codes "IMAGE") rows
+    → copy.now ≡ value (codes "NEW") rows
+    → IsJob found (if logged then jobs.Salvage image copy else jobs.Copy image copy)
+copy-met found rows image copy true log is by-image by-copy =
+    record { rows = rows; is = is; holds = (by-image, by-copy, log) }
+copy-met found rows image copy false log is by-image by-copy =
+    record { rows = rows; is = is; holds = (by-image, by-copy, log) }
+
+pub copy-fit : (image copy : Bor Text) (logged : Bool)
+    → IsFit (if logged then jobs.Salvage image copy else jobs.Copy image copy)
+copy-fit image copy true = tt
+copy-fit image copy false = tt
+
 -- what was heard is what the words ask for
 pub heard-as-asked : (r : Result Job JobFault) (asked heard : Bool) → heard ≡ asked → IsHeard r asked heard
 heard-as-asked (Ok j) asked heard same = same

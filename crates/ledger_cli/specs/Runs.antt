@@ -90,6 +90,8 @@ module _ {F : Type 0} (position : F → Option ℕ) (bytes contents : F → Opti
   IsJobRun told (jobs.Serve path loss) image script file after old new end =
       (after ≡ file) × (new ≡ old) × (end ≡ Err (refusals.Fault faults.File))
   IsJobRun told (jobs.Copy path copy) image script file after old new end = IsCopyJob told image file after old new end
+  IsJobRun told (jobs.Salvage log copy) image script file after old new end =
+      (after ≡ file) × (new ≡ old) × (end ≡ Err (refusals.Fault faults.File))
   IsJobRun told (jobs.Change path effect edit) image script file after old new end = IsChangeJob position bytes contents told effect
       (IsEdited edit script image) (IsUnedited edit script image) file after old new end
   IsJobRun told (jobs.Trim path) image script file after old new end =

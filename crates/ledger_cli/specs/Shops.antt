@@ -1,4 +1,4 @@
--- The jobs that make a shop's image, and play on it. Our own.
+-- The jobs that make a shop's image, play on it, and copy it. Our own.
 use Rattle.std.specs.Prelude.{ℕ, List, codes, if◌then◌else◌}
 use Rattle.std.specs.Borrow.{Bor}
 use Rattle.clap.specs.Words.{Row, Text}
@@ -15,3 +15,7 @@ format_job rows image tills =
 abbrev pub play_job : List Row → Bor Text → Bor Text → Job
 play_job rows image script =
     if is_given (codes "sync") rows then jobs.PlayLogged image script else jobs.Play image script
+
+-- the job that copies an image: with --log it is that of a log
+abbrev pub copy_job : List Row → Bor Text → Bor Text → Job
+copy_job rows image copy = if is_given (codes "log") rows then jobs.Salvage image copy else jobs.Copy image copy

@@ -39,8 +39,9 @@ fn obey<F: Write + Seek + Drop, W: Write>(
             ..
         } => edited(alloc, image, edit, script, effect, file, out),
         Job::Compare { .. } => (file, comparing_run(alloc, image, script, out)),
-        // it needs the bytes of each image, or standard error too, or a folder
+        // it needs the bytes of each image, or standard error too, or a folder or a log
         Job::Serve { .. }
+        | Job::Salvage { .. }
         | Job::Several { .. }
         | Job::Sheet { .. }
         | Job::Describe { .. }
@@ -60,9 +61,10 @@ fn obey<F: Write + Seek + Drop, W: Write>(
 /// a job ends with 3 and `FILE`, and nothing is printed. A job that only reads leaves it as it was. There are no logs:
 /// `PlayLogged` writes the image itself.
 ///
-/// Four kinds of job end with 3 and `FILE`:
+/// Five kinds of job end with 3 and `FILE`:
 /// - a job over several images, since only one has its bytes here: call `overview_run` for each;
 /// - `Extract` and `Serve`, since there is no folder: call `extract_run` and `serve_logged` over one and over a log;
+/// - `Salvage`, since there is no log: call `salvage_run` with its bytes;
 /// - `Trim`, which reports on standard error: call `trim_run`.
 ///
 /// `Play` hands the file each sector at 256 times its index, before memory takes it, and nothing else. All other

@@ -1,7 +1,7 @@
-//! The jobs that make a shop's image, and play on it.
+//! The jobs that make a shop's image, play on it, and copy it.
 ghost use Rattle.std.specs.Prelude.{◌≡◌};
 ghost use Rattle.clap.specs.Words.{found_of, rows_of};
-ghost use Rattle.ledger_cli.specs.Shops.{format_job, play_job};
+ghost use Rattle.ledger_cli.specs.Shops.{copy_job, format_job, play_job};
 
 use crate::values::is_given;
 use clap::ArgMatches;
@@ -26,5 +26,16 @@ pub(crate) fn playing<'a>(matches: &ArgMatches<'a>, image: &'a str, script: &'a 
         Job::PlayLogged { image, script }
     } else {
         Job::Play { image, script }
+    }
+}
+
+/// The job that copies an image, or what a log alone has.
+pub(crate) fn copying<'a>(matches: &ArgMatches<'a>, image: &'a str, copy: &'a str) -> Job<'a>
+    ensures { result ≡ copy_job (rows_of (found_of matches.now)) image.entry copy.entry }
+{
+    if is_given(matches, "log") {
+        Job::Salvage { log: image, copy }
+    } else {
+        Job::Copy { image, copy }
     }
 }

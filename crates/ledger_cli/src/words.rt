@@ -12,7 +12,7 @@ use crate::names::{
     deleting, empty_disk, making, putting, renaming, storing, taking_bytes, taking_records,
 };
 use crate::numbers::{place_of, tills_of};
-use crate::shops::{formatting, playing};
+use crate::shops::{copying, formatting, playing};
 use crate::values::{is_given, parsed_subcommand, value_of};
 use clap::{ArgMatches, Error};
 use command_table::ledger_command;
@@ -48,10 +48,7 @@ fn job_of<'a>(alloc: Global, matches: &ArgMatches<'a>) -> Result<Job<'a>, JobFau
             image,
             loss: loss(found),
         }),
-        "copy" => Ok(Job::Copy {
-            image,
-            copy: value_of(found, "NEW"),
-        }),
+        "copy" => Ok(copying(found, image, value_of(found, "NEW"))),
         "extract" => Ok(Job::Extract {
             choice: choice(found),
             image,

@@ -25,6 +25,7 @@ look-first rights host (jobs.PlayLogged image script) may = λ other. (may other
 look-first rights host (jobs.Dry script) may = λ other. (may other).0.0
 look-first rights host (jobs.Serve image loss) may = λ other. (may other).0.0
 look-first rights host (jobs.Copy image copy) may = λ other. (may other).0.0
+look-first rights host (jobs.Salvage log copy) may = λ other. (may other).0.0
 look-first rights host (jobs.Extract choice image folder) may = λ other. (may other).0.0
 look-first rights host (jobs.Trim image) may = λ other. (may other).0.0
 look-first rights host (jobs.Compare before after) may = λ other. (may.0 other).0.0

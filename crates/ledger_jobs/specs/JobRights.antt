@@ -2,7 +2,7 @@
 use Rattle.std.specs.Prelude.{⊤, ℕ, All, IfSome, List, None, Option, Some}
 use Rattle.ledger_jobs.specs.declared.jobs.Job.{Job}
 use Rattle.ledger_jobs.specs.declared.jobs.Job.TheVariants as jobs
-use Rattle.image_file.specs.paths.Rights.{Rights}
+use Rattle.image_file.specs.paths.Rights.{MayRead, Rights}
 use Rattle.image_edits.specs.EditRights.{MayEdit, MayReadSource}
 use Rattle.opened_files.specs.Rights.{MayReadImage, MayReadText, MayLook, MayChangeImage, MayMakeImage, MayOverwrite, MayFill}
 
@@ -18,6 +18,7 @@ first_file (jobs.PlayLogged image script) = Some image.now
 first_file (jobs.Dry script) = Some script.now
 first_file (jobs.Serve image loss) = Some image.now
 first_file (jobs.Copy image copy) = Some image.now
+first_file (jobs.Salvage log copy) = Some log.now
 first_file (jobs.Extract choice image folder) = Some image.now
 first_file (jobs.Trim image) = Some image.now
 first_file (jobs.Compare before after) = Some before.now
@@ -36,6 +37,7 @@ module _ {H : Type 0} (rights : Rights H) (host : H) where
   MayDo (jobs.Dry script) = MayReadText rights host script.now
   MayDo (jobs.Serve image loss) = MayChangeImage rights host image.now
   MayDo (jobs.Copy image copy) = MayReadImage rights host image.now × MayMakeImage rights host copy.now
+  MayDo (jobs.Salvage log copy) = MayRead rights host log.now × MayMakeImage rights host copy.now
   MayDo (jobs.Extract choice image folder) = MayReadImage rights host image.now × MayFill rights host folder.now
   -- `do_trim` does that job
   MayDo (jobs.Trim image) = ⊤

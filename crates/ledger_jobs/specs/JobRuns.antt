@@ -12,7 +12,7 @@ use Rattle.ledger_jobs.specs.declared.jobs.Job.{Job}
 use Rattle.ledger_jobs.specs.declared.jobs.Job.TheVariants as jobs
 use Rattle.opened_files.specs.declared.refusals.Refusal.TheVariants as refusals
 use Rattle.image_looks.specs.LookRuns.{IsLookedAt, IsComparedOver, IsExtractedFrom, AreDrawnOnSheet, AreDescribed, AreOverviewed}
-use Rattle.image_edits.specs.EditRuns.{IsCopiedFrom, IsEditOver}
+use Rattle.image_edits.specs.EditRuns.{IsSalvagedFrom, IsCopiedFrom, IsEditOver}
 use Rattle.shop_jobs.specs.ShopRuns.{IsDryOver, IsPlayedOverFile, IsPlayedOverLog}
 
 -- the paths of several words
@@ -26,6 +26,7 @@ module _ {H W : Type 0} (rights : Rights H) (stands : H → List ℕ → Stands)
   IsJobOver (jobs.Dry script) old new end = IsDryOver stands contents host script.now old new end
   IsJobOver (jobs.Compare before after) old new end = IsComparedOver rights stands contents host before.now after.now old new end
   IsJobOver (jobs.Copy image copy) old new end = IsCopiedFrom rights stands contents host image.now old new end
+  IsJobOver (jobs.Salvage log copy) old new end = IsSalvagedFrom stands contents host log.now old new end
   IsJobOver (jobs.Extract choice image folder) old new end = IsExtractedFrom rights stands contents host choice image.now old new end
   IsJobOver (jobs.Change image effect edit) old new end = IsEditOver rights stands contents host effect image.now edit old new end
   IsJobOver (jobs.Format image tills) old new end = IsMakingEnd contents (codes "FORMATTED\n") old new end

@@ -7,7 +7,7 @@ ghost use Rattle.ledger_jobs.specs.JobRights.{MayDo};
 use crate::jobs::Job;
 use command_faults::CommandFault;
 use disk_layout::Fault;
-use image_edits::{do_copying, do_edit, do_new};
+use image_edits::{do_copying, do_edit, do_new, do_salvaging};
 use image_file::{EndedFile, HostFiles, Locks};
 use image_looks::{do_comparing, do_describing, do_extracting, do_look, do_several, do_sheet};
 use opened_files::{Older, Refusal};
@@ -24,7 +24,7 @@ use std::io::{Read, Write};
 /// `InUse` if another program has the image; `Log` if its log gives no image; `LogAway` if that has the rest of a shop, and
 /// isn't there; `File` if a file couldn't be opened or
 /// read. The other faults are those of `look`, `dry_run`, `format_image`, `new_run`, `play_durably`, `play_logged`,
-/// `serve_logged_guarded`, `copy_run`, `change_image`, `show_change`, `extract_run` and `comparing_run`. `Trim` ends with `File`, since it reports on standard error: call `do_trim`. What is
+/// `serve_logged_guarded`, `copy_run`, `salvage_run`, `change_image`, `show_change`, `extract_run` and `comparing_run`. `Trim` ends with `File`, since it reports on standard error: call `do_trim`. What is
 /// wrong with one of several images is printed; only a failed output ends the job before the last of them.
 pub fn do_job<F, R, W>(rt: &R, job: &Job<'_>, out: &mut W) -> Result<Option<Fault>, Refusal>
 where
@@ -49,6 +49,7 @@ where
         Job::PlayLogged { image, script } => do_logged_playing(rt, image, script, out),
         Job::Serve { image, loss } => do_logged_serving(rt, image, loss, out),
         Job::Copy { image, copy } => do_copying(rt, image, copy, out),
+        Job::Salvage { log, copy } => do_salvaging(rt, log, copy, out),
         Job::Extract {
             choice,
             image,

@@ -34,7 +34,7 @@ fn tell_made<R: HostFiles, E: Write>(rt: &R, job: &Job<'_>, err: &mut E)
     requires { MayExplain R.rights rt.now job.now }
 {
     match job {
-        Job::Copy { copy, .. } => {
+        Job::Copy { copy, .. } | Job::Salvage { copy, .. } => {
             tell_of(
                 err,
                 copy,

@@ -5,7 +5,9 @@ ghost use Rattle.ledger_jobs.specs.JobRights as specs;
 use crate::jobs::Job;
 use arrayvec::ArrayVec;
 use image_edits::Edit;
+use image_file::{HostFiles, regular_at};
 use opened_files::STANDARD_INPUT;
+use std::fs::Metadata;
 
 /// The file that a job reads or writes first. None of a job over several images.
 pub(crate) fn first_file<'a>(job: &Job<'a>) -> Option<&'a str>
@@ -20,6 +22,7 @@ pub(crate) fn first_file<'a>(job: &Job<'a>) -> Option<&'a str>
             image,
         ),
         Job::Extract { image, .. } | Job::Copy { image, .. } => Some(image),
+        Job::Salvage { log, .. } => Some(log),
         Job::Several { .. } | Job::Sheet { .. } | Job::Describe { .. } => None,
         Job::Compare { before, .. } => Some(before),
         Job::Dry { script } => Some(script),
@@ -49,7 +52,7 @@ pub(crate) fn text_of<'a>(job: &Job<'a>) -> Option<&'a str> {
 fn second_of<'a>(job: &Job<'a>) -> Option<&'a str> {
     match job {
         Job::Compare { after, .. } => Some(after),
-        Job::Copy { copy, .. } => Some(copy),
+        Job::Copy { copy, .. } | Job::Salvage { copy, .. } => Some(copy),
         Job::Change {
             edit: Edit::Put { file, .. },
             ..
@@ -74,4 +77,15 @@ pub fn files_of<'a>(job: &Job<'a>) -> ArrayVec<&'a str, 2> {
         _ => {}
     }
     files
+}
+
+/// What the system says of the regular file at a path. None of standard input, and if the system doesn't say. No file is
+/// opened.
+pub fn metadata_of<R: HostFiles>(rt: &R, path: &str) -> Option<Metadata>
+    requires { MayLook R.rights rt.now path.now }
+{
+    if path == STANDARD_INPUT {
+        return None;
+    }
+    regular_at(rt, path).ok()
 }

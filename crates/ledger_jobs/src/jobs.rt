@@ -73,6 +73,14 @@ pub enum Job<'a> {
         /// The copy's path.
         copy: &'a str,
     },
+    /// An image of its own that holds what the whole commits of a log stand for, in a file that isn't there yet. No image is
+    /// read.
+    Salvage {
+        /// The log's path.
+        log: &'a str,
+        /// The copy's path.
+        copy: &'a str,
+    },
     /// All files of an image that is read, made in a folder that isn't there yet.
     Extract {
         /// Which entries are taken out.

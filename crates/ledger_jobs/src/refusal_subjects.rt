@@ -36,13 +36,16 @@ const KEPT: &str =
     "no file owns what is kept, but it may hold data; if you know that it doesn't, `repair --free` frees it";
 
 const FOREIGN_LOG: &str =
-    "the log beside it is of another image, or not whole; docs/LOG.md says what to do";
+    "the log beside it is of another image, or not whole (docs/LOG.md); `copy --log IMAGE-log NEW` gets out what it has";
+
+const NO_BASE: &str = "its first commit isn't whole, so it gives no image";
 
 const LOG_AWAY: &str =
     "the last requests are in its log, which isn't beside it; docs/LOG.md says what to do";
 
 const SECOND_NAME: &str =
-    "it has a second name (a hard link), and would have a log under each; keep one, or `copy` it";
+    "it has a second name (a hard link), and would have a log under each, or it is mounted by itself, \
+     without its log; keep one name, mount its folder, or `copy` it";
 
 pub(crate) const CUT_SHORT: &str =
     "a file ends there, too early (docs/KEEPERS.md); if `check` said OK before, use --accept-loss";
@@ -101,6 +104,14 @@ fn about_job(job: &Job<'_>, fault: CommandFault) -> About {
     }
 }
 
+/// What is said of a log that gives this job no image.
+fn said_of_log(job: &Job<'_>) -> &'static str {
+    match job {
+        Job::Salvage { .. } => NO_BASE,
+        _ => FOREIGN_LOG,
+    }
+}
+
 /// What a refusal of this job is about.
 pub(crate) fn subject_of(job: &Job<'_>, refusal: Refusal) -> About {
     match refusal {
@@ -108,7 +119,7 @@ pub(crate) fn subject_of(job: &Job<'_>, refusal: Refusal) -> About {
         Refusal::InUse => About::Image("another program has it; end that one first"),
         Refusal::Kept(_) => About::Image(KEPT),
         Refusal::Exists => About::Made,
-        Refusal::Log => About::Image(FOREIGN_LOG),
+        Refusal::Log => About::Image(said_of_log(job)),
         Refusal::LogAway => About::Image(LOG_AWAY),
         Refusal::TwoNames => About::Image(SECOND_NAME),
         Refusal::Short(_) => About::Image(CUT_SHORT),

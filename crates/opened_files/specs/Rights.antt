@@ -2,7 +2,7 @@
 use Rattle.std.specs.Prelude.{◌≢◌, ℕ, List, ◌++◌, codes}
 use Rattle.keeper_commands.specs.rescue.Folders.{StaysInside}
 use Rattle.shop_log.specs.life.LogRights.{MayForgetLog, MayKeepLog, MayReadLog}
-use Rattle.image_file.specs.paths.Rights.{Look, Make, May, MayRead, MayWrite, Read, Rights, Write}
+use Rattle.image_file.specs.paths.Rights.{Look, Make, May, MayRead, MayWrite, Read, Remove, Rights, Write}
 
 -- the path that stands for standard input, which is never opened
 abbrev pub standard_input : List ℕ
@@ -11,6 +11,10 @@ standard_input = codes "/dev/stdin"
 -- the path of a file in a folder
 abbrev pub path_in : List ℕ → List ℕ → List ℕ
 path_in folder name = folder ++ codes "/" ++ name
+
+-- a name under which a file or a folder is made that gets this path when it is whole
+abbrev pub aside_of : List ℕ → List ℕ → List ℕ
+aside_of path end = path ++ codes ".new" ++ end
 
 module _ {H : Type 0} (rights : Rights H) (host : H) where
   -- a file may be read, with the log beside it
@@ -33,9 +37,17 @@ module _ {H : Type 0} (rights : Rights H) (host : H) where
   abbrev pub MayChangeImage : List ℕ → Type 0
   MayChangeImage path = MayWrite rights host path × MayKeepLog rights host path
 
+  -- a file of this name may be made, and removed again
+  abbrev pub MayTry : List ℕ → Type 0
+  MayTry name = May rights host Look name × May rights host Make name × May rights host Remove name
+
+  -- a file or a folder may be made where nothing is, under another name first
+  abbrev pub MayMakeNew : List ℕ → Type 0
+  MayMakeNew path = May rights host Look path × May rights host Make path × ((end : List ℕ) → MayTry (aside_of path end))
+
   -- an image may be made where nothing is
   abbrev pub MayMakeImage : List ℕ → Type 0
-  MayMakeImage path = May rights host Make path × MayForgetLog rights host path
+  MayMakeImage path = MayMakeNew path × MayForgetLog rights host path
 
   -- a file that is there may be overwritten
   abbrev pub MayOverwrite : List ℕ → Type 0
@@ -43,5 +55,5 @@ module _ {H : Type 0} (rights : Rights H) (host : H) where
 
   -- a folder may be made, and files in it
   abbrev pub MayFill : List ℕ → Type 0
-  MayFill folder = May rights host Make folder
-      × ((name : List ℕ) → StaysInside name → May rights host Make (path_in folder name))
+  MayFill folder = MayMakeNew folder
+      × ((end name : List ℕ) → StaysInside name → MayTry (path_in (aside_of folder end) name))

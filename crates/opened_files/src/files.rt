@@ -6,15 +6,17 @@ ghost use Rattle.opened_files.specs.Rights.{MayMakeImage, MayOverwrite, MayReadT
 ghost use Rattle.opened_files.specs.declared.files.Older.TheVariants.{Kept, Replaced};
 ghost use Rattle.image_file.specs.paths.Rights.{Look, May};
 
-use crate::image_logs::{is_there, see_one_name};
+use crate::asides::Aside;
+use crate::image_logs::{is_there, see_one_place};
 use crate::refusals::Refusal;
 use command_faults::CommandFault;
 use image_file::{
     DIRECTORY_START, EndedFile, HostFiles, Identity, Locks, OpensFile, SPOILED_DIRECTORY,
-    read_script, regular, regular_at,
+    private_mode, read_script, regular, regular_at,
 };
+use ledger_jobs::metadata_of;
 use shop_log::{LogNames, find_log, forget_log};
-use std::fs::OpenFile;
+use std::fs::{Metadata, OpenFile};
 use std::io;
 
 /// The name under which standard input is read. It is read as it is, since the program may not be allowed to open it
@@ -116,12 +118,17 @@ pub enum Older {
     Kept,
 }
 
-/// The file at a path, which is made or written over; and why it isn't, if no error of the system says that.
+/// The file at a path, which is made or written over; and why it isn't, if no error of the system says that. It is made
+/// under another name, and gets its own when it is whole.
 #[derive(Drop)]
 pub struct AtPath<'a, R: HostFiles> {
     rt: &'a R,
     path: &'a str,
     older: Older,
+    // the file whose people may use one that is made
+    like: Option<Metadata>,
+    // the name that a file that was made has until it is whole
+    aside: Option<Aside<'a, R>>,
     refused: Option<Refusal>,
     // it may be made
     ghost makes: { MayMakeImage R.rights rt.now path.now } by { Prim.hlevel props },
@@ -130,8 +137,9 @@ pub struct AtPath<'a, R: HostFiles> {
 }
 
 impl<'a, R: HostFiles> AtPath<'a, R> {
-    /// The file at this path, which isn't opened yet.
-    pub fn new(rt: &'a R, path: &'a str, older: Older) -> AtPath<'a, R>
+    /// The file at this path, which isn't opened yet. One that is made has the mode and the owner that `like` describes, as far
+    /// as the system allows that.
+    pub fn new(rt: &'a R, path: &'a str, older: Older, like: Option<Metadata>) -> AtPath<'a, R>
         requires makes { MayMakeImage R.rights rt.now path.now }
         requires overwrites { older ≡ Replaced → MayOverwrite R.rights rt.now path.now }
     {
@@ -139,6 +147,8 @@ impl<'a, R: HostFiles> AtPath<'a, R> {
             rt,
             path,
             older,
+            like,
+            aside: None,
             refused: None,
         }
     }
@@ -154,28 +164,51 @@ impl<'a, R: HostFiles> AtPath<'a, R> {
         self.refused = Some(refusal);
         error
     }
+
+    /// The error of a file that can't be made. If what is there is kept, that may be why.
+    fn unmade(&mut self, error: io::Error) -> io::Error {
+        if self.older == Older::Kept && error.kind() == io::ErrorKind::AlreadyExists {
+            return self.refuse(Refusal::Exists, error);
+        }
+        error
+    }
 }
 
-impl<R: HostFiles + AllocGlobal> AtPath<'_, R> {
+impl<F, R> AtPath<'_, R>
+where
+    F: EndedFile + OpenFile + Drop,
+    R: HostFiles<File = F> + AllocGlobal,
+{
+    /// A file that is made under another name, for those people who may use the one that it is like.
+    fn made_aside(&mut self) -> io::Result<F> {
+        let aside = Aside::free(self.rt, self.path)?;
+        let file = match &self.like {
+            Some(like) => {
+                let file = aside.make_file(private_mode(like))?;
+                file.guard_as(like);
+                file
+            }
+            None => aside.make_file(0o666)?,
+        };
+        self.aside = Some(aside);
+        Ok(file)
+    }
+
     /// The file, made where none was. If only a log is there, none is made: the log may be all that is left of a shop.
-    fn made(&mut self, names: &LogNames) -> io::Result<R::File>
+    fn made(&mut self, names: &LogNames) -> io::Result<F>
         requires { R.rights.leads self.old.rt.now self.old.path.now (string_bytes names.now.image) ≡ true }
     {
         if self.older == Older::Kept && is_there(self.rt, names.log())? {
-            let error = io::Error::from(io::ErrorKind::AlreadyExists);
-            return Err(self.refuse(Refusal::Exists, error));
+            return Err(self.unmade(io::ErrorKind::AlreadyExists.into()));
         }
-        match self.rt.make_file(self.path, 0o666) {
-            Err(error)
-                if self.older == Older::Kept && error.kind() == io::ErrorKind::AlreadyExists => {
-                Err(self.refuse(Refusal::Exists, error))
-            }
-            made => made,
+        match self.made_aside() {
+            Ok(file) => Ok(file),
+            Err(error) => Err(self.unmade(error)),
         }
     }
 
     /// The file, opened, or made.
-    fn opened(&mut self, names: &LogNames) -> io::Result<R::File>
+    fn opened(&mut self, names: &LogNames) -> io::Result<F>
         requires { R.rights.leads self.old.rt.now self.old.path.now (string_bytes names.now.image) ≡ true }
     {
         if self.older == Older::Replaced && is_file_at(self.rt, self.path)? {
@@ -190,6 +223,19 @@ where
     F: EndedFile + Locks + OpenFile + Drop,
     R: HostFiles<File = F> + AllocGlobal,
 {
+    /// Takes the file, which was opened or made, for this program alone.
+    fn take(&mut self, file: &mut F) -> io::Result<()> {
+        // another thing may stand there by now
+        regular(OpenFile::metadata(file))?;
+        if let Err(error) = file.lock_alone() {
+            return Err(self.refuse(Refusal::of_lock(&error), io::Error::from(error)));
+        }
+        if let Err(refusal) = see_one_place(self.rt, self.path, file) {
+            return Err(self.refuse(refusal, io::ErrorKind::InvalidInput.into()));
+        }
+        Ok(())
+    }
+
     /// The file, opened or made, which this program has alone; no log stands beside it.
     fn locked(&mut self) -> io::Result<F> {
         let (rt, path) = (self.rt, self.path);
@@ -197,16 +243,17 @@ where
         let names = LogNames::of(rt, rt.alloc(), path)?;
         let log = older_log(rt, path, &names, self.older)?;
         let mut file = self.opened(&names)?;
-        // another thing may stand there by now
-        regular(OpenFile::metadata(&file))?;
-        if let Err(error) = file.lock_alone() {
-            return Err(self.refuse(Refusal::of_lock(&error), io::Error::from(error)));
+        let taken = match self.take(&mut file) {
+            Ok(()) => forget_shop(rt, path, &names, log, &mut file),
+            Err(error) => Err(error),
+        };
+        match taken {
+            Ok(()) => Ok(file),
+            Err(error) => {
+                self.remove_unnamed(&file);
+                Err(error)
+            }
         }
-        if let Err(refusal) = see_one_name(&file) {
-            return Err(self.refuse(refusal, io::ErrorKind::InvalidInput.into()));
-        }
-        forget_shop(rt, path, &names, log, &mut file)?;
-        Ok(file)
     }
 }
 
@@ -226,21 +273,38 @@ where
         }
     }
 
+    // what has no name yet needs none
     fn sync_folder(&mut self) -> io::Result<()> {
+        if self.aside.is_some() {
+            return Ok(());
+        }
         self.rt.sync_folder_of(self.path)
+    }
+
+    fn give_name(&mut self, _file: &F) -> io::Result<()> {
+        let Some(aside) = &self.aside else {
+            return Ok(());
+        };
+        match aside.give_path() {
+            Ok(()) => {
+                self.aside = None;
+                Ok(())
+            }
+            Err(error) => Err(self.unmade(error)),
+        }
+    }
+
+    fn remove_unnamed(&mut self, file: &F) {
+        if let Some(aside) = &self.aside {
+            aside.remove_file(file);
+        }
     }
 }
 
-/// The number of bytes of the regular file at a path. None of standard input, and if the system doesn't say. No file is
-/// opened.
+/// The number of its bytes.
 pub fn size_of<R: HostFiles>(rt: &R, path: &str) -> Option<u64>
     requires { MayLook R.rights rt.now path.now }
 {
-    if path == STANDARD_INPUT {
-        return None;
-    }
-    match regular_at(rt, path) {
-        Ok(found) => Some(found.len()),
-        Err(_) => None,
-    }
+    let found = metadata_of(rt, path)?;
+    Some(found.len())
 }

@@ -3,7 +3,7 @@ ghost use Rattle.std.specs.Prelude.{◌≡◌, IfErr, IfOk, IsNone, false, strin
 ghost use Rattle.opened_files.specs.Ends.{log_refusal as refusal_of};
 ghost use Rattle.opened_files.specs.HostFiles.{HasNoLog, IsUnbegun, IsUnopened, IsUnread, IsUntaken};
 ghost use Rattle.opened_files.specs.Rights.{MayChangeImage, MayReadFile};
-ghost use Rattle.shop_log.specs.life.LogRights.{MayKeepLogOf, log_of};
+ghost use Rattle.shop_log.specs.life.LogRights.{MayKeepLogOf, MayReadLogOf, log_of};
 ghost use Rattle.image_file.specs.paths.Rights.{Look, May, MayRead, MayWrite};
 ghost use Rattle.image_file.specs.paths.Standing.{AreOf, IsMissing};
 
@@ -50,12 +50,51 @@ pub fn see_size<F: OpenFile>(file: &F) -> Result<(), Refusal>
 }
 
 /// Refuses a file that has a second name, by which it would have another log: `TwoNames`.
-pub(crate) fn see_one_name<F: OpenFile>(file: &F) -> Result<(), Refusal>
+fn see_one_name<F: OpenFile>(file: &F) -> Result<(), Refusal>
     ensures { IfErr result IsUntaken }
 {
     let found = told(OpenFile::metadata(file))?;
     if found.nlink() > 1 {
         return Err(Refusal::TwoNames);
+    }
+    Ok(())
+}
+
+/// Refuses the file at a path if it is mounted there by itself: a log beside it wouldn't be beside it elsewhere. `TwoNames`.
+fn see_unmounted<R: HostFiles + AllocGlobal>(rt: &R, path: &str) -> Result<(), Refusal>
+    requires { May R.rights rt.now Look path.now }
+    ensures { IfErr result IsUntaken }
+{
+    if told(rt.is_mounted(rt.alloc(), path))? {
+        return Err(Refusal::TwoNames);
+    }
+    Ok(())
+}
+
+/// Refuses the file at a path, open here, if it has a second name, or is mounted by itself: `TwoNames`.
+pub(crate) fn see_one_place<F, R>(rt: &R, path: &str, file: &F) -> Result<(), Refusal>
+where
+    F: OpenFile + Drop,
+    R: HostFiles<File = F> + AllocGlobal,
+    requires { May R.rights rt.now Look path.now }
+    ensures { IfErr result IsUntaken }
+{
+    see_one_name(file)?;
+    see_unmounted(rt, path)
+}
+
+/// Refuses a symbolic link to nowhere in the place of a log: `Log`. The image's file is locked, so that no log gets the name
+/// between the two looks.
+pub fn see_no_lost_log<R: HostFiles>(rt: &R, names: &LogNames) -> Result<(), Refusal>
+    requires { MayReadLogOf R.rights rt.now (string_bytes names.now.image) }
+    ensures { IfErr result IsUnbegun }
+{
+    match rt.look_at(names.log()) {
+        Err(error) if error.kind() == io::ErrorKind::NotFound => {}
+        _ => return Ok(()),
+    }
+    if told(is_there(rt, names.log()))? {
+        return Err(Refusal::Log);
     }
     Ok(())
 }
@@ -69,11 +108,11 @@ pub(crate) fn is_there<R: HostFiles>(rt: &R, path: &str) -> io::Result<bool>
 }
 
 /// The regular file at a path, opened to be changed, which this program has alone. `InUse` if another program has it;
-/// `TwoNames` if it has a second name.
+/// `TwoNames` if it has a second name, or is mounted by itself.
 pub fn opened_alone<F, R>(rt: &R, path: &str) -> Result<F, Refusal>
 where
     F: Locks + OpenFile + Drop,
-    R: HostFiles<File = F>,
+    R: HostFiles<File = F> + AllocGlobal,
     requires { MayWrite R.rights rt.now path.now }
     ensures owned { IfOk result F.IsOwned }
     ensures shared { IfOk result F.IsShared }
@@ -82,7 +121,7 @@ where
 {
     let mut file = told(opened_to_change(rt, path))?;
     lock_exclusive(&mut file)?;
-    see_one_name(&file)?;
+    see_one_place(rt, path, &file)?;
     Ok(file)
 }
 
@@ -111,6 +150,7 @@ where
     requires log { MayKeepLogOf R.rights rt.now (string_bytes names.now.image) }
     ensures { IfErr result IsUnbegun }
 {
+    see_no_lost_log(rt, names)?;
     let image = told(opened_to_change(rt, path))?;
     let mut folder = told(ImageFolder::new(rt, names, image))?;
     match land_in(rt.alloc(), &mut folder) {
@@ -206,8 +246,8 @@ fn is_overlong(fault: &LogFault) -> bool {
 }
 
 /// The sectors that the log beside the image at a path gives. None if there is no log, or the image has another size.
-/// `Log` if the log gives none; `TwoNames` if it gives them, and the image has a second name. The image's file is locked
-/// for reading: so none is begun while it is read.
+/// `Log` if the log gives none, or is a link to nowhere; `TwoNames` if it gives them, and the image has a second name, or is
+/// mounted by itself. The image's file is locked for reading: so none is begun while it is read.
 pub fn logged_image<F, R>(rt: &R, path: &str, image: &F) -> Result<Option<Vec<[u8; 256]>>, Refusal>
 where
     F: OpenFile + Drop,
@@ -223,9 +263,12 @@ where
     let again = told(opened_to_read(rt, path))?;
     let mut view = ImageView::new(rt, &names, again);
     match view_in(rt.alloc(), &mut view) {
-        Ok(None) => Ok(None),
+        Ok(None) => {
+            see_no_lost_log(rt, &names)?;
+            Ok(None)
+        }
         Ok(Some(shop)) => {
-            see_one_name(image)?;
+            see_one_place(rt, path, image)?;
             Ok(Some(shop))
         }
         Err(fault) if is_overlong(&fault) => Ok(None),

@@ -1,6 +1,7 @@
 //! The files of a job, opened, locked, landed and read; and how a job ends.
 #![tactic(auto)]
 
+mod asides;
 mod endings;
 mod files;
 mod image_logs;
@@ -11,15 +12,16 @@ mod outcomes;
 mod readings;
 mod refusals;
 
+pub use asides::Aside;
 pub use endings::{Ending, end, tell};
 pub use files::{AtPath, Older, STANDARD_INPUT, script_to_play, size_of};
 pub use image_logs::{
     accept_loss, log_refusal, logged_image, opened_alone, opened_and_landed, opened_shared,
-    see_size,
+    see_no_lost_log, see_size,
 };
 pub use locks::{read_owned, read_shared, read_synced};
 pub use losses::{Loss, cut_in, loss_refusal, see_log_away};
 pub use names::Name;
-pub use outcomes::{job_end, over_end, run_end, told};
+pub use outcomes::{job_end, made_end, over_end, run_end, told};
 pub use readings::{image_at, image_of_file};
 pub use refusals::Refusal;

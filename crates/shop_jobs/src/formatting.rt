@@ -29,7 +29,7 @@ where
     requires few { tills ≤ 64 }
     ensures { IsMakingEnd W.contents (codes "FORMATTED\n") out.old out.new result }
 {
-    let mut file = OverwrittenFile::new(AtPath::new(rt, path, older));
+    let mut file = OverwrittenFile::new(AtPath::new(rt, path, older, None));
     let made = format_image(rt.alloc(), tills, &mut file, out);
-    over_end(made, file.opener().refused())
+    over_end(made, file.given_up().refused())
 }

@@ -26,7 +26,7 @@ use image_file::{EndedFile, HostFiles, Locks, Stays, opened_to_change};
 use line_server::BatchSource;
 use opened_files::{
     Loss, Refusal, accept_loss, log_refusal, loss_refusal, opened_alone, read_shared, see_log_away,
-    see_size, told,
+    see_no_lost_log, see_size, told,
 };
 use shop_log::{
     ImageFolder, LiveLog, LogFault, LogFile, LogFolder, LogNames, LogRoom, SystemLog, TouchedDisk,
@@ -48,6 +48,7 @@ where
     requires image { MayWrite R.rights rt.now path.now }
     requires log { MayKeepLogOf R.rights rt.now (string_bytes names.now.image) }
 {
+    see_no_lost_log(rt, names)?;
     let image = told(opened_to_change(rt, path))?;
     Ok(told(ImageFolder::new(rt, names, image))?.tagging())
 }

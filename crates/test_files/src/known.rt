@@ -119,6 +119,10 @@ impl EndedFile for KnownFile<'_> {
     fn sync_whole(&mut self) -> io::Result<()> {
         Ok(())
     }
+
+    fn finish(&mut self) -> io::Result<()> {
+        Ok(())
+    }
 }
 
 impl Alloc for Known<'_> {
@@ -202,5 +206,17 @@ impl<'a> HostFiles for Known<'a> {
 
     fn take_name(&self, _path: &str) -> io::Result<()> {
         failed(ErrorKind::PermissionDenied)
+    }
+
+    fn give_free_name(&self, _from: &str, _to: &str) -> io::Result<()> {
+        failed(ErrorKind::PermissionDenied)
+    }
+
+    fn remove_folder(&self, _path: &str) -> io::Result<()> {
+        failed(ErrorKind::PermissionDenied)
+    }
+
+    fn is_mounted(&self, _alloc: Global, _path: &str) -> io::Result<bool> {
+        Ok(false)
     }
 }

@@ -138,6 +138,11 @@ impl<F: EndedFile> EndedFile for NotedFile<'_, '_, F> {
         self.noted(outcome)
     }
 
+    fn finish(&mut self) -> io::Result<()> {
+        let outcome = self.file.finish();
+        self.noted(outcome)
+    }
+
     fn guard_as(&self, like: &Metadata) {
         self.file.guard_as(like)
     }

@@ -123,6 +123,18 @@ impl<'n, 'a, R: HostFiles> HostFiles for NotedRuntime<'n, 'a, R> {
     fn take_name(&self, path: &str) -> io::Result<()> {
         self.noted(path, self.rt.take_name(path))
     }
+
+    fn give_free_name(&self, from: &str, to: &str) -> io::Result<()> {
+        self.noted(to, self.rt.give_free_name(from, to))
+    }
+
+    fn remove_folder(&self, path: &str) -> io::Result<()> {
+        self.noted(path, self.rt.remove_folder(path))
+    }
+
+    fn is_mounted(&self, alloc: Global, path: &str) -> io::Result<bool> {
+        self.noted(path, self.rt.is_mounted(alloc, path))
+    }
 }
 
 impl<'n, 'a, R: Input> Input for NotedRuntime<'n, 'a, R> {

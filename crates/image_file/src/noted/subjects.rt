@@ -25,9 +25,17 @@ fn is_inside(path: &str, folder: &str) -> bool {
     }
 }
 
+/// Whether a path is that of a word, under which it is made, or leads into the folder that is made so.
+fn is_made_for(path: &str, word: &str) -> bool {
+    match path.strip_prefix(word) {
+        Some(rest) => rest.starts_with(".new"),
+        None => false,
+    }
+}
+
 impl<'a> Subject<'a> {
-    /// What a path is about, among the words of a job: the file of a word, or one inside the folder of a word, one whose
-    /// path begins with a word, otherwise one beside the first word. None if there are no words.
+    /// What a path is about, among the words of a job: the file of a word, or one inside the folder of a word, or what is
+    /// made for a word, one whose path begins with a word, otherwise one beside the first word. None if there are no words.
     pub(crate) fn of(words: &[&'a str], path: &str) -> Option<Subject<'a>> {
         for word in words {
             if *word == path {
@@ -37,6 +45,11 @@ impl<'a> Subject<'a> {
         for word in words {
             if is_inside(path, word) {
                 return Some(Subject::Inside(word));
+            }
+        }
+        for word in words {
+            if is_made_for(path, word) {
+                return Some(Subject::File(word));
             }
         }
         for word in words {

@@ -3,6 +3,7 @@ ghost use Rattle.std.specs.Prelude.{◌≡◌, Bool, IfOk, IsErr, List, ℕ, fal
 ghost use Rattle.image_file.specs.paths.Rights.{Look, Make, May, Read as ToRead, Remove, Replace, Rights, Use, Write as ToWrite};
 ghost use Rattle.image_file.specs.paths.Standing.{AreOf, IsMissing, Stands, Unsaid};
 
+use crate::paths::mounts::is_mount_point;
 use std::alloc::Global;
 use std::fs::{File, Metadata, OpenFile, OpenOptions};
 use std::io::{self, ErrorKind, Read, Seek};
@@ -61,6 +62,23 @@ pub trait HostFiles {
     fn make_file(&self, path: &str, mode: u32) -> io::Result<Self::File>
         requires { May rights self.now Make path.now };
 
+    /// Gives the file or the folder at a path another name, at which nothing may stand: `AlreadyExists`. A host that gives no
+    /// file two names, and each for a folder, first looks whether anything stands there: a file that comes there between the
+    /// look and the call is lost then.
+    fn give_free_name(&self, from: &str, to: &str) -> io::Result<()>
+        requires from { May rights self.now Remove from.now }
+        requires look { May rights self.now Look to.now }
+        requires to { May rights self.now Make to.now };
+
+    /// Takes the name of the empty folder at a path away.
+    fn remove_folder(&self, path: &str) -> io::Result<()>
+        requires { May rights self.now Remove path.now };
+
+    /// Whether the file at a path is mounted there by itself, so that other programs have other files beside it. False if the
+    /// host doesn't say.
+    fn is_mounted(&self, alloc: Global, path: &str) -> io::Result<bool>
+        requires { May rights self.now Look path.now };
+
     /// Makes a folder at a path. `AlreadyExists` if anything stands there.
     fn make_folder(&self, path: &str) -> io::Result<()>
         requires { May rights self.now Make path.now };
@@ -89,6 +107,15 @@ fn copied(alloc: Global, path: &str) -> io::Result<String> {
     let mut copy = String::new(alloc);
     copy.push_str(path)?;
     Ok(copy)
+}
+
+/// Gives what stands at a path another name, at which nothing stood when that was looked at.
+fn rename_free<R: Files>(rt: &R, from: &str, to: &str) -> io::Result<()> {
+    match rt.symlink_metadata(to) {
+        Err(error) if error.kind() == ErrorKind::NotFound => rt.rename(from, to),
+        Err(error) => Err(error),
+        Ok(_) => Err(ErrorKind::AlreadyExists.into()),
+    }
 }
 
 // A runtime of the system keeps no list of rights: all calls are allowed.
@@ -153,5 +180,21 @@ impl<R: Files> HostFiles for R {
 
     fn take_name(&self, path: &str) -> io::Result<()> {
         self.remove_file(path)
+    }
+
+    fn give_free_name(&self, from: &str, to: &str) -> io::Result<()> {
+        match self.hard_link(from, to) {
+            Ok(()) => self.remove_file(from),
+            Err(error) if error.kind() == ErrorKind::AlreadyExists => Err(error),
+            Err(_) => rename_free(self, from, to),
+        }
+    }
+
+    fn remove_folder(&self, path: &str) -> io::Result<()> {
+        self.remove_dir(path)
+    }
+
+    fn is_mounted(&self, alloc: Global, path: &str) -> io::Result<bool> {
+        is_mount_point(self, alloc, path)
     }
 }

@@ -1,15 +1,15 @@
 -- A file in which a sector was written: how long it is, and what came of it.
 use Rattle.std.proofs.Common.{◌≡◌, ◌≤◌, ◌+◌, ◌∙◌, ℕ, List, Option, Some, Result, Ok, Err}
-use Rattle.std.proofs.Common.{add-zero, ap, arith, inl, le_refl, length, min, refl, subst, sym, ⊎_elim}
+use Rattle.std.proofs.Common.{ap, arith, length, refl, subst, sym, ⊎_elim}
 use Rattle.std.specs.Prelude.{None, OnErr, OnOk}
-use Rattle.std.proofs.lemmas.List.{append-nil, length-append, length-drop, length-take, take-append-drop}
+use Rattle.std.proofs.lemmas.List.{length-append, length-drop, length-take}
 use Rattle.std.proofs.lemmas.Option.{none-some}
 use Rattle.d64_image.specs.Images.{IsSector}
 use Rattle.d64_image.specs.Offsets.{offset_of, overwritten}
 use Rattle.d64_image.specs.declared.place.Place.{Place}
 use Rattle.d64_image.proofs.Places.{index_below}
 use Rattle.image_file.specs.Durable.{WritesOver}
-use Rattle.image_file.specs.Lasting.{Lasting, StaysOr, TakesSector, overwritten_in}
+use Rattle.image_file.specs.Lasting.{Lasting, TakesSector, overwritten_in}
 
 -- what holds at an Ok, and what at an error
 pub at_ok : {E : Type 0} (X : Type 0) (r : Result Unit E) (u : Unit) → r ≡ Ok u → OnOk r X → X

@@ -1,7 +1,7 @@
 -- What stands while all but 18/1 is written.
 use Rattle.std.proofs.Common.{◌≡◌, ◌≤◌, ◌<◌, ◌+◌, ◌∙◌, ℕ, List, Some, Result, Err, ap, arith, sym, subst}
 use Rattle.std.proofs.Common.{length, take, drop, ⊎_elim, length-take, length-drop}
-use Rattle.std.specs.Prelude.{◌⊎◌, option_map}
+use Rattle.std.specs.Prelude.{option_map}
 use Rattle.std.proofs.lemmas.Result.{on_ok_weaker}
 use Rattle.image_file.specs.Remains.{Changes, IsBroughtWhole, IsInPart, IsPutInPart}
 use Rattle.image_file.specs.Remains.{Remains, ended_behind, put_in}

@@ -1,5 +1,5 @@
 -- What stands while 18/1 is written, last of all.
-use Rattle.std.proofs.Common.{◌≡◌, ◌≤◌, ◌+◌, ◌++◌, ◌∙◌, ℕ, List, Some, Result, Err, ap, arith, sym}
+use Rattle.std.proofs.Common.{◌≡◌, ◌≤◌, ◌++◌, ◌∙◌, ℕ, List, Some, Result, Err, ap, arith, sym}
 use Rattle.std.proofs.Common.{length, take, drop, length-append, length-take, length-drop}
 use Rattle.std.specs.Prelude.{option_map}
 use Rattle.std.proofs.lemmas.Result.{on_ok_weaker}

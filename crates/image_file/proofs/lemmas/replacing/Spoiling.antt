@@ -1,7 +1,7 @@
 -- What stands while 18/1 is spoiled.
 use Rattle.std.proofs.Common.{◌≡◌, ◌≤◌, ◌<◌, ◌∙◌, ℕ, List, Result, Err, ap, arith, sym}
 use Rattle.std.proofs.Common.{length, ⊎_elim}
-use Rattle.std.specs.Prelude.{◌⊎◌, option_map, slice_index}
+use Rattle.std.specs.Prelude.{option_map, slice_index}
 use Rattle.std.proofs.lemmas.Bool.{cases_lt}
 use Rattle.std.proofs.lemmas.Result.{on_ok_weaker}
 use Rattle.image_file.specs.Remains.{Changes, IsBroughtWhole, IsPutInPart, IsSectorAt}

@@ -14,6 +14,6 @@ returns g c =
     c.in_ok-image.ensures.read c.as_slice.ensures.value (
       c.extract_run-ended.result,
       extract-said c.args.choice c.as_slice.result.now _ _ g.W.Write.contents c.args.out.now
-          c.extract_run-ended.new.out c.extract_run-ended.result c.extract_run-ended.ensures,
+          c.extract_run-ended.new.out c.extract_run-ended.result c.extract_run-ended.ensures.run,
       c.folder_end.ensures,
     )

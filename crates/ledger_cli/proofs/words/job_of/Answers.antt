@@ -14,7 +14,7 @@ use Rattle.ledger_cli.specs.Numbers.{spelled_place}
 use Rattle.ledger_cli.proofs.Pictures.{picturing-met}
 use Rattle.ledger_cli.proofs.Named.{making-met, named-met, new-met, putting-met, records-met, renaming-met}
 use Rattle.ledger_cli.proofs.Named.{storing-met}
-use Rattle.ledger_cli.proofs.Parses.{format-fit, format-met, met-has, met-is, play-fit, play-met}
+use Rattle.ledger_cli.proofs.Parses.{copy-fit, copy-met, format-fit, format-met, met-has, met-is, play-fit, play-met}
 use Rattle.ledger_cli.proofs.Parses.{repair-fit, repair-met}
 use Rattle.ledger_cli.proofs.Views.{checking-met, viewing-met}
 use Rattle.ledger_cli.proofs.words.job_of.Goals as goal
@@ -95,11 +95,17 @@ returns-in-serve c = record {
 }
 
 pub returns-in-copy : goal.returns-in-copy
-returns-in-copy c = record {
-  job = met-has c.parsed_subcommand.result _ c.in-Some.name c.in-Some.found _ _ c.parsed_subcommand.ensures c.in-Some.is c.in-copy.is
-      (c.value_of-image.ensures, c.value_of-in-copy.ensures);
-  fit = tt;
-}
+returns-in-copy c =
+    let rows = rows_of (found_of c.in-Some.found.now) in
+    let is = met-is c.parsed_subcommand.result _ c.in-Some.name c.in-Some.found _ c.parsed_subcommand.ensures c.in-Some.is c.in-copy.is in
+    let found = subcommand_rows_of c.args.matches.now in
+    let logged = is_given (codes "log") rows in
+    record {
+      job = subst (IsJob found) (sym c.copying.ensures)
+          (copy-met found rows c.value_of-image.result c.value_of-in-copy.result logged refl is c.value_of-image.ensures
+          c.value_of-in-copy.ensures);
+      fit = subst IsFit (sym c.copying.ensures) (copy-fit c.value_of-image.result c.value_of-in-copy.result logged);
+    }
 
 pub returns-in-extract : goal.returns-in-extract
 returns-in-extract c = record {

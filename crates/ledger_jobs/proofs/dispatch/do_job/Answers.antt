@@ -32,6 +32,11 @@ returns-in-Copy g c =
     subst (λ (job : Job). IsJobOver g.R.HostFiles.rights g.R.HostFiles.stands g.W.Write.contents c.args.rt.now job
     c.args.out.now c.do_copying.new.out c.do_copying.result) (sym c.in-Copy.is) c.do_copying.ensures
 
+pub returns-in-Salvage : goal.returns-in-Salvage
+returns-in-Salvage g c =
+    subst (λ (job : Job). IsJobOver g.R.HostFiles.rights g.R.HostFiles.stands g.W.Write.contents c.args.rt.now job
+    c.args.out.now c.do_salvaging.new.out c.do_salvaging.result) (sym c.in-Salvage.is) c.do_salvaging.ensures
+
 pub returns-in-Extract : goal.returns-in-Extract
 returns-in-Extract g c =
     subst (λ (job : Job). IsJobOver g.R.HostFiles.rights g.R.HostFiles.stands g.W.Write.contents c.args.rt.now job

@@ -1,0 +1,158 @@
+//! An image of its own, made of a log alone.
+ghost use Rattle.std.specs.Prelude.{◌≡◌, IfErr, IfOk, IfSome, length, take, vec_items};
+ghost use Rattle.image_file.specs.paths.Rights.{MayRead};
+ghost use Rattle.opened_files.specs.HostFiles.{IsUnread, OfWritten};
+ghost use Rattle.image_edits.specs.EditRuns.{IsSalvagedFrom};
+ghost use Rattle.opened_files.specs.Rights.{MayMakeImage};
+ghost use Rattle.image_edits.specs.Salvages.{IsOfLog, IsSalvageRun, IsUnsalvaged, log_bytes, salvage_text as text_of};
+ghost use Rattle.command_faults.specs.declared.faults.CommandFault.TheVariants as faults;
+ghost use Rattle.opened_files.specs.declared.refusals.Refusal.TheVariants as refusals;
+
+use crate::copying::write_copy;
+use command_faults::CommandFault;
+use d64_image::SECTORS;
+use disk_layout::Fault;
+use image_file::{EndedFile, HostFiles, Locks, OverwrittenFile, read_script};
+use ledger_jobs::metadata_of;
+use opened_files::{AtPath, Older, Refusal, log_refusal, made_end, opened_shared, told};
+use shop_log::{Salvaged, salvage};
+use std::alloc::Global;
+use std::fs::OpenFile;
+use std::io::{self, Read, Write};
+
+/// How many bytes a log has.
+const LOG_BYTES: usize = 4_198_400;
+
+/// What is printed of an image that was made of a log. `NoMemory` if there is none for it.
+fn salvage_text(alloc: Global, taken: Salvaged) -> Result<Vec<u8>, Refusal>
+    ensures ok { IfOk result (λ text. text.items ≡ text_of taken) }
+    ensures err { IfErr result (λ refusal. refusal ≡ refusals.Fault faults.NoMemory) }
+{
+    let Salvaged { commits, left } = taken;
+    let mut text = Vec::new(alloc);
+    if write!(text, "COPIED\nCOMMITS {commits}\nLEFT {left}\n").is_err() {
+        return Err(Refusal::Fault(CommandFault::NoMemory));
+    }
+    Ok(text)
+}
+
+/// Memory for an image.
+fn image_room(alloc: Global) -> Result<Vec<[u8; 256]>, Refusal>
+    ensures ok { IfOk result (λ image. length image.items ≡ 683) }
+    ensures err { IfErr result (λ refusal. refusal ≡ refusals.Fault faults.NoMemory) }
+{
+    let mut image = Vec::new(alloc);
+    match image.resize(SECTORS, [0; 256]) {
+        Ok(()) => Ok(image),
+        Err(_) => Err(Refusal::Fault(CommandFault::NoMemory)),
+    }
+}
+
+/// Gives these bytes the length of a log. `NoMemory` if there is none for it.
+fn complete(log: &mut Vec<u8>) -> Result<(), Refusal>
+    ensures ok { IfOk result (λ _. log.new.items ≡ log_bytes log.old.items) }
+    ensures len { IfOk result (λ _. length log.new.items ≡ 4198400) }
+    ensures err { IfErr result (λ refusal. refusal ≡ refusals.Fault faults.NoMemory) }
+{
+    match log.resize(LOG_BYTES, 0) {
+        Ok(()) => Ok(()),
+        Err(_) => Err(Refusal::Fault(CommandFault::NoMemory)),
+    }
+}
+
+/// Puts the image of a log's whole commits over a shop, and returns what is printed of that.
+fn take_commits(
+    alloc: Global,
+    log: &mut Vec<u8>,
+    shop: &mut [[u8; 256]],
+) -> Result<Vec<u8>, Refusal>
+    requires sized { length shop.old ≡ 683 }
+    ensures sized { length shop.new ≡ 683 }
+    ensures ok { IfOk result (λ text. IsOfLog log.old.items (λ image said. (image ≡ shop.new) × (text.items ≡ said))) }
+    ensures err { IfErr result (IsUnsalvaged log.old.items) }
+{
+    complete(log)?;
+    match salvage(log, shop) {
+        Ok(taken) => salvage_text(alloc, taken),
+        Err(fault) => Err(log_refusal(&fault)),
+    }
+}
+
+/// Writes the image of a log's whole commits over all that a file holds, syncs it, and prints `COPIED`, how many commits
+/// these are, the base among them, and how many blocks were left out after them. `log` has the log's bytes; zeros stand
+/// for those that it hasn't, and more aren't read. If power goes on the way, the file has what it could have before, or is
+/// no sound disk's, or has the image.
+///
+/// `Log`: the first commit isn't whole, and nothing was done; nor at `NoMemory`. `File` if the file failed, which then has
+/// a part of the image, and nothing is printed. `File` also if `out` failed, which then has a prefix of what is printed.
+pub fn salvage_run<F: EndedFile, W: Write>(
+    alloc: Global,
+    mut log: Vec<u8>,
+    file: &mut F,
+    out: &mut W,
+) -> Result<(), Refusal>
+    ensures { IsSalvageRun F.remains W.contents (vec_items log) file.old file.new out.old out.new result }
+{
+    let mut image = match image_room(alloc) {
+        Ok(image) => image,
+        Err(refusal) => return Err(refusal),
+    };
+    let text = match take_commits(alloc, &mut log, image.as_mut_slice()) {
+        Ok(text) => text,
+        Err(refusal) => return Err(refusal),
+    };
+    match write_copy(image.as_slice().as_flattened(), text.as_slice(), file, out) {
+        Ok(()) => Ok(()),
+        Err(fault) => Err(Refusal::Fault(fault)),
+    }
+}
+
+/// The bytes that a reader has, up to as many as a log has.
+fn read_log<R: Read + Drop>(alloc: Global, reader: R) -> io::Result<Vec<u8>>
+    ensures { IfOk result (λ bytes. IfSome (R.remaining reader) (λ all. vec_items bytes ≡ take 4198400 all)) }
+{
+    read_script(alloc, reader.take(LOG_BYTES as u64), LOG_BYTES + 1)
+}
+
+/// The bytes of a log's file, up to as many as a log has.
+fn read_log_file<F: Locks + Drop>(alloc: Global, file: F) -> io::Result<Vec<u8>>
+    ensures { IfOk result (λ bytes. IfSome (F.unread file) (λ all. vec_items bytes ≡ take 4198400 all)) }
+{
+    read_log(alloc, file)
+}
+
+/// The same of the log at a path, which is opened and locked with others that read it.
+fn log_at<F, R>(rt: &R, path: &str) -> Result<Vec<u8>, Refusal>
+where
+    F: Locks + Drop,
+    R: HostFiles<File = F> + AllocGlobal,
+    requires { MayRead R.rights rt.now path.now }
+    ensures read { OfWritten R.stands rt.now path.now (λ all. IfOk result (λ log. vec_items log ≡ take 4198400 all)) }
+    ensures err { IfErr result IsUnread }
+{
+    let file = opened_shared(rt, path)?;
+    told(read_log_file(rt.alloc(), file))
+}
+
+/// Copies the image of the whole commits of the log at a path to a file at another path, at which there must be none. The
+/// log is only read.
+pub fn do_salvaging<F, R, W>(
+    rt: &R,
+    path: &str,
+    copy: &str,
+    out: &mut W,
+) -> Result<Option<Fault>, Refusal>
+where
+    F: EndedFile + Read + Locks + OpenFile + Drop,
+    R: HostFiles<File = F> + AllocGlobal,
+    W: Write,
+    requires log { MayRead R.rights rt.now path.now }
+    requires copy { MayMakeImage R.rights rt.now copy.now }
+    ensures { IsSalvagedFrom R.stands W.contents rt.now path.now out.old out.new result }
+{
+    let log = log_at(rt, path)?;
+    let like = metadata_of(rt, path);
+    let mut file = OverwrittenFile::new(AtPath::new(rt, copy, Older::Kept, like));
+    let ended = salvage_run(rt.alloc(), log, &mut file, out);
+    made_end(ended, file.given_up().refused())
+}
