@@ -13,8 +13,9 @@ use command_faults::CommandFault;
 use d64_image::SECTORS;
 use disk_layout::Fault;
 use image_file::{EndedFile, HostFiles, Locks, OverwrittenFile, read_script};
-use ledger_jobs::metadata_of;
-use opened_files::{AtPath, Older, Refusal, log_refusal, made_end, opened_shared, told};
+use opened_files::{
+    AtPath, Older, Refusal, log_refusal, made_end, metadata_of, opened_shared, told,
+};
 use shop_log::{Salvaged, salvage};
 use std::alloc::Global;
 use std::fs::OpenFile;

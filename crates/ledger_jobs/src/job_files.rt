@@ -5,9 +5,7 @@ ghost use Rattle.ledger_jobs.specs.JobRights as specs;
 use crate::jobs::Job;
 use arrayvec::ArrayVec;
 use image_edits::Edit;
-use image_file::{HostFiles, regular_at};
 use opened_files::STANDARD_INPUT;
-use std::fs::Metadata;
 
 /// The file that a job reads or writes first. None of a job over several images.
 pub(crate) fn first_file<'a>(job: &Job<'a>) -> Option<&'a str>
@@ -77,15 +75,4 @@ pub fn files_of<'a>(job: &Job<'a>) -> ArrayVec<&'a str, 2> {
         _ => {}
     }
     files
-}
-
-/// What the system says of the regular file at a path. None of standard input, and if the system doesn't say. No file is
-/// opened.
-pub fn metadata_of<R: HostFiles>(rt: &R, path: &str) -> Option<Metadata>
-    requires { MayLook R.rights rt.now path.now }
-{
-    if path == STANDARD_INPUT {
-        return None;
-    }
-    regular_at(rt, path).ok()
 }

@@ -15,5 +15,5 @@ pub use announcements::{announce, tell_cut};
 pub use dispatch::do_job;
 pub use explanations::explain;
 pub use image_file::ClosedStreams;
-pub use job_files::{files_of, metadata_of};
+pub use job_files::files_of;
 pub use jobs::Job;

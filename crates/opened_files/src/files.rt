@@ -14,7 +14,6 @@ use image_file::{
     DIRECTORY_START, EndedFile, HostFiles, Identity, Locks, OpensFile, SPOILED_DIRECTORY,
     private_mode, read_script, regular, regular_at,
 };
-use ledger_jobs::metadata_of;
 use shop_log::{LogNames, find_log, forget_log};
 use std::fs::{Metadata, OpenFile};
 use std::io;
@@ -299,6 +298,17 @@ where
             aside.remove_file(file);
         }
     }
+}
+
+/// What the system says of the regular file at a path. None of standard input, and if the system doesn't say. No file is
+/// opened.
+pub fn metadata_of<R: HostFiles>(rt: &R, path: &str) -> Option<Metadata>
+    requires { MayLook R.rights rt.now path.now }
+{
+    if path == STANDARD_INPUT {
+        return None;
+    }
+    regular_at(rt, path).ok()
 }
 
 /// The number of its bytes.
