@@ -16,7 +16,7 @@ LONGEST = 30
 WORD = r"[A-Za-z_]\w*"
 PAGES = ("README.md", "docs/PROOF.md", "docs/MAP.md", "docs/EMBED.md", "docs/LOG.md", "docs/POWER_CUTS.md", "crates/*/README.md")
 # names in backticks of the kit, of its verdict, or of other programs
-OTHERS = {"HANDLES", "grep", "itoa", "native", "search", "statements", "thiserror"}
+OTHERS = {"HANDLES", "LEFT", "grep", "incremental", "itoa", "native", "search", "statements", "thiserror"}
 
 
 def record_fields():
