@@ -49,7 +49,7 @@ till its last two requests as TILL and PRIOR.
 
 Exit status:
   0  the shop was printed
-  1  the image isn't a shop, or LOG
+  1  the image isn't a shop, or LOG, LOG AWAY
   3  FILE, NO MEMORY, IN USE
 
 Example: ledger show shop.d64",
@@ -119,8 +119,8 @@ they changed is in IMAGE-log until the input ends; other commands read it there.
 
 Exit status:
   0  the input ended
-  1  the image isn't a shop, a file of the disk has lost its end (SHORT), LOG:
-     nothing was done
+  1  the image isn't a shop, a file of the disk has lost its end (SHORT), LOG,
+     LOG AWAY: nothing was done
   3  FILE, NO MEMORY, IN USE, DEVICE (also if IMAGE no longer names the file
      that is served)
 
