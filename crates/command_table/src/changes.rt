@@ -58,7 +58,7 @@ Exit status:
   0  the file was made
   1  the disk isn't clean (LAYOUT and a fault: repair mends MAPWRONG and
      COUNTWRONG, repair --sides also BADSIDE, nothing else), SHORT,
-     IMAGE SIZE, LOG, FILE EXISTS, DISK FULL: nothing was done
+     IMAGE SIZE, LOG, LOG AWAY, FILE EXISTS, DISK FULL: nothing was done
   2  NAME, LENGTH
   3  FILE, NO MEMORY, IN USE, DEVICE
 
@@ -88,7 +88,8 @@ Exit status:
   0  the records were stored
   1  the disk isn't clean (LAYOUT and a fault: repair mends MAPWRONG and
      COUNTWRONG, repair --sides also BADSIDE, nothing else), SHORT,
-     IMAGE SIZE, LOG, NO FILE, RECORDS LINE n, DISK FULL: nothing was done
+     IMAGE SIZE, LOG, LOG AWAY, NO FILE, RECORDS LINE n, DISK FULL:
+     nothing was done
   2  NAME, POSITIONS, FLAGS
   3  FILE, NO MEMORY, IN USE, DEVICE
 
@@ -131,7 +132,7 @@ Exit status:
   0  the file is on the disk
   1  the disk isn't clean (LAYOUT and a fault: repair mends MAPWRONG and
      COUNTWRONG, repair --sides also BADSIDE, nothing else), SHORT,
-     IMAGE SIZE, LOG, FILE EXISTS, DISK FULL: nothing was done
+     IMAGE SIZE, LOG, LOG AWAY, FILE EXISTS, DISK FULL: nothing was done
   2  NAME, TYPE
   3  FILE, NO MEMORY, IN USE, DEVICE
 
@@ -165,7 +166,7 @@ It renames the first file that has the name OLD, and prints RENAMED.
 Exit status:
   0  the file was renamed
   1  a file or the directory is damaged (LAYOUT and a fault: repair --sides
-     mends BADSIDE, nothing else), SHORT, IMAGE SIZE, LOG, NO FILE,
+     mends BADSIDE, nothing else), SHORT, IMAGE SIZE, LOG, LOG AWAY, NO FILE,
      FILE EXISTS (NEW), SHOP FILE: nothing was done
   2  NAME
   3  FILE, NO MEMORY, IN USE, DEVICE
@@ -185,7 +186,7 @@ Exit status:
   0  the file was deleted
   1  the disk isn't clean (LAYOUT and a fault: repair mends MAPWRONG and
      COUNTWRONG, repair --sides also BADSIDE, nothing else), SHORT,
-     IMAGE SIZE, LOG, NO FILE, LOCKED, SHOP FILE: nothing was done
+     IMAGE SIZE, LOG, LOG AWAY, NO FILE, LOCKED, SHOP FILE: nothing was done
   2  NAME
   3  FILE, NO MEMORY, IN USE, DEVICE
 

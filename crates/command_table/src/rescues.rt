@@ -136,8 +136,8 @@ sectors that disagree with their file's chain, and prints MENDED for each.
 
 Exit status:
   0  the disk is clean
-  1  KEPT; or the disk is refused (LAYOUT, SHORT, GEOS, FORMAT, IMAGE SIZE, LOG)
-     and untouched
+  1  KEPT; or the disk is refused (LAYOUT, SHORT, GEOS, FORMAT, IMAGE SIZE, LOG,
+     LOG AWAY) and untouched
   3  FILE, NO MEMORY, IN USE, DEVICE
 
 Example: ledger repair --dry-run old.d64",

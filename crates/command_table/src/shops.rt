@@ -49,7 +49,7 @@ for each till its last two requests as TILL and PRIOR.
 
 Exit status:
   0  the shop was printed
-  1  the image isn't a shop, or LOG
+  1  the image isn't a shop, or LOG, LOG AWAY
   3  FILE, NO MEMORY, IN USE
 
 Example: ledger show shop.d64",
@@ -120,8 +120,8 @@ there.
 
 Exit status:
   0  the input ended
-  1  the image isn't a shop, a file of the disk has lost its end (SHORT), LOG:
-     nothing was done
+  1  the image isn't a shop, a file of the disk has lost its end (SHORT), LOG,
+     LOG AWAY: nothing was done
   3  FILE, NO MEMORY, IN USE, DEVICE (also if IMAGE no longer names the file
      that is served)
 
