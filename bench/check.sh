@@ -1,5 +1,6 @@
 #!/bin/bash
-# Times `check` on a full disk, proved and in plain Rust, and prints the ratio:
+# Times `check` on a full disk, proved and in plain Rust, and prints the ratio: of the check alone, and then of the whole process with
+# the kernel's time:
 #   bench/check.sh [ROUNDS] [RUNS]
 source "$(dirname "$0")/common.sh"
 rounds="${1:-100000}"
@@ -46,3 +47,26 @@ run_proved() {
 }
 
 print_ratio "$rounds" 1e6 "us a check"
+
+proved="$("$top/tools/program" ledger)" || stop "there is no program of ledger"
+
+# the processor seconds, the kernel's too
+seconds_of() {
+    local TIMEFORMAT="%U %S"
+    { time "$@" >/dev/null; } 2>&1 | awk '{ print $1 + $2 }'
+}
+
+run_plain() {
+    for _ in $(seq 100); do
+        "$plain" tell "$work/full.d64"
+    done
+}
+
+run_proved() {
+    for _ in $(seq 100); do
+        "$proved" check "$work/full.d64"
+    done
+}
+
+echo -n "as a process: "
+print_ratio 100 1000 "ms a run"
