@@ -87,7 +87,7 @@ impl<'a, R: HostFiles + AllocGlobal> FilledFolder<'a, R> {
     fn file(&self, name: &[u8]) -> io::Result<Inside<'a, R>>
         requires { StaysInside name.now }
     {
-        let rt = self.aside.rt;
+        let rt = self.aside.runtime();
         let path = path_in(rt.alloc(), self.aside.name(), name)?;
         Ok(Inside { rt, path })
     }

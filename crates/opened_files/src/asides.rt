@@ -52,7 +52,7 @@ impl<'a, R: HostFiles + AllocGlobal> Aside<'a, R> {
 
     /// The first name that is free, for what gets this path. `AlreadyExists` if ten are taken, or if anything stands at the
     /// path.
-    pub(crate) fn free(rt: &'a R, path: &'a str) -> io::Result<Aside<'a, R>>
+    pub fn free(rt: &'a R, path: &'a str) -> io::Result<Aside<'a, R>>
         requires { MayMakeNew R.rights rt.now path.now }
         ensures { IfOk result (λ aside. (aside.rt.now ≡ rt.now) × (aside.path.now ≡ path.now)) }
     {
@@ -69,9 +69,16 @@ impl<'a, R: HostFiles + AllocGlobal> Aside<'a, R> {
     }
 }
 
-impl<R: HostFiles> Aside<'_, R> {
+impl<'a, R: HostFiles> Aside<'a, R> {
+    /// The runtime.
+    pub fn runtime(&self) -> &'a R
+        ensures { result.now ≡ self.now.rt.now }
+    {
+        self.rt
+    }
+
     /// The name.
-    pub(crate) fn name(&self) -> &str
+    pub fn name(&self) -> &str
         ensures { result.now ≡ aside_of self.now.path.now self.now.end.now }
     {
         self.name.as_str()
@@ -83,17 +90,17 @@ impl<R: HostFiles> Aside<'_, R> {
     }
 
     /// Makes a folder of this name.
-    pub(crate) fn make_folder(&self) -> io::Result<()> {
+    pub fn make_folder(&self) -> io::Result<()> {
         self.rt.make_folder(self.name.as_str())
     }
 
     /// Takes the name of the folder away, if that is empty. At an error it stays.
-    pub(crate) fn remove_folder(&self) {
+    pub fn remove_folder(&self) {
         let _ = self.rt.remove_folder(self.name.as_str());
     }
 
     /// Gives what has the name its own path, at which nothing may stand: `AlreadyExists`; and syncs that.
-    pub(crate) fn give_path(&self) -> io::Result<()> {
+    pub fn give_path(&self) -> io::Result<()> {
         self.rt.give_free_name(self.name.as_str(), self.path)?;
         self.rt.sync_folder_of(self.path)
     }
