@@ -1,5 +1,5 @@
 -- What comes of a look at an image: what it prints, and why it doesn't. All of it is our own.
-use Rattle.std.specs.Prelude.{◌≡◌, ℕ, List, None, Option, Some, Result, Ok, Err, length}
+use Rattle.std.specs.Prelude.{◌⊎◌, ◌≡◌, ℕ, List, None, Option, Some, Result, Ok, Err, length}
 use Rattle.std.specs.Io.KnownBytes.{Appends}
 use Rattle.d64_image.specs.Memory.{sectors_in}
 use Rattle.d64_image.specs.declared.place.Place.{Place}
