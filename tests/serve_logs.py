@@ -104,7 +104,8 @@ class Logs:
         for line in self.lines(count):
             self.ask(served, [line])
         served.kill()
-        want(self.image.read_bytes() == before, "the image was written though its log wasn't landed")
+        tagged = before[:91_640] + b"LOG AWAY" + before[91_648:]
+        want(self.image.read_bytes() == tagged, "the image isn't as it was, with its tag")
         want(self.log.stat().st_size == LOG_BYTES, "the log hasn't its length")
 
     # --- beside a service
@@ -220,7 +221,7 @@ class Logs:
             want(self.files() == held, f"{word} beside a log that stands alone has changed a file")
 
     def two_names(self):
-        """An image with a second name: TWO NAMES, and nothing is changed; without a log it is read by either."""
+        """An image with a second name: TWO NAMES, and nothing is changed; by the name without a log, LOG AWAY."""
         self.killed()
         other = self.folder / "other.d64"
         os.link(self.image, other)
@@ -234,7 +235,7 @@ class Logs:
             got = run(self.program, *words)
             want(got == (1, [], "TWO NAMES"), f"{words[0]} by the second name: {got}")
         want(self.files() == held, "a word has changed a file by its second name")
-        sure(self.program, "show", other)
+        want(run(self.program, "show", other) == (1, [], "LOG AWAY"), "by the name without a log the image is shown")
         other.unlink()
         sure(self.program, "play", self.image, "/dev/null")
 
@@ -315,8 +316,8 @@ class Logs:
         want(served.finish() == (0, [], ""), "the end isn't quiet")
         steps = list(steps_of(calls.read_text(), self.folder))
         wanted = ["lock image", "sync image", "sync folder", "make new", "sync new", "write new", "sync new", "write new", "sync new", "sync folder",
-                  "rename", "sync folder", "share image", "write log", "sync log", "reply", "write log", "sync log", "reply", "reply",
-                  "sync image", "sync folder", "write log", "sync log", "write image", "sync image", "remove log", "sync folder"]
+                  "rename", "sync folder", "write image", "sync image", "share image", "write log", "sync log", "reply", "write log", "sync log", "reply", "reply",
+                  "sync image", "sync folder", "write log", "sync log", *["write image", "sync image"] * 2, "remove log", "sync folder"]
         want(steps == wanted, f"the calls are {steps}")
 
 

@@ -86,10 +86,9 @@ goes beyond the next position is refused. Otherwise a line has one column.
 
 Exit status:
   0  the records were stored
-  1  the disk isn't clean (LAYOUT and a fault: repair mends MAPWRONG and
-     COUNTWRONG, repair --sides also BADSIDE, nothing else), SHORT,
-     IMAGE SIZE, LOG, LOG AWAY, NO FILE, RECORDS LINE n, DISK FULL:
-     nothing was done
+  1  the disk isn't clean (LAYOUT: repair mends MAPWRONG and COUNTWRONG,
+     repair --sides also BADSIDE, nothing else), SHORT, IMAGE SIZE, LOG,
+     LOG AWAY, NO FILE, RECORDS LINE n, DISK FULL: nothing was done
   2  NAME, POSITIONS, FLAGS
   3  FILE, NO MEMORY, IN USE, DEVICE
 

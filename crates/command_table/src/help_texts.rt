@@ -15,8 +15,8 @@ Exit status:
      another program has the image (IN USE)
 
 While IMAGE-log stands beside IMAGE, the shop is what the log says, and each
-command reads it there. LOG with status 1: the log is of another image. LOG AWAY: it isn't
-there, and IMAGE is older.
+command reads it there. LOG with status 1: the log is of another image.
+LOG AWAY: it isn't there.
 If a command fails, standard error has one line. On a terminal, or with
 --explain, a second line names the file or says what to do.
 
