@@ -1,9 +1,9 @@
 //! All files of an image, taken out to a folder that is new.
-ghost use Rattle.std.specs.Prelude.{◌≡◌, IfErr, IsErr, IsOk, OnOk};
+ghost use Rattle.std.specs.Prelude.{◌≡◌, ◌++◌, IfErr, IfOk, IfSome, IsErr, IsOk, OnOk, codes, true};
 ghost use Rattle.command_faults.specs.declared.faults.CommandFault.TheVariants as faults;
 ghost use Rattle.image_looks.specs.Extracts.{IsExtractEnd, IsExtractTold, IsFolderEnd, refusal_found, refusal_of};
 ghost use Rattle.image_looks.specs.LookRuns.{IsExtractedFrom};
-ghost use Rattle.opened_files.specs.Rights.{MayFill, MayReadImage};
+ghost use Rattle.opened_files.specs.Rights.{MayFill, MayFillAt, MayReadImage};
 
 use crate::new_folders::{KeptFolder, SystemFolder};
 use command_faults::CommandFault;
@@ -11,11 +11,11 @@ use d64_image::Place;
 use disk_layout::Fault;
 use image_file::{EndedFile, HostFiles, Locks};
 use keeper_commands::{Choice, extract_image};
-use opened_files::{Refusal, cut_in, image_at, run_end};
+use opened_files::{Refusal, cut_in, image_at, run_end, told};
 use shop_commands::put_whole;
 use std::alloc::Global;
 use std::fs::OpenFile;
-use std::io::{Read, Write};
+use std::io::{self, Read, Write};
 
 /// Why files that were all made aren't whole: their first fault, or that a file is cut short there.
 fn found_refusal(found: Option<Fault>, cut: Option<Place>) -> Option<Refusal>
@@ -109,7 +109,7 @@ fn folder_end(
 
 /// Makes the chosen files of the image at a path, as its shop is now, in a folder at another path, at which there must be
 /// nothing.
-pub fn do_extracting<F, R, W>(
+fn extract_to<F, R, W>(
     rt: &R,
     choice: Choice,
     path: &str,
@@ -128,4 +128,49 @@ where
     let mut files = SystemFolder::new(rt, folder);
     let ended = extract_run(rt.alloc(), choice, image.as_slice(), &mut files, out);
     folder_end(ended, files.given_up())
+}
+
+/// Whether a path is this one with a slash after it.
+fn is_with_slash(alloc: Global, front: &str, path: &str) -> io::Result<bool>
+    ensures { IfOk result (λ is. is ≡ true → path.now ≡ front.now ++ codes "/") }
+{
+    let mut whole = String::new(alloc);
+    whole.push_str(front)?;
+    whole.push_str("/")?;
+    Ok(whole.as_str() == path)
+}
+
+/// The path without the slash at its end, if it has one.
+fn slashless(alloc: Global, path: &str) -> io::Result<Option<&str>>
+    ensures { IfOk result (λ front. IfSome front (λ front. path.now ≡ front.now ++ codes "/")) }
+{
+    let Some(front) = path.strip_suffix('/') else {
+        return Ok(None);
+    };
+    if is_with_slash(alloc, front, path)? {
+        return Ok(Some(front));
+    }
+    Ok(None)
+}
+
+/// The same of a folder whose path may end with a slash.
+pub fn do_extracting<F, R, W>(
+    rt: &R,
+    choice: Choice,
+    path: &str,
+    folder: &str,
+    out: &mut W,
+) -> Result<Option<Fault>, Refusal>
+where
+    F: EndedFile + Read + Locks + OpenFile + Drop,
+    R: HostFiles<File = F> + Input + AllocGlobal,
+    W: Write,
+    requires image { MayReadImage R.rights rt.now path.now }
+    requires folder { MayFillAt R.rights rt.now folder.now }
+    ensures { IsExtractedFrom R.rights R.stands W.contents rt.now choice path.now out.old out.new result }
+{
+    match told(slashless(rt.alloc(), folder))? {
+        Some(front) => extract_to(rt, choice, path, front, out),
+        None => extract_to(rt, choice, path, folder, out),
+    }
 }

@@ -4,7 +4,7 @@ use Rattle.ledger_jobs.specs.declared.jobs.Job.{Job}
 use Rattle.ledger_jobs.specs.declared.jobs.Job.TheVariants as jobs
 use Rattle.image_file.specs.paths.Rights.{MayRead, Rights}
 use Rattle.image_edits.specs.EditRights.{MayEdit, MayReadSource}
-use Rattle.opened_files.specs.Rights.{MayReadImage, MayReadText, MayLook, MayChangeImage, MayMakeImage, MayOverwrite, MayFill}
+use Rattle.opened_files.specs.Rights.{MayReadImage, MayReadText, MayLook, MayChangeImage, MayMakeImage, MayOverwrite, MayFillAt}
 
 -- the file that a job reads or writes first; none of a job over several images
 abbrev pub first_file : Job → Option (List ℕ)
@@ -38,7 +38,7 @@ module _ {H : Type 0} (rights : Rights H) (host : H) where
   MayDo (jobs.Serve image loss) = MayChangeImage rights host image.now
   MayDo (jobs.Copy image copy) = MayReadImage rights host image.now × MayMakeImage rights host copy.now
   MayDo (jobs.Salvage log copy) = MayRead rights host log.now × MayMakeImage rights host copy.now
-  MayDo (jobs.Extract choice image folder) = MayReadImage rights host image.now × MayFill rights host folder.now
+  MayDo (jobs.Extract choice image folder) = MayReadImage rights host image.now × MayFillAt folder.now
   -- `do_trim` does that job
   MayDo (jobs.Trim image) = ⊤
   MayDo (jobs.Sheet images) = All (λ image. MayReadImage rights host image.now) images.items

@@ -1,5 +1,5 @@
 -- What a job may do with the files that its words name, and with the logs beside them. Our own.
-use Rattle.std.specs.Prelude.{◌≢◌, ℕ, List, ◌++◌, codes}
+use Rattle.std.specs.Prelude.{◌≡◌, ◌≢◌, ℕ, List, ◌++◌, codes}
 use Rattle.keeper_commands.specs.rescue.Folders.{StaysInside}
 use Rattle.shop_log.specs.life.LogRights.{MayForgetLog, MayKeepLog, MayReadLog}
 use Rattle.image_file.specs.paths.Rights.{Look, Make, May, MayRead, MayWrite, Read, Remove, Rights, Write}
@@ -57,3 +57,7 @@ module _ {H : Type 0} (rights : Rights H) (host : H) where
   abbrev pub MayFill : List ℕ → Type 0
   MayFill folder = MayMakeNew folder
       × ((end name : List ℕ) → StaysInside name → MayTry (path_in (aside_of folder end) name))
+
+  -- the same of a path that may have a slash at its end
+  abbrev pub MayFillAt : List ℕ → Type 0
+  MayFillAt path = MayFill path × ((folder : List ℕ) → path ≡ folder ++ codes "/" → MayFill folder)

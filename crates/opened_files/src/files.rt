@@ -229,10 +229,14 @@ where
         if let Err(error) = file.lock_alone() {
             return Err(self.refuse(Refusal::of_lock(&error), io::Error::from(error)));
         }
-        if let Err(refusal) = see_one_place(self.rt, self.path, file) {
-            return Err(self.refuse(refusal, io::ErrorKind::InvalidInput.into()));
+        // one that was made has one name, and nothing is mounted there
+        if self.aside.is_some() {
+            return Ok(());
         }
-        Ok(())
+        match see_one_place(self.rt, self.path, file) {
+            Ok(()) => Ok(()),
+            Err(refusal) => Err(self.refuse(refusal, io::ErrorKind::InvalidInput.into())),
+        }
     }
 
     /// The file, opened or made, which this program has alone; no log stands beside it.

@@ -3,7 +3,7 @@ use Rattle.std.specs.Prelude.{vec_items}
 use Rattle.image_looks.specs.Extracts.{IsExtractedTo}
 use Rattle.image_looks.proofs.ExtractSaid.{extract-said}
 use Rattle.opened_files.proofs.HostFiles.{over-image}
-use Rattle.image_looks.proofs.extracting.do_extracting.Goals as goal
+use Rattle.image_looks.proofs.extracting.extract_to.Goals as goal
 
 pub returns : goal.returns
 returns g c =
