@@ -3,6 +3,7 @@ ghost use Rattle.std.specs.Prelude.{◌≡◌, ◌++◌, IfErr, IfOk, IfSome, Is
 ghost use Rattle.command_faults.specs.declared.faults.CommandFault.TheVariants as faults;
 ghost use Rattle.image_looks.specs.Extracts.{IsExtractEnd, IsExtractTold, IsFolderEnd, refusal_found, refusal_of};
 ghost use Rattle.image_looks.specs.LookRuns.{IsExtractedFrom};
+ghost use Rattle.opened_files.specs.HostFiles.{IsUnbegun};
 ghost use Rattle.opened_files.specs.Rights.{MayFill, MayFillAt, MayReadImage};
 
 use crate::new_folders::{KeptFolder, SystemFolder};
@@ -153,6 +154,14 @@ fn slashless(alloc: Global, path: &str) -> io::Result<Option<&str>>
     Ok(None)
 }
 
+/// The same, or why a job isn't begun that needs it: `NoMemory`.
+fn front_of(alloc: Global, path: &str) -> Result<Option<&str>, Refusal>
+    ensures ok { IfOk result (λ front. IfSome front (λ front. path.now ≡ front.now ++ codes "/")) }
+    ensures err { IfErr result IsUnbegun }
+{
+    told(slashless(alloc, path))
+}
+
 /// The same of a folder whose path may end with a slash.
 pub fn do_extracting<F, R, W>(
     rt: &R,
@@ -169,7 +178,7 @@ where
     requires folder { MayFillAt R.rights rt.now folder.now }
     ensures { IsExtractedFrom R.rights R.stands W.contents rt.now choice path.now out.old out.new result }
 {
-    match told(slashless(rt.alloc(), folder))? {
+    match front_of(rt.alloc(), folder)? {
         Some(front) => extract_to(rt, choice, path, front, out),
         None => extract_to(rt, choice, path, folder, out),
     }
