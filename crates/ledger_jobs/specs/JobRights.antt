@@ -38,7 +38,7 @@ module _ {H : Type 0} (rights : Rights H) (host : H) where
   MayDo (jobs.Serve image loss) = MayChangeImage rights host image.now
   MayDo (jobs.Copy image copy) = MayReadImage rights host image.now × MayMakeImage rights host copy.now
   MayDo (jobs.Salvage log copy) = MayRead rights host log.now × MayMakeImage rights host copy.now
-  MayDo (jobs.Extract choice image folder) = MayReadImage rights host image.now × MayFillAt folder.now
+  MayDo (jobs.Extract choice image folder) = MayReadImage rights host image.now × MayFillAt rights host folder.now
   -- `do_trim` does that job
   MayDo (jobs.Trim image) = ⊤
   MayDo (jobs.Sheet images) = All (λ image. MayReadImage rights host image.now) images.items
