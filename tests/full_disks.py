@@ -127,7 +127,7 @@ class Trial:
         new = disk.folder / "new"
         for words in (["copy", image, new], ["format", "--new", new, "--tills", 4], ["new", new, "--name", "NEW", "--id", "01"],
                       ["extract", image, new]):
-            for room in (0, 1, 2, 7):
+            for room in (0, 1, 2) if words[0] == "extract" else (0, 1, 2, 7):
                 disk.fill()
                 os.truncate(disk.folder / "filler", (disk.folder / "filler").stat().st_size - room * PAGE)
                 status, out, err = run(self.program, *words)
