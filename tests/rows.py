@@ -25,7 +25,7 @@ TABLES = Path(__file__).resolve().parent / "rows"
 # Whether the output and standard error are terminals.
 RUNS = {b"$": (False, False), b"watched": (False, False), b"full": (False, False), b"person": (True, True), b"waiting": (False, True)}
 NOTHING = {b"prints": b"", b"tells": b"", b"ends": b"0", b"makes": b"0", b"logged": b"no log", b"written": b"as it was", b"others": b""}
-LEFT = {*NOTHING, b"found", b"size", b"leaves", b"has", b"sums", b"writes", b"syncs", b"folder-syncs", b"reads-behind"} - {b"others"}
+LEFT = {*NOTHING, b"found", b"size", b"leaves", b"has", b"sums", b"writes", b"syncs", b"folder-syncs", b"reads-behind", b"copied"} - {b"others"}
 PATHS = {b"image": "a.d64", b"script": "s.txt", b"log": "a.d64-log", b"input": "../input"}
 SHOWN = 300  # bytes of an output that differs
 DROP_OF_BOUNDS, RIGHT_TO_ANY_FILE = 24, 1  # prctl(2), capabilities(7)
@@ -139,6 +139,10 @@ class Part:
             self.came[word] = b"%d" % len(image) if word == b"size" else rest if is_so else b"not so"
         if word == b"leaves":
             self.wanted[b"written"] = self.came[b"written"]
+        if word == b"copied":
+            copy, self.wanted[b"others"] = self.folder / "b.d64", b"b.d64"
+            same = copy.exists() and copy.read_bytes() == (self.folder / PATHS[b"image"]).read_bytes()
+            self.came[word] = b"" if same else b"not so"
 
     def judge(self):
         """Counts the last run, if there is one that isn't counted."""
