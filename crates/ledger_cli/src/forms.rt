@@ -12,12 +12,12 @@ use crate::positions::columns_asked;
 use crate::values::is_given;
 use clap::ArgMatches;
 use disk_reports::NameForm;
-use keeper_commands::{ByteForm, Candidates, Choice, RecordForm};
 use image_edits::{Columns, Edit, Effect, Unowned};
-use ledger_jobs::Job;
 use image_looks::Look;
-use opened_files::Loss;
+use keeper_commands::{ByteForm, Candidates, Choice, RecordForm};
+use ledger_jobs::Job;
 use line_text::CharacterSet;
+use opened_files::Loss;
 
 /// What is done if the disk has lost a part of a file.
 pub(crate) fn loss<'a>(matches: &ArgMatches<'a>) -> Loss

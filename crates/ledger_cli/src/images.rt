@@ -9,8 +9,8 @@ use crate::forms::checked;
 use crate::values::{is_given, value_of, values_of};
 use clap::{ArgMatches, Error};
 use disk_pictures::MOST_TILES;
-use ledger_jobs::Job;
 use image_looks::Look;
+use ledger_jobs::Job;
 use std::alloc::{AllocError, Global};
 
 /// The job that draws an image as a page or as a poster.

@@ -20,12 +20,12 @@ use crate::numbers::length_of;
 use crate::values::value_of;
 use clap::ArgMatches;
 use file_changes::FileType;
-use keeper_commands::RecordForm;
 use image_edits::{Columns, Edit};
-use ledger_jobs::Job;
 use image_looks::Look;
-use opened_files::Name;
+use keeper_commands::RecordForm;
+use ledger_jobs::Job;
 use line_text::read_text;
+use opened_files::Name;
 
 /// The job that prints the bytes of the file of a name.
 pub(crate) fn taking_bytes<'a>(

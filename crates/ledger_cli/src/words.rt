@@ -16,8 +16,8 @@ use crate::shops::{copying, formatting, playing};
 use crate::values::{is_given, parsed_subcommand, value_of};
 use clap::{ArgMatches, Error};
 use command_table::ledger_command;
-use ledger_jobs::Job;
 use image_looks::Look;
+use ledger_jobs::Job;
 use std::alloc::{AllocError, Global};
 
 /// The job of the subcommand that was met.

@@ -3,8 +3,8 @@
 use crate::comparing::same_at;
 use crate::images::formatted;
 use image_file::HostFiles;
-use ledger_jobs::{Job, do_job};
 use image_looks::Look;
+use ledger_jobs::{Job, do_job};
 use test_files::Known;
 
 #[test]
