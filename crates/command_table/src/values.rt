@@ -102,5 +102,5 @@ pub(crate) const ACCEPT_LOSS: Value = Value {
     name: "accept-loss",
     word: Some("accept-loss"),
     count: Count::Flag,
-    help: "Go on if a file has lost its end (SHORT), or the image its log (LOG AWAY)",
+    help: "Go on without the lost end (SHORT) or log (LOG AWAY)",
 };
