@@ -178,7 +178,8 @@ def main(words):
             comparison.views(name, image)
             comparison.trims(name, image)
         for words in ("36/0", "18/19", "0/1", "18", "18/01", "+1/0", "18/0/0", ""):
-            comparison.see("refused", run(program, "sector", sound[0], words)[::2], (2, b"SECTOR\n"), words)
+            status, _, told = run(program, "sector", sound[0], words)
+            comparison.see("refused", (status, told.split(b"\n")[0]), (2, b"SECTOR"), words)
     done = ", ".join(f"{count} {what}" for what, count in comparison.done.items())
     print(f"views: {len(images)} disks: {done}; {comparison.wrong} differences")
     return 1 if comparison.wrong else 0
