@@ -6,7 +6,7 @@ from record_disks import DATA, POINTERS, RELATIVE, Disk, line_of, sectors_of
 from served import run, sure, want
 
 IMAGE = "disk.d64"
-WORDS = ("repair", "repair --sides", "make", "store", "put", "rename", "delete")
+WORDS = ("repair", "repair --sides", "make", "store", "put", "rename", "title", "delete")
 RENAMED = "RENAMED"
 
 
@@ -72,6 +72,7 @@ class Draw:
             "store": ("store", "FILE0", self.lines(draw.randint(1, 90), Disk(disk).find(b"FILE0").length)),
             "put": ("put", "NEW", self.source(30_000), "--type", draw.choice(["prg", "seq", "usr"])),
             "rename": ("rename", "FILE0", RENAMED),
+            "title": ("title", "--name", RENAMED, "--id", length.rjust(2, "0")[:2]),
             "delete": ("delete", draw.choice(["FILE0", "PROGRAM"])),
         }[word]
         before = self.hurt(disk, word.endswith("--sides")) if words[0] == "repair" else disk

@@ -116,9 +116,18 @@ abbrev pub put : App
 put = may_run_dry (with_rule (with_rule (with_rule (over_image (codes "put")) (required (codes "NAME")))
     (required (codes "FILE"))) (required_behind (codes "type") (codes "TYPE")))
 
+-- a subcommand that gives a disk its name and its ID
+abbrev pub titling : Text → App
+titling word = with_rule (with_rule (over_image word) (required_behind (codes "name") (codes "NAME")))
+    (required_behind (codes "id") (codes "ID"))
+
 -- rename IMAGE OLD NEW [--dry-run]
 abbrev pub rename : App
 rename = may_run_dry (with_rule (with_rule (over_image (codes "rename")) (required (codes "OLD"))) (required (codes "NEW")))
+
+-- title IMAGE --name NAME --id ID [--dry-run]
+abbrev pub title : App
+title = may_run_dry (titling (codes "title"))
 
 -- delete IMAGE NAME [--dry-run]
 abbrev pub delete : App
@@ -126,8 +135,7 @@ delete = may_run_dry (with_rule (over_image (codes "delete")) (required (codes "
 
 -- new IMAGE --name NAME --id ID
 abbrev pub new : App
-new = with_rule (with_rule (over_image (codes "new")) (required_behind (codes "name") (codes "NAME")))
-    (required_behind (codes "id") (codes "ID"))
+new = titling (codes "new")
 
 -- map IMAGE..
 abbrev pub map : App
@@ -186,8 +194,8 @@ with_rescue a = with_command (with_command (with_command (with_command (with_com
 
 -- a program that has those that change the files of a disk too
 abbrev pub with_changes : App → App
-with_changes a = with_command (with_command (with_command (with_command (with_command (with_command
-    a new) make) store) put) rename) delete
+with_changes a = with_command (with_command (with_command (with_command (with_command (with_command (with_command
+    a new) make) store) put) rename) title) delete
 
 -- a program that has those that run a shop too
 abbrev pub with_shop : App → App

@@ -3,9 +3,9 @@ use crate::subcommands::Subcommand;
 use crate::values::{ACCEPT_LOSS, Count, DRY_RUN, FIELDS, IMAGE, NAME, POSITIONS, Value};
 
 /// The subcommands that change the files of a disk, in the order in which help lists them.
-pub(crate) const CHANGES: &[Subcommand] = &[NEW, MAKE, STORE, PUT, RENAME, DELETE];
+pub(crate) const CHANGES: &[Subcommand] = &[NEW, MAKE, STORE, PUT, RENAME, TITLE, DELETE];
 
-/// The name of a new disk.
+/// The name that a disk gets.
 const DISK_NAME: Value = Value {
     name: "NAME",
     word: Some("name"),
@@ -13,7 +13,7 @@ const DISK_NAME: Value = Value {
     help: "The disk's name, at most 16 bytes",
 };
 
-/// The ID of a new disk.
+/// The ID that a disk gets.
 const DISK_ID: Value = Value {
     name: "ID",
     word: Some("id"),
@@ -172,6 +172,25 @@ Exit status:
 
 Example: ledger rename old.d64 LETTER 'LETTER 1'",
     values: &[IMAGE, OLD_NAME, NEW_NAME, DRY_RUN],
+};
+
+/// `title IMAGE --name NAME --id ID [--dry-run]`
+const TITLE: Subcommand = Subcommand {
+    name: "title",
+    about: "Give a disk another name and ID",
+    more: "\
+It changes the name and the ID that list shows first, and prints TITLED.
+
+Exit status:
+  0  the disk has them
+  1  a file or the directory is damaged (LAYOUT and a fault: repair --sides
+     mends BADSIDE, nothing else), SHORT, IMAGE SIZE, LOG, LOG AWAY: nothing
+     was done
+  2  NAME: more than 16 bytes; ID: not two bytes
+  3  FILE, NO MEMORY, IN USE, DEVICE
+
+Example: ledger title old.d64 --name LETTERS --id 84",
+    values: &[IMAGE, DISK_NAME, DISK_ID, DRY_RUN],
 };
 
 /// `delete IMAGE NAME [--dry-run]`

@@ -6,7 +6,9 @@ use Rattle.disk_changes.specs.Puts.{IsPut, IsPutRefusal}
 use Rattle.disk_changes.specs.Rebuilds.{IsRebuildRefusal, IsRebuilt}
 use Rattle.disk_changes.specs.Renames.{IsRenameRefusal, IsRenamed}
 use Rattle.disk_changes.specs.Repairs.{IsRepairRefusal, IsRepaired}
+use Rattle.disk_changes.specs.Judged.{IsUnsoundOrShort}
 use Rattle.disk_changes.specs.Stores.{IsStoreRefusal, IsStored}
+use Rattle.disk_changes.specs.Titles.{IsTitled}
 use Rattle.disk_changes.specs.declared.changes.Change.{Change}
 use Rattle.disk_changes.specs.declared.changes.Change.TheVariants as changes
 use Rattle.disk_changes.specs.declared.changes.Changed.{Changed}
@@ -16,6 +18,7 @@ use Rattle.rel_records.specs.File.{IsLength}
 -- the name that a file gets fits an entry, and so does the length of its records
 abbrev pub IsFit : Change → Type 0
 IsFit (changes.Rename from to) = length to.now ≤ 16
+IsFit (changes.Title id name) = length name.now ≤ 16
 IsFit (changes.Delete name) = Unit {0}
 IsFit (changes.Put name kind content) = length name.now ≤ 16
 IsFit (changes.Make name L cut) = (length name.now ≤ 16) × IsLength L
@@ -26,6 +29,7 @@ IsFit (changes.Rebuild free cut) = Unit {0}
 -- the change was made
 abbrev pub IsChanged : Change → (image : List ℕ) → Changed → Type 0
 IsChanged (changes.Rename from to) image made = IsRenamed image from.now to.now made
+IsChanged (changes.Title id name) image made = IsTitled image name.now id made
 IsChanged (changes.Delete name) image made = IsDeleted image name.now made
 IsChanged (changes.Put name kind content) image made = IsPut image name.now kind content.now made
 IsChanged (changes.Make name L cut) image made = IsMade image name.now L cut made
@@ -36,6 +40,7 @@ IsChanged (changes.Rebuild free cut) image made = IsRebuilt image free cut made
 -- it wasn't, for this reason
 abbrev pub IsRefused : Change → (image : List ℕ) → Why → Type 0
 IsRefused (changes.Rename from to) image why = IsRenameRefusal image from.now to.now why
+IsRefused (changes.Title id name) image why = IsUnsoundOrShort image why
 IsRefused (changes.Delete name) image why = IsDeleteRefusal image name.now why
 IsRefused (changes.Put name kind content) image why = IsPutRefusal image name.now kind content.now why
 IsRefused (changes.Make name L cut) image why = IsMakeRefusal image name.now cut why

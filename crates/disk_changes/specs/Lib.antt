@@ -7,3 +7,4 @@ pub mod Rebuilds
 pub mod Renames
 pub mod Repairs
 pub mod Stores
+pub mod Titles

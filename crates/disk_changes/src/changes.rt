@@ -18,6 +18,11 @@ pub enum Change<'a> {
         from: &'a [u8],
         to: &'a [u8],
     },
+    /// The disk gets this name, of at most sixteen bytes, and this ID.
+    Title {
+        id: [u8; 2],
+        name: &'a [u8],
+    },
     /// The first file with the name is deleted.
     Delete {
         name: &'a [u8],

@@ -10,6 +10,7 @@ use crate::rebuilding::rebuilt;
 use crate::renaming::renamed;
 use crate::repairing::repaired;
 use crate::storing::stored;
+use crate::titling::titled;
 use std::alloc::Global;
 
 /// The disk that comes of a change to that of the image, and what is printed; or why the change isn't made. Nothing is
@@ -21,6 +22,7 @@ pub fn change(alloc: Global, what: &Change<'_>, image: &[u8]) -> Result<Changed,
 {
     match *what {
         Change::Rename { from, to } => renamed(alloc, image, from, to),
+        Change::Title { id, name } => titled(alloc, image, name, id),
         Change::Delete { name } => deleted(alloc, image, name),
         Change::Put {
             name,

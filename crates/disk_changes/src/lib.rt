@@ -13,6 +13,7 @@ mod rebuilding;
 mod renaming;
 mod repairing;
 mod storing;
+mod titling;
 
 pub use changes::{Change, Changed, Why};
 pub use changing::change;

@@ -6,7 +6,9 @@ use Rattle.disk_changes.specs.Puts.{IsPut, IsPutRefusal}
 use Rattle.disk_changes.specs.Rebuilds.{IsRebuildRefusal, IsRebuilt}
 use Rattle.disk_changes.specs.Renames.{IsRenameRefusal, IsRenamed}
 use Rattle.disk_changes.specs.Repairs.{IsRepairRefusal, IsRepaired}
+use Rattle.disk_changes.specs.Judged.{IsUnsoundOrShort}
 use Rattle.disk_changes.specs.Stores.{IsStoreRefusal, IsStored}
+use Rattle.disk_changes.specs.Titles.{IsTitled}
 use Rattle.disk_changes.specs.declared.changes.Changed.{Changed}
 use Rattle.disk_changes.specs.declared.changes.Why.{Why}
 use Rattle.image_file.specs.paths.Standing.{Stands}
@@ -56,6 +58,7 @@ IsEdited (edits.Repair loss unowned) text image made = IsRepaired image (frees u
 IsEdited (edits.RepairSides loss unowned) text image made = IsRebuilt image (frees unowned) (shortened loss) made
 IsEdited (edits.Make size loss name) text image made = IsMade image (name_bytes name) size (shortened loss) made
 IsEdited (edits.Rename from to) text image made = IsRenamed image (name_bytes from) (name_bytes to) made
+IsEdited (edits.Title id name) text image made = IsTitled image (name_bytes name) id made
 IsEdited (edits.Delete name) text image made = IsDeleted image (name_bytes name) made
 IsEdited (edits.Put file kind name) text image made = IsPut image (name_bytes name) kind text made
 IsEdited (edits.Store records columns loss name) text image made =
@@ -67,6 +70,7 @@ IsUnedited (edits.Repair loss unowned) text image why = IsRepairRefusal image wh
 IsUnedited (edits.RepairSides loss unowned) text image why = IsRebuildRefusal image why
 IsUnedited (edits.Make size loss name) text image why = IsMakeRefusal image (name_bytes name) (shortened loss) why
 IsUnedited (edits.Rename from to) text image why = IsRenameRefusal image (name_bytes from) (name_bytes to) why
+IsUnedited (edits.Title id name) text image why = IsUnsoundOrShort image why
 IsUnedited (edits.Delete name) text image why = IsDeleteRefusal image (name_bytes name) why
 IsUnedited (edits.Put file kind name) text image why = IsPutRefusal image (name_bytes name) kind text why
 IsUnedited (edits.Store records columns loss name) text image why =

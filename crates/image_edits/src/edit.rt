@@ -79,6 +79,13 @@ pub enum Edit<'a> {
         /// The name that the file gets.
         to: Name,
     },
+    /// The disk gets another name and ID.
+    Title {
+        /// Its ID.
+        id: [u8; 2],
+        /// Its name.
+        name: Name,
+    },
     /// The first file of a name is deleted.
     Delete {
         /// The name of the file.

@@ -35,7 +35,8 @@ impl Edit<'_> {
         match *self {
             Edit::Repair { loss, .. } | Edit::RepairSides { loss, .. } => loss,
             Edit::Make { loss, .. } | Edit::Store { loss, .. } => loss,
-            Edit::Rename { .. } | Edit::Delete { .. } | Edit::Put { .. } => Loss::Refused,
+            Edit::Rename { .. } | Edit::Title { .. } => Loss::Refused,
+            Edit::Delete { .. } | Edit::Put { .. } => Loss::Refused,
         }
     }
 
@@ -68,6 +69,10 @@ impl Edit<'_> {
             Edit::Rename { ref from, ref to } => Change::Rename {
                 from: from.as_bytes(),
                 to: to.as_bytes(),
+            },
+            Edit::Title { id, ref name } => Change::Title {
+                id,
+                name: name.as_bytes(),
             },
             Edit::Delete { ref name } => Change::Delete {
                 name: name.as_bytes(),
@@ -130,7 +135,7 @@ where
         Edit::Repair { .. } | Edit::RepairSides { .. } | Edit::Make { .. } => Ok(Vec::new(
             rt.alloc(),
         )),
-        Edit::Rename { .. } | Edit::Delete { .. } => Ok(Vec::new(rt.alloc())),
+        Edit::Rename { .. } | Edit::Title { .. } | Edit::Delete { .. } => Ok(Vec::new(rt.alloc())),
     }
 }
 

@@ -1,5 +1,5 @@
 -- The jobs of files with their names, where their words are parsed.
-use Rattle.std.proofs.Common.{◌≡◌, Bor, List, Option, Some, inl, inr, refl, subst, sym, []}
+use Rattle.std.proofs.Common.{◌≡◌, Bor, List, ℕ, Option, Some, inl, inr, refl, subst, sym, []}
 use Rattle.std.specs.Prelude.{Err, IfOk, MatchResult, Result, codes}
 use Rattle.clap.specs.Words.{Row, Text}
 use Rattle.command_table.specs.Grammar.{value}
@@ -13,8 +13,8 @@ use Rattle.ledger_cli.specs.Positions.{HasNoColumns}
 use Rattle.ledger_jobs.specs.declared.jobs.Job.TheVariants as jobs
 use Rattle.image_looks.specs.declared.kinds.Look.TheVariants as looks
 use Rattle.ledger_cli.specs.declared.faults.JobFault.TheVariants as faults
-use Rattle.ledger_cli.specs.Names.{HasNoName, IsMakingJob, IsNamedJob, IsNewDiskJob, IsPuttingJob, IsRecordsJob}
-use Rattle.ledger_cli.specs.Names.{IsRenamingJob, IsStoringJob}
+use Rattle.ledger_cli.specs.Names.{HasName, HasNoId, HasNoName, IsIdOf, IsMakingJob, IsNamedJob, IsPuttingJob, IsRecordsJob}
+use Rattle.ledger_cli.specs.Names.{IsRenamingJob, IsStoringJob, IsTitlingJob}
 use Rattle.ledger_cli.specs.declared.faults.JobFault.{JobFault}
 
 -- the job that is made of the name is that of the subcommand, or its name is none
@@ -94,19 +94,22 @@ renaming-met found rows image r is by-image (inr (same, missing)) =
     let P : Result Job JobFault → Type 0 = λ j. MatchResult j (IsJob found) (IsNoJob [] found) × IfOk j IsFit in
     subst P (sym same) ((refl, inr (inr (inr (inr (inl (record { rows = rows; is = is; holds = missing })))))), tt)
 
--- what makes the image of an empty disk is that of `new`, or its words give none
-pub new-met : (found : Option (Text × List Row)) (rows : List Row) (image : Bor Text) (r : Result Job JobFault)
-    → found ≡ Some (codes "new", rows) → image.now ≡ value (codes "IMAGE") rows
-    → IsNewDiskJob rows image r → MatchResult r (IsJob found) (IsNoJob [] found) × IfOk r IsFit
-new-met found rows image r is by-image (inl (name, id, same, at, two)) =
+-- the job that is made of a disk's name and ID is that of the subcommand, or one of them is none
+pub titling-met : (found : Option (Text × List Row)) (rows : List Row) (make : Name → List ℕ → Job) (r : Result Job JobFault)
+    → ((name : Name) (id : List ℕ) → IsNameOf (value (codes "NAME") rows) (name_bytes name)
+    → IsIdOf (value (codes "ID") rows) id → IsJob found (make name id) × IsFit (make name id))
+    → (HasNoName (codes "NAME") rows → IsRefusedName found)
+    → (HasName (codes "NAME") rows × HasNoId rows → IsNoJob [] found faults.Id)
+    → IsTitlingJob rows make r → MatchResult r (IsJob found) (IsNoJob [] found) × IfOk r IsFit
+titling-met found rows make r job nameless idless (inl (name, id, same, at, two)) =
     let P : Result Job JobFault → Type 0 = λ j. MatchResult j (IsJob found) (IsNoJob [] found) × IfOk j IsFit in
-    subst P (sym same) (record { rows = rows; is = is; holds = (by-image, at, two) }, at.short)
-new-met found rows image r is by-image (inr (inl (same, missing))) =
+    subst P (sym same) (job name id at two)
+titling-met found rows make r job nameless idless (inr (inl (same, missing))) =
     let P : Result Job JobFault → Type 0 = λ j. MatchResult j (IsJob found) (IsNoJob [] found) × IfOk j IsFit in
-    subst P (sym same) ((refl, inr (inr (inr (inr (inr (inl (record { rows = rows; is = is; holds = missing }))))))), tt)
-new-met found rows image r is by-image (inr (inr (same, name, missing))) =
+    subst P (sym same) ((refl, nameless missing), tt)
+titling-met found rows make r job nameless idless (inr (inr (same, name, missing))) =
     let P : Result Job JobFault → Type 0 = λ j. MatchResult j (IsJob found) (IsNoJob [] found) × IfOk j IsFit in
-    subst P (sym same) ((refl, record { rows = rows; is = is; holds = (name, missing) }), tt)
+    subst P (sym same) (idless (name, missing), tt)
 
 -- what puts a file on the disk is that of `put`, or its words give none
 pub putting-met : (found : Option (Text × List Row)) (rows : List Row) (image : Bor Text) (r : Result Job JobFault)
@@ -117,7 +120,7 @@ putting-met found rows image r is by-image (inl (name, file, kind, same, at, new
     subst P (sym same) (record { rows = rows; is = is; holds = (by-image, (at, by-file, by-type), refl) }, new)
 putting-met found rows image r is by-image (inr (inl (same, missing))) =
     let P : Result Job JobFault → Type 0 = λ j. MatchResult j (IsJob found) (IsNoJob [] found) × IfOk j IsFit in
-    subst P (sym same) ((refl, inr (inr (inr (inr (inr (inr (record { rows = rows; is = is; holds = missing }))))))), tt)
+    subst P (sym same) ((refl, inr (inr (inr (inr (inr (inr (inl (record { rows = rows; is = is; holds = missing })))))))), tt)
 putting-met found rows image r is by-image (inr (inr (same, name, missing))) =
     let P : Result Job JobFault → Type 0 = λ j. MatchResult j (IsJob found) (IsNoJob [] found) × IfOk j IsFit in
     subst P (sym same) ((refl, record { rows = rows; is = is; holds = (name, missing) }), tt)

@@ -40,6 +40,7 @@ word_of_edit (edits.Repair loss unowned) = codes "repair"
 word_of_edit (edits.RepairSides loss unowned) = codes "repair"
 word_of_edit (edits.Make length loss name) = codes "make"
 word_of_edit (edits.Rename from to) = codes "rename"
+word_of_edit (edits.Title id name) = codes "title"
 word_of_edit (edits.Delete name) = codes "delete"
 word_of_edit (edits.Put file kind name) = codes "put"
 word_of_edit (edits.Store records columns loss name) = codes "store"
@@ -54,6 +55,8 @@ IsEditIn (edits.Make length loss name) rows = IsNameOf (value (codes "NAME") row
     × (length_in rows ≡ Some length) × (loss ≡ loss_in rows)
 IsEditIn (edits.Rename from to) rows = IsNameOf (value (codes "OLD") rows) (name_bytes from)
     × IsNameOf (value (codes "NEW") rows) (name_bytes to)
+IsEditIn (edits.Title id name) rows = IsNameOf (value (codes "NAME") rows) (name_bytes name)
+    × IsIdOf (value (codes "ID") rows) id
 IsEditIn (edits.Delete name) rows = IsNameOf (value (codes "NAME") rows) (name_bytes name)
 IsEditIn (edits.Put file kind name) rows = IsNameOf (value (codes "NAME") rows) (name_bytes name)
     × (file.now ≡ value (codes "FILE") rows) × (type_in rows ≡ Some kind)
@@ -116,7 +119,8 @@ IsRefusedName found =
     (Has found (codes "records") (HasNoName (codes "NAME")) ⊎ Has found (codes "bytes") (HasNoName (codes "NAME")))
     ⊎ (Has found (codes "store") (HasNoName (codes "NAME")) ⊎ (Has found (codes "make") (HasNoNewName (codes "NAME"))
     ⊎ (Has found (codes "delete") (HasNoName (codes "NAME")) ⊎ (Has found (codes "rename") HasNoRenaming
-    ⊎ (Has found (codes "new") (HasNoName (codes "NAME")) ⊎ Has found (codes "put") (HasNoNewName (codes "NAME")))))))
+    ⊎ (Has found (codes "new") (HasNoName (codes "NAME")) ⊎ (Has found (codes "put") (HasNoNewName (codes "NAME"))
+    ⊎ Has found (codes "title") (HasNoName (codes "NAME"))))))))
 
 -- the subcommand has columns, and its words give none
 abbrev pub AreRefusedColumns : Option (Text × List Row) → JobFault → Type 0
@@ -134,8 +138,8 @@ IsNoJob kinds found faults.Length =
     (kinds ≡ []) × Has found (codes "make") (λ rows. HasNewName (codes "NAME") rows × (length_in rows ≡ None))
 IsNoJob kinds found faults.Sector = (kinds ≡ []) × Has found (codes "sector") (λ rows. place_in rows ≡ None)
 IsNoJob kinds found faults.Images = (kinds ≡ []) × Has found (codes "picture") IsNoPicture
-IsNoJob kinds found faults.Id =
-    (kinds ≡ []) × Has found (codes "new") (λ rows. HasName (codes "NAME") rows × HasNoId rows)
+IsNoJob kinds found faults.Id = (kinds ≡ []) × (Has found (codes "new") (λ rows. HasName (codes "NAME") rows × HasNoId rows)
+    ⊎ Has found (codes "title") (λ rows. HasName (codes "NAME") rows × HasNoId rows))
 IsNoJob kinds found faults.Kind =
     (kinds ≡ []) × Has found (codes "put") (λ rows. HasNewName (codes "NAME") rows × (type_in rows ≡ None))
 IsNoJob kinds found faults.Flags = (kinds ≡ []) × AreRefusedColumns found faults.Flags

@@ -91,10 +91,10 @@ IsRenamingJob rows image result =
     × IsNewName (name_bytes to))
     ⊎ ((result ≡ Err faults.Name) × HasNoRenaming rows)
 
--- the job that makes the image of an empty disk; or there is no name for it, or no ID
-abbrev pub IsNewDiskJob : List Row → Bor Text → Result Job JobFault → Type 0
-IsNewDiskJob rows image result =
-    ((name : Name) × (id : List ℕ) × (result ≡ Ok (jobs.New image name id))
+-- the job that is made of the name and the ID of a disk; or there is no name for it, or no ID
+abbrev pub IsTitlingJob : List Row → (Name → List ℕ → Job) → Result Job JobFault → Type 0
+IsTitlingJob rows make result =
+    ((name : Name) × (id : List ℕ) × (result ≡ Ok (make name id))
     × IsNameOf (value (codes "NAME") rows) (name_bytes name) × IsIdOf (value (codes "ID") rows) id)
     ⊎ (((result ≡ Err faults.Name) × HasNoName (codes "NAME") rows)
     ⊎ ((result ≡ Err faults.Id) × HasName (codes "NAME") rows × HasNoId rows))

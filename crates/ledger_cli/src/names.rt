@@ -8,7 +8,7 @@ ghost use Rattle.clap.specs.Words.{found_of, rows_of};
 ghost use Rattle.line_text.specs.bytes.Texts.{AreBytes};
 ghost use Rattle.keeper_commands.specs.Makes.{IsNewName};
 ghost use Rattle.opened_files.specs.Names.{IsNameOf, name_bytes};
-ghost use Rattle.ledger_cli.specs.Names.{IsMakingJob, IsStoringJob, IsNamedJob, IsRecordsJob, IsRenamingJob, IsNewDiskJob, IsIdOf};
+ghost use Rattle.ledger_cli.specs.Names.{IsMakingJob, IsStoringJob, IsNamedJob, IsRecordsJob, IsRenamingJob, IsTitlingJob, IsIdOf};
 ghost use Rattle.ledger_cli.specs.Names.{IsPuttingJob, type_named as named_type};
 ghost use Rattle.image_edits.specs.declared.edit.Edit.TheVariants as edits;
 ghost use Rattle.ledger_jobs.specs.declared.jobs.Job.TheVariants as jobs;
@@ -222,13 +222,27 @@ fn id_of(text: &str) -> Option<[u8; 2]>
 
 /// The job that makes the image of an empty disk.
 pub(crate) fn empty_disk<'a>(matches: &ArgMatches<'a>, image: &'a str) -> Result<Job<'a>, JobFault>
-    ensures { IsNewDiskJob (rows_of (found_of matches.now)) image.entry result }
+    ensures { IsTitlingJob (rows_of (found_of matches.now)) (λ name id. jobs.New image.entry name id) result }
 {
     let Some(name) = Name::read(value_of(matches, "NAME")) else {
         return Err(JobFault::Name);
     };
     match id_of(value_of(matches, "ID")) {
         Some(id) => Ok(Job::New { image, name, id }),
+        None => Err(JobFault::Id),
+    }
+}
+
+/// The job that gives the disk of an image another name and ID.
+pub(crate) fn titling<'a>(matches: &ArgMatches<'a>, image: &'a str) -> Result<Job<'a>, JobFault>
+    ensures { let rows = rows_of (found_of matches.now) in
+        IsTitlingJob rows (λ name id. jobs.Change image.entry (effect_in rows) (edits.Title id name)) result }
+{
+    let Some(name) = Name::read(value_of(matches, "NAME")) else {
+        return Err(JobFault::Name);
+    };
+    match id_of(value_of(matches, "ID")) {
+        Some(id) => Ok(edited(matches, image, Edit::Title { id, name })),
         None => Err(JobFault::Id),
     }
 }

@@ -9,7 +9,7 @@ use crate::faults::JobFault;
 use crate::forms::{choice, loss, name_form, repairing};
 use crate::images::{checking, picturing, viewing};
 use crate::names::{
-    deleting, empty_disk, making, putting, renaming, storing, taking_bytes, taking_records,
+    deleting, empty_disk, making, putting, renaming, storing, taking_bytes, taking_records, titling,
 };
 use crate::numbers::{place_of, tills_of};
 use crate::shops::{copying, formatting, playing};
@@ -61,6 +61,7 @@ fn job_of<'a>(alloc: Global, matches: &ArgMatches<'a>) -> Result<Job<'a>, JobFau
         "store" => storing(found, image),
         "put" => putting(found, image),
         "rename" => renaming(found, image),
+        "title" => titling(found, image),
         "delete" => deleting(found, image),
         "new" => empty_disk(found, image),
         "map" => viewing(alloc, found, Look::Map),

@@ -12,8 +12,8 @@ use Rattle.ledger_cli.specs.Flags.{is_given}
 use Rattle.ledger_cli.specs.Forms.{byte_form_in, candidates_in, effect_in}
 use Rattle.ledger_cli.specs.Numbers.{spelled_place}
 use Rattle.ledger_cli.proofs.Pictures.{picturing-met}
-use Rattle.ledger_cli.proofs.Named.{making-met, named-met, new-met, putting-met, records-met, renaming-met}
-use Rattle.ledger_cli.proofs.Named.{storing-met}
+use Rattle.ledger_cli.proofs.Named.{making-met, named-met, putting-met, records-met, renaming-met}
+use Rattle.ledger_cli.proofs.Named.{storing-met, titling-met}
 use Rattle.ledger_cli.proofs.Parses.{copy-fit, copy-met, format-fit, format-met, met-has, met-is, play-fit, play-met}
 use Rattle.ledger_cli.proofs.Parses.{repair-fit, repair-met}
 use Rattle.ledger_cli.proofs.Views.{checking-met, viewing-met}
@@ -182,9 +182,22 @@ returns-in-delete c =
 
 pub returns-in-new : goal.returns-in-new
 returns-in-new c =
+    let rows = rows_of (found_of c.in-Some.found.now) in
     let is = met-is c.parsed_subcommand.result _ c.in-Some.name c.in-Some.found _ c.parsed_subcommand.ensures c.in-Some.is c.in-new.is in
-    let met = new-met _ (rows_of (found_of c.in-Some.found.now)) c.value_of-image.result c.empty_disk.result is c.value_of-image.ensures
-    c.empty_disk.ensures in
+    let met = titling-met _ rows (λ name id. jobs.New c.value_of-image.result name id) c.empty_disk.result
+    (λ name id at two. (record { rows = rows; is = is; holds = (c.value_of-image.ensures, at, two) }, at.short))
+    (λ missing. inr (inr (inr (inr (inr (inl (record { rows = rows; is = is; holds = missing })))))))
+    (λ missing. (refl, inl (record { rows = rows; is = is; holds = missing }))) c.empty_disk.ensures in
+    record { job = met.0; fit = met.1 }
+
+pub returns-in-title : goal.returns-in-title
+returns-in-title c =
+    let rows = rows_of (found_of c.in-Some.found.now) in
+    let is = met-is c.parsed_subcommand.result _ c.in-Some.name c.in-Some.found _ c.parsed_subcommand.ensures c.in-Some.is c.in-title.is in
+    let met = titling-met _ rows (λ name id. jobs.Change c.value_of-image.result (effect_in rows) (edits.Title id name)) c.titling.result
+    (λ name id at two. (record { rows = rows; is = is; holds = (c.value_of-image.ensures, (at, two), refl) }, tt))
+    (λ missing. inr (inr (inr (inr (inr (inr (inr (record { rows = rows; is = is; holds = missing }))))))))
+    (λ missing. (refl, inr (record { rows = rows; is = is; holds = missing }))) c.titling.ensures in
     record { job = met.0; fit = met.1 }
 
 pub returns-in-map : goal.returns-in-map

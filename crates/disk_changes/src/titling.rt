@@ -1,0 +1,35 @@
+//! The disk of an image with another name and ID.
+ghost use Rattle.std.specs.Prelude.{◌≡◌, ◌≤◌, IfErr, IfOk, length};
+ghost use Rattle.d64_image.specs.Memory.{disk_image};
+ghost use Rattle.disk_changes.specs.Judged.{IsUnsoundOrShort};
+ghost use Rattle.disk_changes.specs.Titles.{IsTitled, retitled};
+
+use crate::changes::{Changed, Why};
+use crate::judging::sound_disk;
+use crate::outcomes::changed;
+use d64_image::{MemDisk, Sectors};
+use disk_layout::{map_place, padded_name};
+use std::alloc::Global;
+
+/// Writes the name and the ID over those in 18/0.
+fn put_title(disk: &mut MemDisk, name: &[u8], id: [u8; 2])
+    requires { length name.now ≤ 16 }
+    ensures { disk_image disk.new ≡ retitled (disk_image disk.old) name.now id }
+{
+    let mut bytes = [0; 256];
+    let _ = disk.read(map_place(), &mut bytes);
+    bytes[144..160].copy_from_slice(&padded_name(name));
+    bytes[162..164].copy_from_slice(&id);
+    let _ = disk.write(map_place(), &bytes);
+}
+
+/// The image whose disk has this name and this ID.
+pub(crate) fn titled(alloc: Global, image: &[u8], name: &[u8], id: [u8; 2]) -> Result<Changed, Why>
+    requires name { length name.now ≤ 16 }
+    ensures ok { IfOk result (IsTitled image.now name.now id) }
+    ensures err { IfErr result (IsUnsoundOrShort image.now) }
+{
+    let mut disk = sound_disk(alloc, image)?;
+    put_title(&mut disk, name, id);
+    changed(alloc, disk, b"TITLED\n")
+}
