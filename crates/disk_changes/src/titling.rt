@@ -9,6 +9,7 @@ use crate::judging::sound_disk;
 use crate::outcomes::changed;
 use d64_image::{MemDisk, Sectors};
 use disk_layout::{map_place, padded_name};
+use file_changes::overwrite;
 use std::alloc::Global;
 
 /// Writes the name and the ID over those in 18/0.
@@ -18,8 +19,8 @@ fn put_title(disk: &mut MemDisk, name: &[u8], id: [u8; 2])
 {
     let mut bytes = [0; 256];
     let _ = disk.read(map_place(), &mut bytes);
-    bytes[144..160].copy_from_slice(&padded_name(name));
-    bytes[162..164].copy_from_slice(&id);
+    overwrite(&mut bytes, 144, &padded_name(name));
+    overwrite(&mut bytes, 162, &id);
     let _ = disk.write(map_place(), &bytes);
 }
 

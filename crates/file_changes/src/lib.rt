@@ -18,5 +18,6 @@ pub use deleting::delete;
 pub use faults::ChangeFault;
 pub use file_type::FileType;
 pub use formatting::{format_disk, new_disk};
+pub use patching::overwrite;
 pub use putting::put_file;
 pub use renaming::rename;

@@ -6,7 +6,7 @@ ghost use Rattle.file_changes.specs.Patches.{PatchesSector};
 use d64_image::{DeviceFault, Place, Sectors};
 
 /// Writes these bytes over those of a sector from byte `at` on.
-fn overwrite(bytes: &mut [u8; 256], at: usize, new: &[u8])
+pub fn overwrite(bytes: &mut [u8; 256], at: usize, new: &[u8])
     requires { at + length new.now ≤ 256 }
     ensures { bytes.new ≡ overwritten bytes.old at new.now }
 {

@@ -46,7 +46,7 @@ module _ {H : Type 0} (rights : Rights H) (host : H) where
   MayDo (jobs.Compare before after) = MayReadImage rights host before.now × MayReadImage rights host after.now
   MayDo (jobs.Several what images) = All (λ image. MayReadImage rights host image.now) images.items
 
-  -- what a line for a person below a refusal needs: to read the job's first file, and to look at both that it compares
+  -- what a line for a person below a refusal needs: to read the job's first file, and both that it compares
   abbrev pub MayExplain : Job → Type 0
-  MayExplain (jobs.Compare before after) = MayReadImage rights host before.now × MayLook rights host after.now
+  MayExplain (jobs.Compare before after) = MayReadImage rights host before.now × MayReadImage rights host after.now
   MayExplain job = IfSome (first_file job) (MayReadImage rights host)

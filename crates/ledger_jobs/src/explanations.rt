@@ -54,9 +54,9 @@ fn tell_made<R: HostFiles, E: Write>(rt: &R, job: &Job<'_>, err: &mut E)
 }
 
 /// Prints for a person, in a line below the refusal's own, which file it is about, what the system said of it, or what to
-/// do. `cause` is why a call of the system failed, if one did. No file is opened for it, with one exception: if no file
-/// has the name, the image is locked with others that read it, and read for the names that are near. If the line can't be
-/// printed, this isn't reported: nobody reads standard error.
+/// do. `cause` is why a call of the system failed, if one did. No file is opened for it, with two exceptions: if no file
+/// has the name, or the image has another size, it is locked with others that read it, and read again. If the line can't
+/// be printed, this isn't reported: nobody reads standard error.
 pub fn explain<F, R, E>(
     rt: &R,
     job: &Job<'_>,

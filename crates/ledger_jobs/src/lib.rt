@@ -5,6 +5,7 @@ mod announcements;
 mod dispatch;
 mod explanations;
 mod failure_lines;
+mod formats;
 mod job_files;
 mod jobs;
 mod near_names;

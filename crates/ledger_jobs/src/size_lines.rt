@@ -1,20 +1,22 @@
 //! The line that says to a person which size an image has.
 ghost use Rattle.std.specs.Prelude.{IfSome};
 ghost use Rattle.ledger_jobs.specs.JobRights.{MayExplain};
-ghost use Rattle.opened_files.specs.Rights.{MayLook};
+ghost use Rattle.opened_files.specs.Rights.{MayReadImage};
 
 use crate::failure_lines::tell_of;
+use crate::formats::said_of_format;
 use crate::job_files::first_file;
 use crate::jobs::Job;
 use d64_image::IMAGE_BYTES;
-use image_file::{HostFiles, ShownPath};
-use opened_files::size_of;
-use std::io::Write;
+use image_file::{HostFiles, Locks, ShownPath};
+use opened_files::{STANDARD_INPUT, image_of_file, size_of};
+use std::fs::OpenFile;
+use std::io::{Read, Write};
 
 /// The image of a job that has another size than a disk: of two the first one, unless it has that size.
 pub(crate) fn missized_of<'a, R: HostFiles>(rt: &R, job: &Job<'a>) -> Option<&'a str>
     requires { MayExplain R.rights rt.now job.now }
-    ensures { IfSome result (λ path. MayLook R.rights rt.now path.now) }
+    ensures { IfSome result (λ path. MayReadImage R.rights rt.now path.now) }
 {
     match job {
         Job::Compare { before, after } => {
@@ -28,30 +30,34 @@ pub(crate) fn missized_of<'a, R: HostFiles>(rt: &R, job: &Job<'a>) -> Option<&'a
     }
 }
 
-/// Prints how many bytes an image has, which format has that many, and how to get one of 35 tracks without error bytes.
-pub(crate) fn tell_size<R: HostFiles, E: Write>(rt: &R, image: &str, err: &mut E)
-    requires { MayLook R.rights rt.now image.now }
+/// The first bytes of an image, as far as they can be read again. None of standard input.
+fn bytes_again<F, R>(rt: &R, path: &str) -> Option<Vec<u8>>
+where
+    F: Read + Locks + OpenFile + Drop,
+    R: HostFiles<File = F> + AllocGlobal,
+    requires { MayReadImage R.rights rt.now path.now }
 {
-    const WANTED: &str = "an image of 35 tracks without error bytes has 174848";
-    const ERROR_BYTES: &str =
-        "35 tracks and error bytes; `ledger trim OLD > NEW` leaves the error bytes out";
-    const LONG: &str = "40 tracks; `ledger trim OLD > NEW` takes the first 35, then check NEW";
-    const LONG_WITH_ERROR_BYTES: &str =
-        "40 tracks and error bytes; `ledger trim OLD > NEW` takes the first 35, then check NEW";
-    const CUT: &str = "it is cut short, since 35 tracks have 174848; read the disk again";
-    let said = match size_of(rt, image) {
-        None => return tell_of(err, image, WANTED),
-        Some(bytes) => {
-            let image = ShownPath(image);
-            let _ = write!(err, "ledger: {image} has {bytes} bytes; ");
-            match bytes {
-                175_531 => ERROR_BYTES,
-                196_608 => LONG,
-                197_376 => LONG_WITH_ERROR_BYTES,
-                0..=174_847 => CUT,
-                _ => WANTED,
-            }
-        }
+    if path == STANDARD_INPUT {
+        return None;
+    }
+    image_of_file(rt, path).ok()
+}
+
+/// Prints how many bytes an image has, which format it may be of, and how to get one of 35 tracks without error bytes.
+pub(crate) fn tell_size<F, R, E>(rt: &R, image: &str, err: &mut E)
+where
+    F: Read + Locks + OpenFile + Drop,
+    R: HostFiles<File = F> + AllocGlobal,
+    E: Write,
+    requires { MayReadImage R.rights rt.now image.now }
+{
+    let Some(size) = size_of(rt, image) else {
+        return tell_of(err, image, "an image of 35 tracks without error bytes has 174848");
     };
-    let _ = writeln!(err, "{said}");
+    let shown = ShownPath(image);
+    let said = match bytes_again(rt, image) {
+        Some(bytes) => said_of_format(size, bytes.as_slice()),
+        None => said_of_format(size, &[]),
+    };
+    let _ = writeln!(err, "ledger: {shown} has {size} bytes; {said}");
 }

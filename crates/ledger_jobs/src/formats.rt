@@ -1,0 +1,87 @@
+//! What a file is that isn't an image of 35 tracks, by its first bytes and its size, and which program makes one of it.
+//! The marks are those of the formats' own descriptions.
+
+/// The first bytes of files of other formats, and what is said of each.
+const MARKS: [(&[u8], &str); 6] = [
+    (b"PK\x03\x04", "it is a zip archive; `unzip` takes the image out"),
+    (b"\x1f\x8b", "it is compressed; `zcat OLD > NEW` makes the image"),
+    (b"GCR-1541", "it is a G64 image; VICE's c1541 takes its files out"),
+    (b"C64File\0", "it is a file in P00; cbmconvert puts it on a disk"),
+    (b"C64 tape", "it is a T64 archive; cbmconvert puts its files on a disk"),
+    (b"C64S tape", "it is a T64 archive; cbmconvert puts its files on a disk"),
+];
+
+/// The word that a Lynx archive has in its first line of BASIC.
+const LYNX: &[u8; 4] = b"LYNX";
+
+/// Where the map of a disk begins in its image, and its first bytes: a link to 18/1, and the format.
+const MAP: (usize, [u8; 3]) = (0x16500, [18, 1, b'A']);
+
+const WANTED: &str = "an image of 35 tracks without error bytes has 174848";
+
+/// What is said of a file of this size, whatever it has.
+fn said_of_size(bytes: u64) -> Option<&'static str> {
+    match bytes {
+        175_531 => Some("35 tracks and error bytes; `ledger trim OLD > NEW` leaves the error bytes out"),
+        196_608 => Some("40 tracks; `ledger trim OLD > NEW` takes the first 35, then check NEW"),
+        197_376 => Some(
+            "40 tracks and error bytes; `ledger trim OLD > NEW` takes the first 35, then check NEW",
+        ),
+        205_312 | 206_114 => {
+            Some("42 tracks; `head -c 174848 OLD > NEW` takes the first 35, then check NEW")
+        }
+        349_696 | 351_062 => Some("a D71 image; cbmconvert puts its files on a disk of 35 tracks"),
+        819_200 | 822_400 => Some("a D81 image; cbmconvert puts its files on a disk of 35 tracks"),
+        _ => None,
+    }
+}
+
+/// Whether this word is among the bytes.
+fn has_word(bytes: &[u8], word: &[u8; 4]) -> bool {
+    let mut rest = bytes;
+    while rest.len() >= word.len() {
+        if rest.starts_with(word) {
+            return true;
+        }
+        rest = &rest[1..];
+    }
+    false
+}
+
+/// Whether all bytes are those of a text, and there are some.
+fn is_text(bytes: &[u8]) -> bool {
+    for &byte in bytes {
+        if byte < b' ' && byte != b'\t' && byte != b'\n' && byte != b'\r' {
+            return false;
+        }
+    }
+    !bytes.is_empty()
+}
+
+/// What is said of a file with these bytes, the first ones that it has.
+fn said_of_bytes(bytes: &[u8]) -> &'static str {
+    for (mark, said) in MARKS {
+        if bytes.starts_with(mark) {
+            return said;
+        }
+    }
+    if has_word(&bytes[..bytes.len().min(254)], LYNX) {
+        return "it is a Lynx archive; cbmconvert puts its files on a disk";
+    }
+    if is_text(bytes) {
+        return "it is a text; an image of 35 tracks has 174848";
+    }
+    let (at, map) = MAP;
+    match bytes.get(at..at + map.len()) {
+        Some(found) if found == map => "it is cut short, since 35 tracks have 174848; read the disk again",
+        _ => WANTED,
+    }
+}
+
+/// What is said of a file of another size than an image's: its format, and how to make an image of 35 tracks of it.
+pub(crate) fn said_of_format(size: u64, bytes: &[u8]) -> &'static str {
+    match said_of_size(size) {
+        Some(said) => said,
+        None => said_of_bytes(bytes),
+    }
+}
