@@ -53,6 +53,8 @@ returns-clause-right c on =
 
 pub returns-clause-only : goal.returns-clause-only
 returns-clause-only c more long each =
-    let old = c.loop-number.invariant in
-    (refl, old.only more long each
-    ∙ take_all c.loop-number.number (c.args.all.now.items ++ more) (omega (arith, long, c.loop-number-test.false)))
+    let old = c.loop-number.invariant in (
+      refl,
+      old.only more long each
+          ∙ take_all c.loop-number.number (c.args.all.now.items ++ more) (omega (arith, long, c.loop-number-test.false)),
+    )

@@ -17,8 +17,7 @@ returns-then-not-add_listed-clause-wrong c =
     (omega (arith, ap length c.new-all.ensures, c.requires.fits, c.requires.few))) c.try_extend_from_slice.ensures.ok
     ∙ ap (λ (xs : List Place). xs ++ c.args.sides.now) c.new-all.ensures in
     let count : c.div_ceil.result ≡ sides_for (length c.args.blocks.now) = omega (arith, c.div_ceil.ensures) in
-    let read = at-answer c.read.result c.read.ensures.never_fails c.read.ensures.device.sector in
-    (
+    let read = at-answer c.read.result c.read.ensures.never_fails c.read.ensures.device.sector in (
       λ on h. false≢true (sym c.if-not-add_listed.true ∙ (only-list (disk_image c.args.disk.now) c.args.slot.now
           c.args.blocks.now c.args.sides.now c.try_extend_from_slice.new.self.items c.add_listed.new.all.items c.args.number
           c.args.side c.read.new.to c.div_ceil.result (IsTrue c.add_listed.result) c.requires.few read known count

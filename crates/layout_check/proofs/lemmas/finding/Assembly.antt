@@ -122,7 +122,7 @@ empty-file img s proper other none = record {
 }
 
 -- each sector of a chain is visited
-front-visits : (img : Image) (p : Place) (front : List Place) (last q : Place) → Leads img p front last
+pub front-visits : (img : Image) (p : Place) (front : List Place) (last q : Place) → Leads img p front last
     → Contains (front ++ last ∷ []) q → (vs : List Place) × (rest : List Place) × (front ++ last ∷ [] ≡ vs ++ q ∷ rest)
     × Leads img p vs q
 front-visits img p [] last q a c = elim (Contains-cases q last [] c) [

@@ -122,7 +122,7 @@ walk-done img s blocks sides first at named leads full = record {
 }
 
 -- each sector of a walk is reached by as many links as its place in the list says
-leads-at : (img : Image) (i : ℕ) (first : Place) (front : List Place) (last : Place) (j : ℕ) (p : Place)
+pub leads-at : (img : Image) (i : ℕ) (first : Place) (front : List Place) (last : Place) (j : ℕ) (p : Place)
     → SidesLead img i first front last → slice_get (front ++ last ∷ []) j ≡ Some p → (vs : List Place)
     × (length vs ≡ j) × SidesLead img i first vs p
 leads-at img i first [] last zero p leads h = ([], refl, leads ∙ cc)
