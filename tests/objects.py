@@ -69,14 +69,22 @@ class Reader:
         return self.follow(tuple(slot[3:5]))
 
     def sides(self, slot, blocks, end):
-        """The side sectors of a relative entry with a whole chain, and those of them that are wrong."""
+        """The side sectors of a relative entry with a whole chain, as far as each links to the next that it lists, and the wrong ones."""
         if slot[2] not in RELATIVE or end or tuple(slot[21:23]) not in ON_DISK:
             return [], set()
         needed, sides = -(-len(blocks) // 120), [tuple(slot[21:23])]
-        while len(sides) < needed and (link := tuple(self.sector(sides[-1])[:2])) in ON_DISK:
+        while len(sides) < needed and (link := self.named(sides[-1], 0)) in ON_DISK and link == self.named(sides[-1], 4 + 2 * len(sides)):
             sides.append(link)
-        wrong = {place for number, place in enumerate(sides) if self.sector(place) != side(number, blocks, sides, slot[23])}
-        return sides, wrong | ({sides[-1]} if len(sides) < needed else set())
+        wrong = set()
+        for number, place in enumerate(sides):
+            listed = sides + [self.named(place, 4 + 2 * it) for it in range(len(sides), needed)]
+            if not ON_DISK.issuperset(listed) or self.sector(place) != side(number, blocks, listed, slot[23]):
+                wrong.add(place)
+        return sides, wrong
+
+    def named(self, place, at):
+        """The place that two bytes of a sector name."""
+        return tuple(self.sector(place)[at:at + 2])
 
     def concerned(self, fault, at):
         """The typed names of the entries that a fault concerns."""

@@ -26,9 +26,9 @@ use Rattle.std.specs.Prelude.{Bool, Result, false, true}
 use Rattle.std.specs.List.{AllByRecursion}
 use Rattle.d64_image.specs.Geometry.{sectors_on}
 use Rattle.d64_image.specs.History.{History, TellsOf}
-use Rattle.d64_image.specs.Images.{Image, sector}
+use Rattle.d64_image.specs.Images.{Image, Sector, sector}
 use Rattle.d64_image.specs.declared.place.Place.{Place}
-use Rattle.disk_layout.specs.Chain.{ComesBack, IsChain, Leads, LinksNowhere, LinksTo, Names, NamesNone, Visits, byte}
+use Rattle.disk_layout.specs.Chain.{ComesBack, IsChain, LinksNowhere, LinksTo, Names, NamesNone, Visits, byte}
 use Rattle.disk_layout.specs.Directory.{IsDirectoryPlace, directory_start, map_place, slots_in, type_byte}
 use Rattle.disk_layout.specs.Layout.{
   File,
@@ -81,8 +81,18 @@ pub record IsBlock (img : Image) (s : Slot) (p : Place) : Type 0 where
   pub before : List Place
   pub visits : Visits img first before p
 
--- p is side sector j of a closed REL entry whose chain has these blocks, as far as the links of its side sectors are
--- good
+-- the bytes of side sector j link to q, and list it as the next side sector
+abbrev pub NamesNext : Sector → ℕ → Place → Type 0
+NamesNext bytes j q = Names bytes 0 q × Names bytes (4 + 2 * (j + 1)) q
+
+-- side sectors lead from p, number j, through each of vs in turn to q
+abbrev pub SidesLead : Image → ℕ → Place → List Place → Place → Type 0
+SidesLead img j p [] q = p ≡ q
+SidesLead img j p (v ∷ vs) q =
+    (next : Place) × (v ≡ p) × NamesNext (sector img v) j next × SidesLead img (j + 1) next vs q
+
+-- p is side sector j of a closed REL entry whose chain has these blocks, as far as each side sector links to the one that
+-- it lists as the next
 pub record IsSideSector (img : Image) (s : Slot) (blocks : List Place) (j : ℕ) (p : Place) : Type 0 where
   pub first_block : Place
   pub named_block : Names s.bytes 3 first_block
@@ -93,7 +103,7 @@ pub record IsSideSector (img : Image) (s : Slot) (blocks : List Place) (j : ℕ)
   pub named : Names s.bytes 21 first
   pub before : List Place
   pub number : length before ≡ j
-  pub leads : Leads img first before p
+  pub leads : SidesLead img 0 first before p
 
 -- what can own a sector
 pub data Owner : Type 0 where
@@ -114,7 +124,7 @@ Owns img (sides_of s) p = (q : Place) × IsClosed img q s × IsTrue (is_rel s) �
 pub data IsBadSide (img : Image) (s : Slot) (blocks : List Place) (j : ℕ) (p : Place) : Type 0 where
   number : byte img p 2 ≢ j → IsBadSide img s blocks j p
   length_byte : byte img p 3 ≢ record_length s → IsBadSide img s blocks j p
-  link : j + 1 < sides_for (length blocks) → NamesNone (sector img p) 0 → IsBadSide img s blocks j p
+  link : j + 1 < sides_for (length blocks) → ((q : Place) → ¬ (NamesNext (sector img p) j q)) → IsBadSide img s blocks j p
   listed : (k : ℕ) (q : Place) → IsSideSector img s blocks k q → ¬ (Names (sector img p) (4 + 2 * k) q)
       → IsBadSide img s blocks j p
   pointer : (k : ℕ) (q : Place) → k < 120 → slice_get blocks (120 * j + k) ≡ Some q

@@ -1,7 +1,8 @@
 //! Side sectors of relative files: they list a file's data blocks, 120 to a side sector.
 ghost use Rattle.std.specs.Prelude.{◌≡◌, ◌+◌, ◌*◌, ◌++◌, ◌<◌, ◌≤◌, ◌∷◌, [], length, slice_get, slice_index, take, drop};
-ghost use Rattle.std.specs.Prelude.{flat_map};
+ghost use Rattle.std.specs.Prelude.{MatchOption, flat_map};
 ghost use Rattle.disk_layout.specs.Chain.{named_at};
+ghost use Rattle.disk_layout.specs.Fault.{NamesNext};
 ghost use Rattle.disk_layout.specs.Side.{link_bytes, place_bytes, pointers_of, side_sector};
 
 use d64_image::Place;
@@ -96,6 +97,20 @@ impl<'a> SideView<'a> {
         ensures { result ≡ named_at self.now.bytes.now 0 }
     {
         Place::new(self.bytes[0], self.bytes[1])
+    }
+
+    /// The next side sector, of side sector `number` from 0, if it links to the one that it lists as the next. None as in
+    /// the last one, and if the two differ.
+    pub fn next_listed(&self, number: usize) -> Option<Place>
+        requires listed { number < 5 }
+        ensures { MatchOption result ((q : Place) → ¬ (NamesNext self.now.bytes.now number q))
+            (NamesNext self.now.bytes.now number) }
+    {
+        let listed = LIST_AT + 2 * (number + 1);
+        if self.bytes[0] != self.bytes[listed] || self.bytes[1] != self.bytes[listed + 1] {
+            return None;
+        }
+        self.next()
     }
 
     /// Its number among the file's side sectors, from its byte 2: 0 to 5 in a sound file.

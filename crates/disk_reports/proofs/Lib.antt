@@ -10,4 +10,5 @@ pub mod SameFaults
 pub mod Shown
 pub mod Spelled
 pub mod Those
+pub mod ToldSides
 pub mod Written

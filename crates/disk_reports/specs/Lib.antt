@@ -4,5 +4,6 @@ pub mod Listings
 pub mod NearNames
 pub mod Objects
 pub mod Outcomes
+pub mod SideLaws
 pub mod Texts
 pub mod Trails

@@ -3,51 +3,54 @@ use Rattle.std.specs.Prelude.{◌≡◌, ◌≢◌, ◌⊎◌, ◌↔◌, ℕ, �
 use Rattle.std.specs.Prelude.{length, slice_get}
 use Rattle.d64_image.specs.Images.{Image, sector}
 use Rattle.d64_image.specs.declared.place.Place.{Place}
-use Rattle.disk_layout.specs.Chain.{Leads, Names, NamesNone}
+use Rattle.disk_layout.specs.Chain.{Names, NamesNone}
 use Rattle.disk_layout.specs.Directory.{type_byte}
-use Rattle.disk_layout.specs.Layout.{count_field, is_rel, record_length, sides_for}
-use Rattle.disk_layout.specs.Side.{side_sector}
+use Rattle.disk_layout.specs.Fault.{NamesNext, SidesLead}
+use Rattle.disk_layout.specs.Layout.{count_field, is_rel, sides_for}
 use Rattle.disk_layout.specs.declared.faults.Fault.{Fault}
 use Rattle.disk_layout.specs.declared.faults.Fault.TheVariants as faults
 use Rattle.disk_layout.specs.declared.slot.Slot.{Slot}
 use Rattle.disk_rescue.specs.Reached.{IsReached}
 use Rattle.layout_check.specs.Entry.{IsShown}
+use Rattle.layout_check.specs.Exact.{IsExactSide}
 use Rattle.disk_reports.specs.declared.trail.Trail.{Trail}
 
 -- these blocks are reached of the entry's file, and this ends them
 abbrev pub IsReachedBy : Image → Slot → List Place → Option Fault → Type 0
 IsReachedBy img s blocks end = (u : ℕ) × IsReached img s blocks end u
 
--- the sectors to which the links lead from the first one on: n of them, or fewer if the last one links to no place
+-- the sectors to which side sectors lead from the first one on: n of them, or fewer if the last one doesn't link to the
+-- one that it lists as the next
 pub record AreLinked (img : Image) (first : Place) (n : ℕ) (ps : List Place) : Type 0 where
   pub front : List Place
   pub last : Place
   pub places : ps ≡ front ++ last ∷ []
-  pub leads : Leads img first front last
+  pub leads : SidesLead img 0 first front last
   pub few : length ps ≤ n
-  pub stops : (length ps ≡ n) ⊎ NamesNone (sector img last) 0
+  pub stops : (length ps ≡ n) ⊎ ((q : Place) → ¬ (NamesNext (sector img last) (length front) q))
 
 -- the entry is relative, and no fault ends its chain
 abbrev pub HasWholeChain : Slot → Option Fault → Type 0
 HasWholeChain s end = IsTrue (is_rel s) × (end ≡ None)
 
--- the side sectors of an entry with these blocks: those that the links come to from the first one, no more than the
+-- the side sectors of an entry with these blocks: those to which they lead from the first one on, no more than the
 -- blocks need. There are none if the entry isn't relative, its chain isn't whole, or it names no first side sector
 abbrev pub AreSides : Image → Slot → List Place → Option Fault → List Place → Type 0
 AreSides img s blocks end sides =
     (HasWholeChain s end × ((q : Place) × Names s.bytes 21 q × AreLinked img q (sides_for (length blocks)) sides))
     ⊎ ((¬ (HasWholeChain s end) × (sides ≡ [])) ⊎ (NamesNone s.bytes 21 × (sides ≡ [])))
 
--- side sector j of these, at p, isn't as it is to be: its bytes aren't exact, or it is the last and the blocks need more
-abbrev pub IsWrongSide : Image → Slot → List Place → List Place → ℕ → Place → Type 0
-IsWrongSide img s blocks sides j p =
-    (sector img p ≢ side_sector j blocks sides (record_length s))
-    ⊎ ((j + 1 ≡ length sides) × (length sides < sides_for (length blocks)))
+-- side sector j of these, at p, is as it is to be by itself: its bytes are exact if more side sectors follow, as many as
+-- the blocks need
+pub record IsIntact (img : Image) (s : Slot) (blocks sides : List Place) (j : ℕ) (p : Place) : Type 0 where
+  pub more : List Place
+  pub all : length (sides ++ more) ≡ sides_for (length blocks)
+  pub exact : IsExactSide img s blocks (sides ++ more) j p
 
--- these of the side sectors aren't as they are to be
+-- these of the side sectors are wrong by themselves
 abbrev pub AreWrong : Image → Slot → List Place → List Place → List Place → Type 0
 AreWrong img s blocks sides wrong =
-    (p : Place) → Contains wrong p ↔ ((j : ℕ) × (slice_get sides j ≡ Some p) × IsWrongSide img s blocks sides j p)
+    (p : Place) → Contains wrong p ↔ ((j : ℕ) × (slice_get sides j ≡ Some p) × ¬ (IsIntact img s blocks sides j p))
 
 -- this is what the links of the entry come to; nothing of one that isn't closed
 pub record IsTrail (img : Image) (t : Trail) : Type 0 where

@@ -1,28 +1,31 @@
 //! The side sectors of an entry whose blocks are known.
-ghost use Rattle.std.specs.Prelude.{◌≡◌, ◌↔◌, ◌<◌, ◌≤◌, IsTrue, MatchOption, length};
+ghost use Rattle.std.specs.Prelude.{◌≡◌, ◌↔◌, ◌+◌, ◌<◌, ◌≤◌, ◌++◌, IsTrue, List, MatchOption, length};
 ghost use Rattle.d64_image.specs.Images.{sector as sector_at};
 ghost use Rattle.d64_image.specs.Memory.{disk_image};
-ghost use Rattle.disk_layout.specs.Chain.{LinksTo, NamesNone};
-ghost use Rattle.disk_reports.specs.Trails.{AreLinked, AreSides, AreWrong, IsReachedBy, IsWrongSide};
+ghost use Rattle.disk_layout.specs.Fault.{NamesNext};
+ghost use Rattle.disk_layout.specs.Layout.{sides_for};
+ghost use Rattle.disk_reports.specs.Trails.{AreLinked, AreSides, AreWrong, IsIntact, IsReachedBy};
+ghost use Rattle.layout_check.specs.Sides.{NamesEach};
 
 use crate::slots::{first_side, is_relative};
 use arrayvec::ArrayVec;
 use d64_image::{MemDisk, Place, Sectors};
-use disk_layout::{EntryView, Fault, MOST_SIDES, POINTERS, Slot, side_bytes};
+use disk_layout::{EntryView, Fault, MOST_SIDES, POINTERS, SideView, Slot, side_bytes};
 
-/// The sector to which this one links; None if it links to no place of the disk.
-fn next_of(disk: &mut MemDisk, place: Place) -> Option<Place>
-    ensures next { MatchOption result (NamesNone (sector_at (disk_image disk.old) place) 0)
-        (λ next. LinksTo (disk_image disk.old) place next) }
+/// The sector to which side sector `number`, from 0, links, if it lists that one as the next; otherwise None.
+fn next_of(disk: &mut MemDisk, number: usize, place: Place) -> Option<Place>
+    requires few { number < 5 }
+    ensures next { MatchOption result ((q : Place) → ¬ (NamesNext (sector_at (disk_image disk.old) place) number q))
+        (NamesNext (sector_at (disk_image disk.old) place) number) }
     ensures same { disk_image disk.new ≡ disk_image disk.old }
 {
     let mut bytes = [0; 256];
     let _ = disk.read(place, &mut bytes);
-    Place::new(bytes[0], bytes[1])
+    SideView::new(&bytes).next_listed(number)
 }
 
-/// Fills `places` with the sectors to which the links lead from `first` on: so many, or fewer if one of them links to no
-/// place of the disk. A sector may come several times.
+/// Fills `places` with the sectors to which side sectors lead from `first` on: so many, or fewer if one of them doesn't
+/// link to the one that it lists as the next. A sector may come several times.
 fn follow_links(
     disk: &mut MemDisk,
     first: Place,
@@ -41,7 +44,7 @@ fn follow_links(
         if number + 1 == count {
             return;
         }
-        let Some(next) = next_of(disk, at) else {
+        let Some(next) = next_of(disk, number, at) else {
             return;
         };
         at = next;
@@ -74,7 +77,25 @@ pub(crate) fn follow_sides(
     follow_links(disk, first, blocks.len().div_ceil(POINTERS), sides);
 }
 
-/// Whether this side sector, the one with this number from 0, isn't as it is to be.
+/// Appends side sectors as these bytes list them, up to so many in all. Whether each is a place of the disk.
+fn add_listed(bytes: &[u8; 256], count: usize, all: &mut ArrayVec<Place, MOST_SIDES>) -> bool
+    requires few { count ≤ 6 }
+    requires known { length all.old.items ≤ count }
+    ensures right { IsTrue result → (more : List Place) × (length all.new.items ≡ count) × (all.new.items ≡ all.old.items ++ more) }
+    ensures only { (more : List Place) → length (all.old.items ++ more) ≡ count
+        → NamesEach bytes.now 4 (all.old.items ++ more) → IsTrue result × (all.new.items ≡ all.old.items ++ more) }
+{
+    let known = all.len();
+    for number in known..count {
+        let Some(side) = SideView::new(bytes).side(number) else {
+            return false;
+        };
+        all.push(side);
+    }
+    true
+}
+
+/// Whether this side sector, the one with this number from 0, is wrong by itself.
 fn is_wrong(
     disk: &mut MemDisk,
     slot: &Slot,
@@ -83,20 +104,24 @@ fn is_wrong(
     number: usize,
     side: Place,
 ) -> bool
-    requires few { number < 256 }
-    ensures wrong { IsTrue result ↔ IsWrongSide (disk_image disk.old) slot.now blocks.now sides.now number side }
+    requires there { number < length sides.now }
+    requires few { length blocks.now ≤ 720 }
+    requires fits { length sides.now ≤ sides_for (length blocks.now) }
+    ensures wrong { IsTrue result ↔ ¬ (IsIntact (disk_image disk.old) slot.now blocks.now sides.now number side) }
     ensures same { disk_image disk.new ≡ disk_image disk.old }
 {
-    if number + 1 == sides.len() && sides.len() < blocks.len().div_ceil(POINTERS) {
-        return true;
-    }
     let mut bytes = [0; 256];
     let _ = disk.read(side, &mut bytes);
+    let mut all = ArrayVec::new();
+    let _ = all.try_extend_from_slice(sides);
+    if !add_listed(&bytes, blocks.len().div_ceil(POINTERS), &mut all) {
+        return true;
+    }
     let length = EntryView::new(&slot.bytes).record_length();
-    bytes != side_bytes(number as u8, blocks, sides, length)
+    bytes != side_bytes(number as u8, blocks, all.as_slice(), length)
 }
 
-/// Fills `wrong` with those of the side sectors that aren't as they are to be.
+/// Fills `wrong` with those of the side sectors that are wrong by themselves.
 pub(crate) fn find_wrong(
     disk: &mut MemDisk,
     slot: &Slot,
@@ -104,7 +129,8 @@ pub(crate) fn find_wrong(
     sides: &[Place],
     wrong: &mut ArrayVec<Place, MOST_SIDES>,
 )
-    requires few { length sides.now ≤ 6 }
+    requires few { length blocks.now ≤ 720 }
+    requires fits { length sides.now ≤ sides_for (length blocks.now) }
     ensures wrong { AreWrong (disk_image disk.old) slot.now blocks.now sides.now wrong.new.items }
     ensures same { disk_image disk.new ≡ disk_image disk.old }
 {

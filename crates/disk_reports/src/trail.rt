@@ -12,8 +12,9 @@ pub(crate) struct Trail {
     pub(crate) blocks: ArrayVec<Place, MOST_BLOCKS>,
     /// The fault that ends the chain of its blocks: `BadLink` or `Loop`.
     pub(crate) end: Option<Fault>,
-    /// The side sectors of a relative entry whose chain is whole, in order: no more than its blocks need.
+    /// The side sectors of a relative entry whose chain is whole, in order, as far as each links to the one that it lists
+    /// as the next: no more than its blocks need.
     pub(crate) sides: ArrayVec<Place, MOST_SIDES>,
-    /// Those of them whose bytes aren't exact, and the last one if the blocks need more.
+    /// Those of them that are wrong by themselves.
     pub(crate) wrong: ArrayVec<Place, MOST_SIDES>,
 }

@@ -19,8 +19,8 @@ use Rattle.std.specs.Prelude.{
 }
 use Rattle.d64_image.specs.Images.{Image, Sector, sector}
 use Rattle.d64_image.specs.declared.place.Place.{Place}
-use Rattle.disk_layout.specs.Chain.{Leads, Names}
-use Rattle.disk_layout.specs.Fault.{IsClosed}
+use Rattle.disk_layout.specs.Chain.{Names}
+use Rattle.disk_layout.specs.Fault.{IsClosed, SidesLead}
 use Rattle.disk_layout.specs.Layout.{is_rel, record_length, sides_for}
 use Rattle.disk_layout.specs.declared.slot.Slot.{Slot}
 use Rattle.layout_check.specs.Entry.{HasBlocks}
@@ -72,14 +72,14 @@ pub record IsSoundSide (bytes : Sector) (s : Slot) (blocks sides : List Place) (
 abbrev pub IsUnsoundSide : Sector → Slot → List Place → List Place → ℕ → Type 0
 IsUnsoundSide bytes s blocks sides j = HasOtherFields bytes s blocks j ⊎ IsMisnamed bytes 4 sides
 
--- the sectors to which the links lead from the first side sector that the slot names on, as many as these blocks need
+-- the sectors to which side sectors lead from the first one that the slot names on, as many as these blocks need
 pub record AreLinkedSides (img : Image) (s : Slot) (blocks sides : List Place) : Type 0 where
   pub first : Place
   pub named : Names s.bytes 21 first
   pub front : List Place
   pub last : Place
   pub places : sides ≡ front ++ last ∷ []
-  pub leads : Leads img first front last
+  pub leads : SidesLead img 0 first front last
   pub count : length sides ≡ sides_for (length blocks)
 
 -- the side sectors are linked, and each has the right fields

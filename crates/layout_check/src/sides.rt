@@ -78,7 +78,7 @@ fn is_sound_side(
 /// fills `sides` with their places in order. Each one's number and record length are checked.
 ///
 /// Errors: `BadSide` at the entry's directory sector if the entry names no first side sector; `BadSide` at a side
-/// sector that has another number or record length or links to no place; and `Device`.
+/// sector that has another number or record length, or doesn't link to the one that it lists as the next; and `Device`.
 fn walk_sides<D: Sectors>(
     disk: &mut D,
     slot: &Slot,
@@ -107,7 +107,7 @@ fn walk_sides<D: Sectors>(
         if number + 1 == needed {
             return Ok(());
         }
-        let Some(next) = SideView::new(&sector).next() else {
+        let Some(next) = SideView::new(&sector).next_listed(number) else {
             return Err(Fault::BadSide(at));
         };
         at = next;

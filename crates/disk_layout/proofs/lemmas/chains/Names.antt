@@ -44,3 +44,11 @@ pub named-match : (bytes viewed : Sector) (i : ℕ) (o : Option Place) → viewe
     → MatchOption o (NamesNone bytes i) (λ p. Names bytes i p)
 named-match bytes viewed i None same e = named-none bytes i (sym (e ∙ ap (λ (bs : Sector). named_at bs i) same))
 named-match bytes viewed i (Some p) same e = named-names bytes i p (sym (e ∙ ap (λ (bs : Sector). named_at bs i) same))
+
+-- the place that two bytes name, where two others name it too
+pub both-match : (bytes : Sector) (i : ℕ) (o : Option Place) → o ≡ named_at bytes 0
+    → slice_index bytes 0 ≡ slice_index bytes i → slice_index bytes 1 ≡ slice_index bytes (i + 1)
+    → MatchOption o ((q : Place) → ¬ (Names bytes 0 q × Names bytes i q)) (λ q. Names bytes 0 q × Names bytes i q)
+both-match bytes i None e track at = λ q h. named-none bytes 0 (sym e) q h.0
+both-match bytes i (Some p) e track at =
+    let h = named-names bytes 0 p (sym e) in (h, (sym track ∙ h.0, sym at ∙ h.1))

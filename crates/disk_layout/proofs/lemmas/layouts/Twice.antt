@@ -186,7 +186,7 @@ no_bad_side img p (inr (q, s, closed, rel, blocks, j, side, bad)) (l, h) =
     wrong f e r same good (length_byte n) = n (good.length_byte ∙ ap record_length e)
     wrong f e r same good (link more none) =
         let (y, ey) = get-some f.sides (j + 1) (rw (r.count, ← same) more) in
-        none y (good.link y ey)
+        none y (good.link y ey, good.sides (j + 1) y ey)
     wrong f e r same good (listed k y side' n) =
         n (good.sides k y (side-at img f blocks k y r (at-slot img f.slot s blocks k y e side')).1)
     wrong f e r same good (pointer k y lt at n) = n (good.pointers k y lt (rw (← same) at))

@@ -6,7 +6,7 @@ use Rattle.d64_image.specs.Memory.{disk_image}
 use Rattle.d64_image.specs.declared.place.Place.{Place}
 use Rattle.disk_layout.proofs.lemmas.lists.Lists.{read-there}
 use Rattle.disk_reports.proofs.Found.{found-all, found-more, found-same}
-use Rattle.disk_reports.specs.Trails.{IsWrongSide}
+use Rattle.disk_reports.specs.Trails.{IsIntact}
 use Rattle.disk_reports.proofs.sides.find_wrong.Goals as goal
 use Rattle.disk_reports.proofs.sides.find_wrong.Goals.{then-is_wrong, else-is_wrong}
 
@@ -16,8 +16,8 @@ loop-number-preserved c =
     let n = c.loop-number.number in
     let q = c.index-sides-number.result in
     let sides = c.args.sides.now in
-    let P : ℕ → Place → Type 0 = λ j p. IsWrongSide (disk_image c.args.disk.now) c.args.slot.now c.args.blocks.now sides j p in
-    let Q : Image → Type 0 = λ i. IsWrongSide i c.args.slot.now c.args.blocks.now sides n q in
+    let P : ℕ → Place → Type 0 = λ j p. ¬ (IsIntact (disk_image c.args.disk.now) c.args.slot.now c.args.blocks.now sides j p) in
+    let Q : Image → Type 0 = λ i. ¬ (IsIntact i c.args.slot.now c.args.blocks.now sides n q) in
     let there = read-there sides n q c.loop-number-test.true c.index-sides-number.is in
     elim c.if-is_wrong.branch [
       | then-is_wrong w ↦ record {
@@ -36,6 +36,6 @@ loop-number-preserved c =
 
 pub returns-clause-wrong : goal.returns-clause-wrong
 returns-clause-wrong c =
-    found-all (λ j p. IsWrongSide (disk_image c.args.disk.now) c.args.slot.now c.args.blocks.now c.args.sides.now j p)
+    found-all (λ j p. ¬ (IsIntact (disk_image c.args.disk.now) c.args.slot.now c.args.blocks.now c.args.sides.now j p))
     c.args.sides.now c.loop-number.wrong.items c.loop-number.number (omega (arith, c.loop-number-test.false))
     c.loop-number.invariant.those

@@ -3,7 +3,7 @@ use Rattle.std.proofs.Common.{◌≡◌, ◌≤◌, ◌<◌, ◌↔◌, ℕ, Som
 use Rattle.std.specs.Prelude.{Contains, slice_get}
 use Rattle.d64_image.specs.Memory.{disk_image}
 use Rattle.d64_image.specs.declared.place.Place.{Place}
-use Rattle.disk_reports.specs.Trails.{IsWrongSide}
+use Rattle.disk_reports.specs.Trails.{IsIntact}
 use Rattle.disk_reports.proofs.sides.find_wrong.Given as goal
 
 abbrev pub invariant-loop-number : goal.invariant-loop-number
@@ -11,5 +11,5 @@ invariant-loop-number l = record {
   same : disk_image l.disk ≡ disk_image l.fn.disk;
   few : length l.wrong.items ≤ l.number;
   those : (p : Place) → Contains l.wrong.items p ↔ ((j : ℕ) × (j < l.number) × (slice_get l.sides j ≡ Some p)
-      × IsWrongSide (disk_image l.fn.disk) l.slot l.blocks l.sides j p);
+      × ¬ (IsIntact (disk_image l.fn.disk) l.slot l.blocks l.sides j p));
 }

@@ -33,6 +33,7 @@ use Rattle.disk_layout.specs.Chain.{EachOnce, IsChain, Leads, LinksTo, Names, Vi
 use Rattle.disk_layout.specs.Fault.{IsClosed, Owns, blocks_of, sides_of}
 use Rattle.disk_layout.specs.Layout.{IsFile, is_rel}
 use Rattle.disk_layout.specs.declared.slot.Slot.{Slot}
+use Rattle.disk_layout.proofs.lemmas.layouts.SidesAt.{SidesLead-links}
 use Rattle.layout_check.proofs.lemmas.finding.SideWalks.{walk-side}
 use Rattle.layout_check.specs.Entry.{HasBlocks, IsProper}
 use Rattle.layout_check.specs.Sides.{AreLinkedSides, IsRelEntry, IsWalkOfSides, ListsEach}
@@ -58,7 +59,7 @@ leads-link img first (v ∷ front) last (suc j) p q (n, same, linked, more) h k 
 pub first-side : (img : Image) (s : Slot) (blocks sides : List Place) (q : Place) → AreLinkedSides img s blocks sides
     → slice_get sides 0 ≡ Some q → Names s.bytes 21 q
 first-side img s blocks sides q w h =
-    let e : q ≡ w.first = leads-head img w.first w.front w.last q w.leads (ap (λ (xs : List Place). slice_get xs 0)
+    let e : q ≡ w.first = leads-head img w.first w.front w.last q (SidesLead-links img 0 w.first w.front w.last w.leads) (ap (λ (xs : List Place). slice_get xs 0)
     (sym w.places) ∙ h) in
     rw e w.named
 
@@ -67,7 +68,7 @@ pub side-link : (img : Image) (s : Slot) (blocks sides : List Place) (j : ℕ) (
     → LinksTo img p q
 side-link img s blocks sides j p q w h k =
     let n : suc j ≡ j + 1 = omega arith in
-    leads-link img w.first w.front w.last j p q w.leads (ap (λ (xs : List Place). slice_get xs j) (sym w.places)
+    leads-link img w.first w.front w.last j p q (SidesLead-links img 0 w.first w.front w.last w.leads) (ap (λ (xs : List Place). slice_get xs j) (sym w.places)
     ∙ h) (ap (λ (xs : List Place). slice_get xs (suc j)) (sym w.places) ∙ ap (slice_get sides) n ∙ k)
 
 pub sides-once : (img : Image) (s : Slot) (blocks sides : List Place) → IsWalkOfSides img s blocks sides
@@ -121,7 +122,7 @@ empty-file img s proper other none = record {
 }
 
 -- each sector of a chain is visited
-front-visits : (img : Image) (p : Place) (front : List Place) (last q : Place) → Leads img p front last
+pub front-visits : (img : Image) (p : Place) (front : List Place) (last q : Place) → Leads img p front last
     → Contains (front ++ last ∷ []) q → (vs : List Place) × (rest : List Place) × (front ++ last ∷ [] ≡ vs ++ q ∷ rest)
     × Leads img p vs q
 front-visits img p [] last q a c = elim (Contains-cases q last [] c) [

@@ -28,8 +28,9 @@ use Rattle.std.specs.Prelude.{Some, slice_get}
 use Rattle.std.proofs.lemmas.Option.{slice_get_within}
 use Rattle.d64_image.specs.Images.{Image, sector}
 use Rattle.d64_image.specs.declared.place.Place.{Place}
-use Rattle.disk_layout.specs.Chain.{Leads, LinksTo, Names, NamesNone}
-use Rattle.disk_layout.specs.Fault.{Holds, IsBadSide, IsSideSector, length_byte, link, listed, number, pointer}
+use Rattle.disk_layout.specs.Chain.{Names, NamesNone}
+use Rattle.disk_layout.proofs.lemmas.layouts.SidesAt.{SidesLead-push}
+use Rattle.disk_layout.specs.Fault.{Holds, IsBadSide, IsSideSector, NamesNext, SidesLead, length_byte, link, listed, number, pointer}
 use Rattle.disk_layout.specs.Layout.{sides_for}
 use Rattle.disk_layout.specs.declared.faults.Fault.TheVariants.{BadSide}
 use Rattle.disk_layout.specs.declared.slot.Slot.{Slot}
@@ -56,7 +57,7 @@ no_first_side failed img s blocks e none = inl (s, e.closed, e.rel, none)
 
 -- where the links lead is a side sector of the entry
 pub side-reached : (img : Image) (s : Slot) (blocks sides : List Place) (first at : Place) (j : ℕ)
-    → IsRelEntry img s blocks → Names s.bytes 21 first → Leads img first sides at → length sides ≡ j
+    → IsRelEntry img s blocks → Names s.bytes 21 first → SidesLead img 0 first sides at → length sides ≡ j
     → j < sides_for (length blocks) → IsSideSector img s blocks j at
 side-reached img s blocks sides first at j e named leads count below = record {
   first_block = e.chain.0;
@@ -87,8 +88,9 @@ misnumbered bytes s blocks j (inl n) = inl n
 misnumbered bytes s blocks j (inr n) = inr (inl n)
 
 pub unlinked-bad : (img : Image) (s : Slot) (blocks : List Place) (j : ℕ) (p : Place) (bytes : List ℕ)
-    → bytes ≡ sector img p → j + 1 < sides_for (length blocks) → NamesNone bytes 0 → IsBadSide img s blocks j p
-unlinked-bad img s blocks j p bytes e more none = link more (let P : List ℕ → Type 0 = λ b. NamesNone b 0 in
+    → bytes ≡ sector img p → j + 1 < sides_for (length blocks)
+    → ((q : Place) → ¬ (NamesNext bytes j q)) → IsBadSide img s blocks j p
+unlinked-bad img s blocks j p bytes e more none = link more (let P : List ℕ → Type 0 = λ b. (q : Place) → ¬ (NamesNext b j q) in
     subst P e none)
 
 pub bad-holds : (failed : Place → Type 0) (img : Image) (s : Slot) (blocks : List Place) (j : ℕ) (p : Place)
@@ -96,12 +98,18 @@ pub bad-holds : (failed : Place → Type 0) (img : Image) (s : Slot) (blocks : L
     → Holds failed img (BadSide p)
 bad-holds failed img s blocks j p e side bad = inr (s.sector, s, e.closed, e.rel, blocks, j, side, bad)
 
-pub linked-at : (img : Image) (p q : Place) (bytes : List ℕ) → bytes ≡ sector img p → Names bytes 0 q → LinksTo img p q
-linked-at img p q bytes e h = let P : List ℕ → Type 0 = λ b. Names b 0 q in subst P e h
+-- one more of them
+pub next-led : (img : Image) (first : Place) (sides : List Place) (p q : Place) (j : ℕ) (bytes : List ℕ)
+    → length sides ≡ j → bytes ≡ sector img p → SidesLead img 0 first sides p → NamesNext bytes j q
+    → SidesLead img 0 first (sides ++ p ∷ []) q
+next-led img first sides p q j bytes count e leads h =
+    let n : j ≡ 0 + length sides = omega (arith, count) in
+    SidesLead-push img 0 first sides p q leads (subst (λ (k : ℕ). NamesNext (sector img p) k q) n
+    (subst (λ (b : List ℕ). NamesNext b j q) e h))
 
 -- all side sectors are there
 pub walk-done : (img : Image) (s : Slot) (blocks sides : List Place) (first at : Place) → Names s.bytes 21 first
-    → Leads img first sides at → length sides + 1 ≡ sides_for (length blocks)
+    → SidesLead img 0 first sides at → length sides + 1 ≡ sides_for (length blocks)
     → AreLinkedSides img s blocks (sides ++ at ∷ [])
 walk-done img s blocks sides first at named leads full = record {
   first = first;
@@ -114,14 +122,14 @@ walk-done img s blocks sides first at named leads full = record {
 }
 
 -- each sector of a walk is reached by as many links as its place in the list says
-leads-at : (img : Image) (first : Place) (front : List Place) (last : Place) (j : ℕ) (p : Place)
-    → Leads img first front last → slice_get (front ++ last ∷ []) j ≡ Some p → (vs : List Place) × (length vs ≡ j)
-    × Leads img first vs p
-leads-at img first [] last zero p leads h = ([], refl, leads ∙ cc)
-leads-at img first [] last (suc j) p leads h = cc
-leads-at img first (v ∷ front) last zero p (n, same, linked, more) h = ([], refl, sym same ∙ cc)
-leads-at img first (v ∷ front) last (suc j) p (n, same, linked, more) h =
-    let (vs, long, leads) = leads-at img n front last j p more h in
+pub leads-at : (img : Image) (i : ℕ) (first : Place) (front : List Place) (last : Place) (j : ℕ) (p : Place)
+    → SidesLead img i first front last → slice_get (front ++ last ∷ []) j ≡ Some p → (vs : List Place)
+    × (length vs ≡ j) × SidesLead img i first vs p
+leads-at img i first [] last zero p leads h = ([], refl, leads ∙ cc)
+leads-at img i first [] last (suc j) p leads h = cc
+leads-at img i first (v ∷ front) last zero p (n, same, linked, more) h = ([], refl, sym same ∙ cc)
+leads-at img i first (v ∷ front) last (suc j) p (n, same, linked, more) h =
+    let (vs, long, leads) = leads-at img (i + 1) n front last j p more h in
     (v ∷ vs, ap suc long, (n, same, linked, leads))
 
 pub walk-side : (img : Image) (s : Slot) (blocks sides : List Place) (j : ℕ) (p : Place) → IsRelEntry img s blocks
@@ -129,7 +137,7 @@ pub walk-side : (img : Image) (s : Slot) (blocks sides : List Place) (j : ℕ) (
 walk-side img s blocks sides j p e w h =
     let at : slice_get (w.front ++ w.last ∷ []) j ≡ Some p = ap (λ (xs : List Place). slice_get xs j) (sym w.places)
     ∙ h in
-    let (vs, long, leads) = leads-at img w.first w.front w.last j p w.leads at in
+    let (vs, long, leads) = leads-at img 0 w.first w.front w.last j p w.leads at in
     side-reached img s blocks vs w.first p j e w.named leads long (omega (arith, slice_get_within sides j p h, w.count))
 
 -- a side sector that isn't as a sound image asks

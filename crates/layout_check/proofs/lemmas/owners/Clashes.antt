@@ -26,24 +26,26 @@ use Rattle.std.proofs.Common.{
   arith,
   inl,
   inr,
+  subst,
 }
 use Rattle.std.specs.Prelude.{Contains, IsFalse, Some, flat_map, slice_get}
 use Rattle.std.specs.List.{AllByRecursion}
 use Rattle.std.proofs.lemmas.Bool.{cases_eq}
 use Rattle.std.proofs.lemmas.List.Elements.{Contains-append_cases}
 use Rattle.std.proofs.lemmas.Option.{slice_get_within}
-use Rattle.d64_image.specs.Images.{Image}
+use Rattle.d64_image.specs.Images.{Image, sector}
 use Rattle.d64_image.specs.declared.place.Place.{Place}
-use Rattle.disk_layout.proofs.lemmas.chains.Chains.{Leads-push}
+use Rattle.disk_layout.proofs.lemmas.layouts.SidesAt.{SidesLead-push}
 use Rattle.disk_layout.proofs.lemmas.counts.Recount.{flat_map-out}
 use Rattle.disk_layout.proofs.lemmas.lists.Lists.{contains-get, get-some}
 use Rattle.disk_layout.proofs.lemmas.lists.Once.{Contains-cases, Contains-nil, all-in}
-use Rattle.disk_layout.specs.Chain.{Leads}
 use Rattle.disk_layout.specs.Directory.{IsDirectory, map_place, type_byte}
 use Rattle.disk_layout.specs.Fault.{
   Holds,
   IsClosed,
   IsSideSector,
+  NamesNext,
+  SidesLead,
   Owner,
   Owns,
   blocks_of,
@@ -62,9 +64,10 @@ pub closed-high : (t : ℕ) → IsClosedType t → 128 ≤ t
 closed-high t (inl h) = omega (arith, h)
 closed-high t (inr h) = omega (arith, h)
 
--- the side sectors of a relative file are reached by their links
+-- the side sectors of a relative file lead to each other
 rel-reached : (img : Image) (f : File) (j : ℕ) (p : Place) → (r : IsRelFile img f) → slice_get f.sides j ≡ Some p
-    → (first : Place) × (slice_get f.sides 0 ≡ Some first) × (vs : List Place) × (length vs ≡ j) × Leads img first vs p
+    → (first : Place) × (slice_get f.sides 0 ≡ Some first) × (vs : List Place) × (length vs ≡ j)
+    × SidesLead img 0 first vs p
 rel-reached img f zero p r h = (p, h, [], refl, refl)
 rel-reached img f (suc j) p r h =
     let (q, there) = get-some f.sides j (omega (arith, slice_get_within f.sides (suc j) p h)) in
@@ -74,7 +77,10 @@ rel-reached img f (suc j) p r h =
       start,
       vs ++ q ∷ [],
       omega (arith, long, length-append vs (q ∷ [])),
-      Leads-push img first vs q p leads ((r.sides j q there).link p (ap (slice_get f.sides) (sym n) ∙ h)),
+      let at : slice_get f.sides (j + 1) ≡ Some p = ap (slice_get f.sides) (sym n) ∙ h in
+          let m : j ≡ 0 + length vs = omega (arith, long) in
+          SidesLead-push img 0 first vs q p leads (subst (λ (k : ℕ). NamesNext (sector img q) k p) m
+          ((r.sides j q there).link p at, (r.sides j q there).sides (j + 1) p at)),
     )
 
 rel-side : (img : Image) (f : File) (j : ℕ) (p : Place) → IsRelFile img f → slice_get f.sides j ≡ Some p

@@ -1,11 +1,11 @@
 -- Along the links from the first side sector on.
 mod Told
-use Rattle.std.proofs.Common.{ap, arith, lit<, ◌∙◌, ◌<◌, length, refl, ◌+◌}
-use Rattle.d64_image.specs.Images.{Image, sector}
-use Rattle.disk_layout.proofs.lemmas.chains.Chains.{Leads-push}
+use Rattle.std.proofs.Common.{ap, arith, lit<, ◌∙◌, ◌<◌, length, refl, subst, ◌+◌}
+use Rattle.d64_image.specs.Images.{Image, Sector, sector}
 use Rattle.disk_layout.proofs.lemmas.chains.Names.{named-match}
 use Rattle.layout_check.proofs.lemmas.judging.Calls.{passes_none, passes_read, passes_then}
-use Rattle.layout_check.proofs.lemmas.finding.SideWalks.{linked-at}
+use Rattle.disk_layout.specs.Fault.{NamesNext}
+use Rattle.layout_check.proofs.lemmas.finding.SideWalks.{next-led}
 use Rattle.layout_check.proofs.lemmas.finding.SideWalks.{some-blocks, walk-done}
 use Rattle.layout_check.proofs.sides.walk_sides.Goals as goal
 use Rattle.layout_check.proofs.sides.walk_sides.Answers.Told as told
@@ -40,9 +40,10 @@ loop-number-preserved g c =
           (c.loop-number.number + 1) (omega arith) old.passes (passes_read S c.loop-number.disk c.read_sector.new.disk
           c.in_ok-read_sector.ensures.reads c.in_ok-read_sector.ensures.failures);
       below = omega (arith, old.below, c.if-number-needed.false);
-      leads = rw c.push.ensures.items (Leads-push _ c.in-Some.first c.loop-number.sides.items c.loop-number.at
-          c.in-Some-next.next old.leads (linked-at _ c.loop-number.at c.in-Some-next.next c.read_sector.new.to e
-          (named-match c.read_sector.new.to _ 0 _ c.new-in-loop-number.ensures c.in-Some-next.ensures)));
+      leads = rw c.push.ensures.items (next-led _ c.in-Some.first c.loop-number.sides.items c.loop-number.at
+          c.in-Some-next_listed.next c.loop-number.number c.read_sector.new.to old.count e old.leads
+          (subst (λ (b : Sector). NamesNext b c.loop-number.number c.in-Some-next_listed.next) c.new-in-loop-number.ensures
+          c.in-Some-next_listed.ensures));
       count = omega (arith, c.push.ensures.len, old.count);
     }
 
@@ -79,8 +80,8 @@ returns-in_default = told.returns-in_default
 pub returns-then-not-is_numbered : goal.returns-then-not-is_numbered
 returns-then-not-is_numbered = told.returns-then-not-is_numbered
 
-pub returns-in_default-next : goal.returns-in_default-next
-returns-in_default-next = told.returns-in_default-next
+pub returns-in_default-next_listed : goal.returns-in_default-next_listed
+returns-in_default-next_listed = told.returns-in_default-next_listed
 
 pub div_ceil-needed-requires : goal.div_ceil-needed-requires
 div_ceil-needed-requires g c = lit< tt

@@ -1,7 +1,8 @@
--- There is no first side sector, or one that isn't numbered right, links to no place or can't be read.
-use Rattle.std.proofs.Common.{ap, arith, ◌∙◌, ◌<◌, length}
+-- There is no first side sector, or one that isn't numbered right, doesn't lead on or can't be read.
+use Rattle.std.proofs.Common.{ap, arith, subst, ◌∙◌, ◌<◌, length}
 use Rattle.std.proofs.lemmas.Result.{err_from_is_err_and}
-use Rattle.d64_image.specs.Images.{Image, sector}
+use Rattle.d64_image.specs.Images.{Image, Sector, sector}
+use Rattle.d64_image.specs.declared.place.Place.{Place}
 use Rattle.disk_layout.proofs.lemmas.chains.Names.{named-match}
 use Rattle.disk_layout.specs.Layout.{sides_for}
 use Rattle.layout_check.proofs.lemmas.judging.Calls.{passes_none, passes_read, passes_then, passes_weaker, side_tells}
@@ -9,7 +10,7 @@ use Rattle.layout_check.proofs.lemmas.judging.Calls.{tells_read}
 use Rattle.layout_check.proofs.lemmas.judging.Calls.{tells_then}
 use Rattle.layout_check.proofs.lemmas.finding.SideWalks.{bad-holds, misjudged-bad, misnumbered, no_first_side}
 use Rattle.layout_check.proofs.lemmas.finding.SideWalks.{side-reached, unlinked-bad}
-use Rattle.disk_layout.specs.Fault.{nowhere}
+use Rattle.disk_layout.specs.Fault.{NamesNext, nowhere}
 use Rattle.layout_check.proofs.sides.walk_sides.Goals as goal
 
 pub returns-in_err-read_sector : goal.returns-in_err-read_sector
@@ -65,8 +66,8 @@ returns-then-not-is_numbered g c =
           (c.is_numbered.ensures.wrong c.if-not-is_numbered.true))));
     }
 
-pub returns-in_default-next : goal.returns-in_default-next
-returns-in_default-next g c =
+pub returns-in_default-next_listed : goal.returns-in_default-next_listed
+returns-in_default-next_listed g c =
     let S = g.D.Sectors.history in
     record {
       sides = tt;
@@ -87,5 +88,6 @@ returns-in_default-next g c =
           c.in-Some.ensures) old.leads old.count below)
           (unlinked-bad _ c.args.slot.now c.args.blocks.now c.loop-number.number c.loop-number.at c.read_sector.new.to e
           (omega (arith, old.below, c.if-number-needed.false, c.div_ceil-needed.ensures))
-          (named-match c.read_sector.new.to _ 0 _ c.new-in-loop-number.ensures c.in_default-next.ensures)));
+          (subst (λ (b : Sector). (q : Place) → ¬ (NamesNext b c.loop-number.number q)) c.new-in-loop-number.ensures
+          c.in_default-next_listed.ensures)));
     }
