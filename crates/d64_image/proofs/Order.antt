@@ -1,9 +1,10 @@
 -- The places in the order of an image: the list of them, and loops that go over all.
-use Rattle.std.proofs.Common.{ℕ, zero, suc, ◌+◌, ◌-◌, ◌<◌, ◌≤◌, ◌≡◌, ◌++◌, ◌∷◌, ◌∙◌, List, [], Some, add-one, ap, ap₂, arith, get_or, inl, inr, length, length-append, refl, subst, sym, take}
+use Rattle.std.proofs.Common.{ℕ, zero, suc, ◌+◌, ◌-◌, ◌<◌, ◌≤◌, ◌≡◌, ◌++◌, ◌∷◌, ◌∙◌, List, [], Some, add-one, ap, ap₂, arith, drop, get_or, inl, inr, length, length-append, refl, subst, sym, take}
 use Rattle.std.specs.Prelude.{flat_map}
 use Rattle.std.specs.List.{filter_map, range_with_len}
 use Rattle.std.proofs.lemmas.Bool.{cases_lt}
-use Rattle.std.proofs.lemmas.List.{get_or-append_right, get_or_append_left, take_all, take_more}
+use Rattle.std.proofs.lemmas.Grind.{flat_map-append}
+use Rattle.std.proofs.lemmas.List.{flat_map_more, get_or-append_right, get_or_append_left, take-append-drop, take_all, take_more}
 use Rattle.d64_image.specs.declared.place.Place.{Place}
 use Rattle.d64_image.specs.Geometry.{sectors_below, sectors_on}
 use Rattle.d64_image.specs.Places.{index_of, place_at, places}
@@ -95,6 +96,17 @@ pub place-taken : (i : ℕ) (p : Place) → index_of p ≡ i → take (i + 1) pl
 place-taken i p at =
     take_more places i p (omega (arith, places-length, index_below p, at))
     ∙ ap (λ (q : Place). take i places ++ q ∷ []) (ap (λ (k : ℕ). get_or places k p) (sym at) ∙ places-at p p)
+
+-- the same of a text that has a part for each place, and what it has left
+pub text-more : {X : Type 0} (part : Place → List X) (i : ℕ) (p : Place) → index_of p ≡ i
+    → flat_map part (take i places) ++ part p ≡ flat_map part (take (i + 1) places)
+text-more part i p at =
+    flat_map_more part [] (take i places) p ∙ ap (flat_map part) (sym (place-taken i p at))
+
+pub text-left : {X : Type 0} (part : Place → List X) (i : ℕ)
+    → flat_map part (take i places) ++ flat_map part (drop i places) ≡ flat_map part places
+text-left part i =
+    sym (flat_map-append part (take i places) (drop i places)) ∙ ap (flat_map part) (take-append-drop i places)
 
 pub all-taken : (i : ℕ) → 683 ≤ i → take i places ≡ places
 all-taken i all = take_all i places (omega (arith, all, places-length))
