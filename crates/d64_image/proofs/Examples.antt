@@ -1,6 +1,7 @@
 -- Worked examples of this crate's definitions, each named by what it shows. The numbers are those of the D64 layout.
 use Rattle.std.proofs.lemmas.Option.{none-some, same_Some}
 use Rattle.std.proofs.Common.{
+  ℕ,
   ◌+◌,
   ◌≡◌,
   ◌<◌,
@@ -12,7 +13,10 @@ use Rattle.std.proofs.Common.{
   None,
   Err,
   true,
+  ap,
+  get_or,
   inl,
+  length,
   refl,
   sym,
   ◌∙◌,
@@ -23,7 +27,7 @@ use Rattle.std.proofs.Common.{
 }
 use Rattle.d64_image.specs.declared.place.Place.{Place}
 use Rattle.d64_image.specs.Geometry.{sectors_on, sectors_below}
-use Rattle.d64_image.specs.Places.{index_of, place_at, first_place}
+use Rattle.d64_image.specs.Places.{index_of, place_at, first_place, places}
 use Rattle.d64_image.specs.Images.{Image, Sector, sector, put}
 use Rattle.d64_image.specs.Calls.{ReadsSector, WritesSector}
 use Rattle.d64_image.specs.Faults.{device_fault}
@@ -39,6 +43,7 @@ use Rattle.d64_image.specs.declared.fuse.Fuse.{Fuse}
 use Rattle.d64_image.specs.declared.mem_disk.MemDisk.{MemDisk}
 use Rattle.d64_image.specs.declared.kept_mirror.KeptMirror.{KeptMirror}
 use Rattle.d64_image.specs.declared.one_fault.OneFault.{OneFault}
+use Rattle.d64_image.proofs.Order.{places-at, places-length}
 use Rattle.d64_image.proofs.Places.{place_at-none, place_at-self}
 
 -- the map's sector, and the last sector of the disk
@@ -70,6 +75,12 @@ map_is_at_357 = refl
 pub last_place_is_at_682 : index_of last_sector ≡ 682
 unfolding index_of sectors_below
 last_place_is_at_682 = refl
+
+pub map_is_place_357_of_683 : (get_or places 357 first_place ≡ map_sector) × (length places ≡ 683)
+map_is_place_357_of_683 = (
+  ap (λ (n : ℕ). get_or places n first_place) (sym map_is_at_357) ∙ places-at map_sector first_place,
+  places-length,
+)
 
 pub no_sector_21_on_track_17 : place_at 17 21 ≡ None
 no_sector_21_on_track_17 = place_at-none 17 21 (lit≤ tt)

@@ -10,6 +10,7 @@ pub mod Moments
 pub mod Offsets
 pub mod Once
 pub mod OneCalls
+pub mod Order
 pub mod Places
 pub mod Rows
 pub mod Told

@@ -22,6 +22,9 @@ use Rattle.std.proofs.Common.{
   inr,
   ⊎_elim,
   add-suc,
+  add-zero,
+  mul-suc,
+  mul-zero,
   le_refl,
   le_of_suc-le-suc,
   lit≤,
@@ -53,32 +56,32 @@ on_last t above below = grind (arith, nat_tests)
 on_no_more : (t : ℕ) → 36 ≤ t → sectors_on t ≡ 0
 on_no_more t above = grind (arith, nat_tests)
 
-below_low : (n : ℕ) → n ≤ 17 → sectors_below (1 + n) ≡ 21 * n
+-- the sectors below a track past others that have so many each
+pub below_zone : (first n each : ℕ) → ((t : ℕ) → first ≤ t → t < first + n → sectors_on t ≡ each)
+    → sectors_below (first + n) ≡ sectors_below first + each * n
 unfolding sectors_below
-below_low zero le = refl
-below_low (suc n) le =
-    let so_far = below_low n (omega (arith, le)) in
-    let this = on_low (1 + n) (omega arith) (omega (arith, le)) in
-    rw add-suc (omega (arith, so_far, this))
-
-below_last : (n : ℕ) → n ≤ 5 → sectors_below (31 + n) ≡ 598 + 17 * n
-unfolding sectors_below
-below_last zero le = refl
-below_last (suc n) le =
-    let so_far = below_last n (omega (arith, le)) in
-    let this = on_last (31 + n) (omega arith) (omega (arith, le)) in
-    rw add-suc (omega (arith, so_far, this))
+below_zone first zero each have = rw (add-zero first, mul-zero each, add-zero (sectors_below first)) refl
+below_zone first (suc n) each have =
+    let so_far = below_zone first n each (λ t above below. have t above (omega (arith, below))) in
+    let this = have (first + n) (omega arith) (omega arith) in
+    rw (add-suc, mul-suc each n) (omega (arith, so_far, this))
 
 -- the sectors below a track, zone by zone
+pub zones_start : (sectors_below 1 ≡ 0) × (sectors_below 18 ≡ 357) × (sectors_below 25 ≡ 490) × (sectors_below 31 ≡ 598)
+unfolding sectors_below
+zones_start = (refl, refl, refl, refl)
+
 pub at_low : (t : ℕ) → 1 ≤ t → t ≤ 18 → sectors_below t ≡ 21 * (t - 1)
 at_low t above below =
     let at : 1 + (t - 1) ≡ t = omega arith in
-    subst (λ (u : ℕ). sectors_below u ≡ 21 * (t - 1)) at (below_low (t - 1) (omega arith))
+    let zone = below_zone 1 (t - 1) 21 (λ u from to. on_low u from (omega (arith, to, below))) in
+    omega (arith, ap sectors_below at, zone, zones_start.0)
 
 pub at_last : (t : ℕ) → 31 ≤ t → t ≤ 36 → sectors_below t ≡ 598 + 17 * (t - 31)
 at_last t above below =
     let at : 31 + (t - 31) ≡ t = omega arith in
-    subst (λ (u : ℕ). sectors_below u ≡ 598 + 17 * (t - 31)) at (below_last (t - 31) (omega arith))
+    let zone = below_zone 31 (t - 31) 17 (λ u from to. on_last u from (omega (arith, to, below))) in
+    omega (arith, ap sectors_below at, zone, zones_start.3)
 
 -- a track has its sectors before those of each later track
 pub below_grows : (t u : ℕ) → t < u → sectors_below t + sectors_on t ≤ sectors_below u

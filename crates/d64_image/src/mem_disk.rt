@@ -52,6 +52,14 @@ impl MemDisk {
         }
     }
 
+    /// The bytes of a sector.
+    #[tactic(auto, using(std::proofs::lemmas::List::get_or_read), unfolding(crate::specs::Images::sector))]
+    pub fn sector(&self, place: Place) -> &[u8; 256]
+        ensures { result.now ≡ sector (disk_image self.now) place }
+    {
+        &self.sectors[place.index()]
+    }
+
     /// The 174,848 bytes of the image.
     pub fn bytes(&self) -> &[u8]
         ensures value { result.now ≡ disk_bytes self.now }
@@ -71,12 +79,11 @@ impl Sectors for MemDisk {
     ghost history = { memory };
 
     /// Never fails, and takes no memory.
-    #[tactic(auto, using(std::proofs::lemmas::List::get_or_read), unfolding(crate::specs::Images::sector))]
     fn read(&mut self, place: Place, to: &mut [u8; 256]) -> Result<(), DeviceFault>
         ensures never_fails { IsOk result }
         ensures device { ReadsSector memory self.old self.new place to.new device_fault result }
     {
-        *to = self.sectors[place.index()];
+        *to = *self.sector(place);
         Ok(())
     }
 

@@ -1,6 +1,6 @@
 //! The place of a sector: its track and its sector, which together are on the disk.
-ghost use Rattle.std.specs.Prelude.{◌<◌, ◌≡◌, ◌↔◌, IsSome, Some};
-ghost use Rattle.d64_image.specs.Geometry.{sectors_on};
+ghost use Rattle.std.specs.Prelude.{◌<◌, ◌≤◌, ◌≡◌, ◌↔◌, ◌+◌, ◌/◌, ℕ, IsSome, Some};
+ghost use Rattle.d64_image.specs.Geometry.{sectors_below, sectors_on};
 
 use crate::geometry::sectors_on;
 
@@ -39,6 +39,32 @@ impl Place {
         ensures { place_at track sector ≡ Some result }
     {
         Place { track, sector }
+    }
+
+    /// The place with this index, as `index` tells it.
+    pub fn nth(index: usize) -> Place
+        requires { index < 683 }
+        ensures { index_of result ≡ index }
+    {
+        match index {
+            0..=356 => Place::in_zone(1, 21, index),
+            357..=489 => Place::in_zone(18, 19, index - 357),
+            490..=597 => Place::in_zone(25, 18, index - 490),
+            _ => Place::in_zone(31, 17, index - 598),
+        }
+    }
+
+    /// The place with so many others before it in the zone that begins with this track, and has so many sectors a track.
+    fn in_zone(first: usize, sectors: usize, before: usize) -> Place
+        requires some { 1 ≤ sectors }
+        requires last { first + before / sectors < 36 }
+        requires each { (t : ℕ) → first ≤ t → t ≤ first + before / sectors → sectors_on t ≡ sectors }
+        ensures { index_of result ≡ sectors_below first + before }
+    {
+        Place {
+            track: (first + before / sectors) as u8,
+            sector: (before % sectors) as u8,
+        }
     }
 
     /// The track, from 1 to 35.

@@ -1,3 +1,4 @@
 -- The lemmas, by what they are about.
+pub mod Below
 pub mod cut
 pub mod sides

@@ -1,10 +1,13 @@
 -- Faults gathered one after another.
-use Rattle.std.proofs.Common.{◌≡◌, ◌<◌, ◌+◌, ◌++◌, ◌∷◌, [], ℕ, suc, List, ap, append-nil, append_assoc, arith, get_or, inl, length, refl, subst, sym, take, ◌∙◌}
+use Rattle.std.proofs.Common.{◌≡◌, ◌<◌, ◌+◌, ◌++◌, ◌∷◌, ◌≤◌, [], ℕ, List, ap, append-nil, append_assoc, get_or, inl, length, refl, subst, sym, take, ◌∙◌}
 use Rattle.std.proofs.lemmas.List.{take_more}
-use Rattle.d64_image.specs.Places.{place_at}
+use Rattle.std.specs.Prelude.{flat_map}
+use Rattle.d64_image.proofs.Order.{all-taken, text-more}
+use Rattle.d64_image.specs.Places.{index_of, places}
+use Rattle.d64_image.specs.declared.place.Place.{Place}
 use Rattle.disk_layout.specs.declared.faults.Fault.{Fault}
 use Rattle.disk_reports.proofs.Those.{those-append}
-use Rattle.disk_reports.specs.AllFaults.{AreOthers, HoldsToo, IsGathered, faults_below, faults_if, faults_to}
+use Rattle.disk_reports.specs.AllFaults.{AreOthers, HoldsToo, IsGathered, faults_at}
 use Rattle.disk_reports.specs.declared.links.Links.{Links}
 
 pub gathered-none : (l : Links) (first : Fault) (now old : List Fault) → now ≡ old → IsGathered l first [] old now
@@ -34,37 +37,20 @@ next-candidate l first cs i f a b c inside here so_far more =
     (sym (take_more cs i f inside ∙ ap (λ (x : Fault). take i cs ++ x ∷ []) (sym here)))
     (gathered-append l first (take i cs) (f ∷ []) a b c so_far more)
 
--- a sector more, and a track more
-pub next-sector : (l : Links) (first : Fault) (track n : ℕ) (a b c : List Fault) → IsGathered l first (faults_to track n) a b
-    → IsGathered l first (faults_if (place_at track n)) b c → IsGathered l first (faults_to track (n + 1)) a c
-unfolding faults_to
-next-sector l first track n a b c so_far more =
-    let next : n + 1 ≡ suc n = omega arith in
-    subst (λ (m : ℕ). IsGathered l first (faults_to track m) a c) (sym next)
-    (gathered-append l first (faults_to track n) (faults_if (place_at track n)) a b c so_far more)
+-- a sector more
+pub next-place : (l : Links) (first : Fault) (i : ℕ) (p : Place) (a b c : List Fault) → index_of p ≡ i
+    → IsGathered l first (flat_map faults_at (take i places)) a b → IsGathered l first (faults_at p) b c
+    → IsGathered l first (flat_map faults_at (take (i + 1) places)) a c
+next-place l first i p a b c at so_far more =
+    subst (λ (fs : List Fault). IsGathered l first fs a c) (text-more faults_at i p at)
+    (gathered-append l first (flat_map faults_at (take i places)) (faults_at p) a b c so_far more)
 
-pub next-track : (l : Links) (first : Fault) (n : ℕ) (a b c : List Fault) → IsGathered l first (faults_below n) a b
-    → IsGathered l first (faults_to (n + 1) 21) b c → IsGathered l first (faults_below (n + 1)) a c
-unfolding faults_below
-next-track l first n a b c so_far more =
-    let next : n + 1 ≡ suc n = omega arith in
-    subst (λ (m : ℕ). IsGathered l first (faults_below m) a c) (sym next)
-    (gathered-append l first (faults_below n) (faults_to (suc n) 21) a b c so_far
-    (subst (λ (m : ℕ). IsGathered l first (faults_to m 21) b c) next more))
-
-pub no-sector : (l : Links) (first : Fault) (track : ℕ) (old : List Fault) → IsGathered l first (faults_to track 0) old old
-unfolding faults_to
-no-sector l first track old = gathered-none l first old old refl
-
-pub no-track : (l : Links) (first : Fault) (now : List Fault) → now ≡ [] → IsGathered l first (faults_below 0) [] now
-unfolding faults_below
-no-track l first now none = gathered-none l first now [] none
-
-others : (l : Links) (first : Fault) (now : List Fault) → IsGathered l first (faults_below 35) [] now
+others : (l : Links) (first : Fault) (now : List Fault) → IsGathered l first (flat_map faults_at places) [] now
     → AreOthers l first now
 others l first now (more, those, same) = subst (AreOthers l first) (sym same) those
 
-pub all-tracks : (l : Links) (first : Fault) (n : ℕ) (now : List Fault) → n ≡ 35
-    → IsGathered l first (faults_below n) [] now → AreOthers l first now
-all-tracks l first n now end all =
-    others l first now (subst (λ (m : ℕ). IsGathered l first (faults_below m) [] now) end all)
+pub all-places : (l : Links) (first : Fault) (i : ℕ) (now : List Fault) → 683 ≤ i
+    → IsGathered l first (flat_map faults_at (take i places)) [] now → AreOthers l first now
+all-places l first i now end all =
+    others l first now (subst (λ (ps : List Place). IsGathered l first (flat_map faults_at ps) [] now)
+    (all-taken i end) all)

@@ -1,12 +1,12 @@
 -- All faults of a disk, which may be damaged: from what its links come to. Our own.
-use Rattle.std.specs.Prelude.{◌≡◌, ◌≢◌, ◌⊎◌, ◌↔◌, ℕ, zero, suc, ◌≤◌, List, [], ◌∷◌, ◌++◌, IsTrue, None, Option, Some}
+use Rattle.std.specs.Prelude.{◌≡◌, ◌≢◌, ◌⊎◌, ◌↔◌, ℕ, ◌≤◌, List, [], ◌∷◌, ◌++◌, IsTrue, None, Option, Some}
 use Rattle.std.specs.Prelude.{codes, filter, flat_map, length, map, nat_eq, slice_get}
 use Rattle.std.specs.List.{AllByRecursion}
 use Rattle.std.specs.Io.KnownBytes.{Appends}
 use Rattle.line_text.specs.bytes.Texts.{text_of}
 use Rattle.d64_image.specs.Images.{Image, Sector, sector}
 use Rattle.d64_image.specs.Memory.{sectors_in}
-use Rattle.d64_image.specs.Places.{index_of, place_at}
+use Rattle.d64_image.specs.Places.{index_of, places}
 use Rattle.d64_image.specs.declared.place.Place.{Place}
 use Rattle.disk_rescue.specs.Directories.{IsReadSoFar}
 use Rattle.disk_rescue.specs.Names.{name_of}
@@ -87,21 +87,6 @@ faults_at p =
     faults.BadLink p ∷ faults.Loop p ∷ faults.OwnedTwice p ∷ faults.BadType p ∷ faults.Unclosed p ∷ faults.BadLength p
     ∷ faults.BadSide p ∷ faults.CountWrong p ∷ faults.MapWrong p ∷ []
 
--- those of a place, if there is one
-abbrev pub faults_if : Option Place → List Fault
-faults_if None = []
-faults_if (Some p) = faults_at p
-
--- those of the first n sectors of a track, of which none has more than 21
-unfoldable pub faults_to : ℕ → ℕ → List Fault
-faults_to track zero = []
-faults_to track (suc n) = faults_to track n ++ faults_if (place_at track n)
-
--- those of the first n tracks
-unfoldable pub faults_below : ℕ → List Fault
-faults_below zero = []
-faults_below (suc n) = faults_below n ++ faults_to (suc n) 21
-
 -- those of the first list that have P, in their order, as `pick` gives them
 abbrev pub AreThose : {X Y : Type 0} → (X → Type 0) → (X → Y) → List X → List Y → Type 0
 AreThose P pick [] [] = Unit {0}
@@ -143,7 +128,7 @@ IsGathered l first candidates old new =
 
 -- all other faults than the first one that hold, each once, in the order of the disk
 abbrev pub AreOthers : Links → Fault → List Fault → Type 0
-AreOthers l first others = AreThose (HoldsToo l first) (λ f. f) (faults_below 35) others
+AreOthers l first others = AreThose (HoldsToo l first) (λ f. f) (flat_map faults_at places) others
 
 -- what is printed of an image: OK if a check finds none; otherwise the line of the fault that it finds, and those of all
 -- others that hold

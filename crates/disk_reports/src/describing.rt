@@ -1,9 +1,7 @@
 //! An image described as an object of JSON.
 ghost use Rattle.std.specs.Prelude.{◌≡◌, ◌≢◌, IfErr, IfOk, OnOk};
 ghost use Rattle.std.specs.Io.KnownBytes.{Appends};
-ghost use Rattle.d64_image.specs.Images.{sector};
 ghost use Rattle.d64_image.specs.Memory.{disk_image};
-ghost use Rattle.disk_layout.specs.Directory.{map_place as map_at};
 ghost use Rattle.disk_reports.specs.Objects.{refused_text};
 ghost use Rattle.disk_reports.specs.Outcomes.{IsDescribeFault, IsDescribed, IsVerdict};
 ghost use Rattle.command_faults.specs.declared.faults.CommandFault.TheVariants as faults;
@@ -12,7 +10,7 @@ use crate::concerned::list_files;
 use crate::objects::{put_object, put_refused};
 use arrayvec::ArrayVec;
 use command_faults::{CommandFault, load};
-use d64_image::{MemDisk, Sectors};
+use d64_image::MemDisk;
 use disk_layout::{Fault, map_place};
 use layout_check::check;
 use std::alloc::Global;
@@ -27,16 +25,6 @@ pub(crate) fn verdict(disk: &mut MemDisk) -> Option<Fault>
         Ok(_) => None,
         Err(fault) => Some(fault),
     }
-}
-
-/// The bytes of 18/0. A disk in memory gives them always.
-pub(crate) fn read_map(disk: &mut MemDisk) -> [u8; 256]
-    ensures map { result ≡ sector (disk_image disk.old) map_at }
-    ensures same { disk_image disk.new ≡ disk_image disk.old }
-{
-    let mut map = [0; 256];
-    let _ = disk.read(map_place(), &mut map);
-    map
 }
 
 /// Prints an object of JSON, in a line of its own, that describes the image: its name and size, and what a check finds,
@@ -60,8 +48,7 @@ pub fn describe_image<W: Write>(
     let found = verdict(&mut disk);
     let mut files = ArrayVec::new();
     list_files(&mut disk, found, &mut files);
-    let map = read_map(&mut disk);
-    match put_object(out, name, found, files.as_slice(), &map) {
+    match put_object(out, name, found, files.as_slice(), disk.sector(map_place())) {
         Ok(()) => Ok(found),
         Err(_) => Err(CommandFault::File),
     }

@@ -1,7 +1,6 @@
 //! The faults of a disk that hold, in the order of the disk.
 ghost use Rattle.std.specs.Prelude.{◌≡◌, ◌≤◌, ◌↔◌, ◌∷◌, [], IfErr, IfOk, IsTrue, OnOk, length};
-ghost use Rattle.d64_image.specs.Places.{place_at};
-ghost use Rattle.disk_reports.specs.AllFaults.{AreOthers, HoldsToo, IsGathered, faults_at, faults_if, faults_to};
+ghost use Rattle.disk_reports.specs.AllFaults.{AreOthers, HoldsToo, IsGathered, faults_at};
 ghost use Rattle.disk_reports.specs.Objects.{place_of};
 ghost use Rattle.disk_layout.specs.Number.{number_of};
 ghost use Rattle.command_faults.specs.declared.faults.CommandFault.TheVariants as faults;
@@ -11,7 +10,7 @@ use crate::links::Links;
 use crate::objects::fault_place;
 use crate::showing;
 use command_faults::CommandFault;
-use d64_image::{Place, TRACK_SECTORS, TRACKS};
+use d64_image::{Place, SECTORS};
 use disk_layout::Fault;
 use std::alloc::Global;
 
@@ -104,42 +103,6 @@ fn add_those(
     Ok(())
 }
 
-/// Appends those that a sector has, if there is such a one.
-fn add_sector(
-    links: &Links,
-    first: Fault,
-    track: u8,
-    sector: u8,
-    found: &mut Vec<Fault>,
-) -> Result<(), CommandFault>
-    requires { length links.now.trails.items ≤ 144 }
-    ensures ok { OnOk result
-        (IsGathered links.now first (faults_if (place_at track sector)) found.old.items found.new.items) }
-    ensures err { IfErr result (λ fault. fault ≡ faults.NoMemory) }
-{
-    match Place::new(track, sector) {
-        Some(place) => add_those(links, first, &faults_of(place), found),
-        None => Ok(()),
-    }
-}
-
-/// Appends those that the sectors of a track have.
-fn add_track(
-    links: &Links,
-    first: Fault,
-    track: u8,
-    found: &mut Vec<Fault>,
-) -> Result<(), CommandFault>
-    requires { length links.now.trails.items ≤ 144 }
-    ensures ok { OnOk result (IsGathered links.now first (faults_to track 21) found.old.items found.new.items) }
-    ensures err { IfErr result (λ fault. fault ≡ faults.NoMemory) }
-{
-    for sector in 0..TRACK_SECTORS {
-        add_sector(links, first, track, sector, found)?;
-    }
-    Ok(())
-}
-
 /// All faults that hold except the first one, in the order of the disk. The only error is `NoMemory`.
 pub(crate) fn find_others(
     alloc: Global,
@@ -151,8 +114,8 @@ pub(crate) fn find_others(
     ensures err { IfErr result (λ fault. fault ≡ faults.NoMemory) }
 {
     let mut found = Vec::new(alloc);
-    for below in 0..TRACKS {
-        add_track(links, first, below + 1, &mut found)?;
+    for index in 0..SECTORS {
+        add_those(links, first, &faults_of(Place::nth(index)), &mut found)?;
     }
     Ok(found)
 }

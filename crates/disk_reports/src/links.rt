@@ -5,13 +5,12 @@ ghost use Rattle.disk_layout.specs.Layout.{IsSound};
 ghost use Rattle.disk_reports.specs.AllFaults.{AreFollowed, AreLinks};
 ghost use Rattle.command_faults.specs.declared.faults.CommandFault.TheVariants as faults;
 
-use crate::describing::read_map;
 use crate::following::follow;
 use crate::trail::Trail;
 use arrayvec::ArrayVec;
 use command_faults::CommandFault;
 use d64_image::MemDisk;
-use disk_layout::{Fault, Slot};
+use disk_layout::{Fault, Slot, map_place};
 use disk_rescue::{DirectorySectors, read_so_far};
 use layout_check::survey;
 use std::alloc::Global;
@@ -68,7 +67,7 @@ pub(crate) fn follow_all(alloc: Global, disk: &mut MemDisk) -> Result<Links, Com
     let mut directory = ArrayVec::new();
     let mut entries = ArrayVec::new();
     let end = read_so_far(disk, &mut directory, &mut entries);
-    let header = read_map(disk);
+    let header = *disk.sector(map_place());
     let is_sound = is_sound(disk);
     let trails = follow_entries(alloc, disk, entries.as_slice())?;
     Ok(Links {

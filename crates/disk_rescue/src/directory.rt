@@ -1,11 +1,10 @@
 //! The directory of a disk as far as it can be read.
 ghost use Rattle.std.specs.Prelude.{◌≡◌, ◌≤◌, ◌↔◌, Contains, IsTrue, length};
-ghost use Rattle.d64_image.specs.Images.{sector};
 ghost use Rattle.d64_image.specs.Memory.{disk_image};
 ghost use Rattle.disk_rescue.specs.Directories.{IsReadSoFar};
 
 use arrayvec::ArrayVec;
-use d64_image::{MemDisk, Place, Sectors};
+use d64_image::{MemDisk, Place};
 use disk_layout::{
     DIRECTORY_SECTORS, Fault, Slot, add_used, directory_start, next_directory_sector,
 };
@@ -19,16 +18,6 @@ pub type DirectorySectors = ArrayVec<Place, DIRECTORY_SECTORS>;
 /// The entries of a directory.
 pub type Entries = ArrayVec<Slot, ENTRIES>;
 
-/// The bytes of a sector. A disk in memory gives each.
-fn read_sector(disk: &mut MemDisk, place: Place) -> [u8; 256]
-    ensures bytes { result ≡ sector (disk_image disk.old) place }
-    ensures same { disk_image disk.new ≡ disk_image disk.old }
-{
-    let mut bytes = [0; 256];
-    let _ = disk.read(place, &mut bytes);
-    bytes
-}
-
 /// Whether the place is among these.
 fn contains(places: &DirectorySectors, place: Place) -> bool
     ensures { IsTrue result ↔ Contains places.now.items place }
@@ -40,25 +29,24 @@ fn contains(places: &DirectorySectors, place: Place) -> bool
 /// lead, and `entries` with their used slots. Returns what ends them before their end: `BadLink` at a sector whose link
 /// is no place of the disk, leaves track 18 or names 18/0, or `Loop` at a sector to which the last one links back.
 pub fn read_so_far(
-    disk: &mut MemDisk,
+    disk: &MemDisk,
     sectors: &mut DirectorySectors,
     entries: &mut Entries,
 ) -> Option<Fault>
-    ensures read { IsReadSoFar (disk_image disk.old) sectors.new.items entries.new.items result }
+    ensures read { IsReadSoFar (disk_image disk.now) sectors.new.items entries.new.items result }
     ensures few { length entries.new.items ≤ 144 }
-    ensures same { disk_image disk.new ≡ disk_image disk.old }
 {
     sectors.clear();
     entries.clear();
     let mut at = directory_start();
     'sectors: loop {
-        let bytes = read_sector(disk, at);
-        add_used(&bytes, at, entries);
+        let bytes = disk.sector(at);
+        add_used(bytes, at, entries);
         sectors.push(at);
         if bytes[0] == 0 {
             return None;
         }
-        let Some(next) = next_directory_sector(&bytes) else {
+        let Some(next) = next_directory_sector(bytes) else {
             return Some(Fault::BadLink(at));
         };
         if contains(sectors, next) {

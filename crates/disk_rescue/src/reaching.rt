@@ -5,7 +5,7 @@ ghost use Rattle.disk_layout.specs.AsFar.{IsWalk};
 ghost use Rattle.disk_rescue.specs.Reached.{IsReach, IsReached, NamesNoBlock};
 
 use arrayvec::ArrayVec;
-use d64_image::{MemDisk, Place, Sectors};
+use d64_image::{MemDisk, Place};
 use disk_layout::{EntryView, Fault, MOST_BLOCKS, Slot, walk_as_far};
 
 /// The end of the blocks of a file that can be reached.
@@ -18,16 +18,14 @@ pub struct Reach {
 }
 
 /// The end of the walk from `first` over these sectors.
-fn end_of(disk: &mut MemDisk, first: Place, places: &[Place], last: u8) -> Reach
-    requires { IsWalk (disk_image disk.old) first places.now last }
-    ensures reach { IsReach (disk_image disk.old) first places.now result.fault result.last }
-    ensures same { disk_image disk.new ≡ disk_image disk.old }
+fn end_of(disk: &MemDisk, first: Place, places: &[Place], last: u8) -> Reach
+    requires { IsWalk (disk_image disk.now) first places.now last }
+    ensures { IsReach (disk_image disk.now) first places.now result.fault result.last }
 {
     let [.., end] = places else {
         return Reach { last, fault: None };
     };
-    let mut sector = [0u8; 256];
-    let _ = disk.read(*end, &mut sector);
+    let sector = disk.sector(*end);
     if sector[0] == 0 {
         return Reach {
             last: sector[1],

@@ -1,105 +1,52 @@
 -- What is printed of a repair, line by line, and what a failure on the way tells.
-use Rattle.std.proofs.Common.{◌≡◌, ◌<◌, ◌+◌, ◌++◌, ◌-◌, ℕ, zero, suc, true, false, refl, List, Option, Some, Result, Ok, Err}
-use Rattle.std.proofs.Common.{ap, arith, subst, sym, ◌∙◌}
+use Rattle.std.proofs.Common.{◌≡◌, ◌+◌, ◌++◌, ℕ, true, false, refl, List, Option, Result, Ok, Err}
+use Rattle.std.proofs.Common.{ap, subst, sym, ◌∙◌}
 use Rattle.std.proofs.lemmas.Bool.{false≢true}
-use Rattle.std.specs.Prelude.{IfErr, bytes_eq, codes}
+use Rattle.std.specs.Prelude.{IfErr, bytes_eq, codes, drop, flat_map, take}
 use Rattle.std.specs.Result.{is_err}
 use Rattle.std.specs.Io.KnownBytes.{Appends, Keeps}
-use Rattle.std.proofs.KnownBytes.{Appends-kept, Appends-nil, Appends-trans}
+use Rattle.std.proofs.KnownBytes.{Appends-kept, Appends-trans}
 use Rattle.d64_image.proofs.Moments.{failed_later}
 use Rattle.d64_image.specs.History.{Failed, History, TellsFailure}
 use Rattle.d64_image.specs.Images.{Image, Sector, sector}
-use Rattle.d64_image.specs.Places.{place_at}
+use Rattle.d64_image.proofs.Order.{text-left, text-more}
+use Rattle.d64_image.specs.Places.{index_of, places}
 use Rattle.d64_image.specs.declared.place.Place.{Place}
 use Rattle.disk_layout.specs.Directory.{map_place}
 use Rattle.disk_layout.specs.Texts.{place_text}
 use Rattle.command_faults.proofs.Parts.{part-behind, part-longer}
 use Rattle.command_faults.specs.Outputs.{HandsPart}
-use Rattle.keeper_commands.specs.Repairs.{TellsKeep, changed_text, freed_at, is_freed, kept_text, mended_at, mended_on, mended_text, up_to}
+use Rattle.keeper_commands.specs.Repairs.{TellsKeep, changed_text, freed_at, is_freed, kept_text, mended_at, mended_text}
 use Rattle.command_faults.specs.declared.faults.CommandFault.{CommandFault}
 use Rattle.command_faults.specs.declared.faults.CommandFault.TheVariants as faults
 
-pub none-yet : (a : Option (List ℕ)) (line : ℕ → List ℕ) → Appends a a (up_to 0 line)
-unfolding up_to
-none-yet a line = Appends-nil a
+-- the line of one place more, and a beginning of it
+module _ (a b c : Option (List ℕ)) (old new now : Image) (had has : Sector) (same : now ≡ new) (i : ℕ) (p : Place)
+    (at : index_of p ≡ i)
+    (before : Appends a b (flat_map (mended_at old new had has) (take i places))) where
+  pub place-more : Appends b c (mended_at old now had has p)
+      → Appends a c (flat_map (mended_at old new had has) (take (i + 1) places))
+  place-more more = subst (Appends a c) (text-more (mended_at old new had has) i p at)
+      (Appends-trans a b c _ _ before (subst (λ (img : Image). Appends b c (mended_at old img had has p)) same more))
 
--- the lines of one number more
-one-more : (a b c : Option (List ℕ)) (n : ℕ) (line : ℕ → List ℕ) → Appends a b (up_to n line)
-    → Appends b c (line (n + 1))
-    → Appends a c (up_to (n + 1) line)
-unfolding up_to
-one-more a b c n line before more =
-    let next : n + 1 ≡ suc n = omega arith in
-    subst (λ (m : ℕ). Appends a c (up_to m line)) (sym next)
-    (Appends-trans a b c (up_to n line) (line (suc n)) before (subst (λ (m : ℕ). Appends b c (line m)) next more))
+  pub place-part : HandsPart b c (mended_at old now had has p)
+      → HandsPart a c (flat_map (mended_at old new had has) places)
+  place-part part =
+      let line = mended_at old new had has in
+      let front = flat_map line (take i places) in
+      let rest = flat_map line (drop (i + 1) places) in
+      subst (HandsPart a c) (ap (λ (t : List ℕ). t ++ rest) (text-more line i p at) ∙ text-left line (i + 1))
+      (part-longer a c (front ++ line p) rest (part-behind a b c front (line p) before
+      (subst (λ (img : Image). HandsPart b c (mended_at old img had has p)) same part)))
 
--- a beginning of fewer lines, also of one of them alone, is one of all
-up_to-and : (a b : Option (List ℕ)) (n j : ℕ) (line : ℕ → List ℕ) → HandsPart a b (up_to n line)
-    → HandsPart a b (up_to (j + n) line)
-unfolding up_to
-up_to-and a b n zero line part =
-    let same : zero + n ≡ n = omega arith in subst (λ (m : ℕ). HandsPart a b (up_to m line)) (sym same) part
-up_to-and a b n (suc j) line part =
-    let next : suc j + n ≡ suc (j + n) = omega arith in
-    subst (λ (m : ℕ). HandsPart a b (up_to m line)) (sym next)
-    (part-longer a b (up_to (j + n) line) (line (suc (j + n))) (up_to-and a b n j line part))
-
-one-part : (a b c : Option (List ℕ)) (n k : ℕ) (line : ℕ → List ℕ) → Appends a b (up_to n line)
-    → HandsPart b c (line (n + 1)) → n < k → HandsPart a c (up_to k line)
-unfolding up_to
-one-part a b c n k line before part low =
-    let next : n + 1 ≡ suc n = omega arith in
-    let all : k - suc n + suc n ≡ k = omega (arith, low) in
-    subst (λ (m : ℕ). HandsPart a c (up_to m line)) all
-    (up_to-and a c (suc n) (k - suc n) line
-    (part-behind a b c (up_to n line) (line (suc n)) before (subst (λ (m : ℕ). HandsPart b c (line m)) next part)))
-
-module _ (a b c : Option (List ℕ)) (old new old' new' : Image) (had has : Sector) (same : old' ≡ old)
-    (same' : new' ≡ new) where
-  pub sector-more : (track n : ℕ) → Appends a b (up_to n (λ n. mended_at old new had has (place_at track (n - 1))))
-      → Appends b c (mended_at old' new' had has (place_at track n))
-      → Appends a c (up_to (n + 1) (λ n. mended_at old new had has (place_at track (n - 1))))
-  sector-more track n before more =
-      let here : n ≡ n + 1 - 1 = omega arith in
-      one-more a b c n (λ n. mended_at old new had has (place_at track (n - 1))) before
-      (subst (λ (m : ℕ). Appends b c (mended_at old new had has (place_at track m))) here
-      (subst (λ (img : Image). Appends b c (mended_at img new had has (place_at track n))) same
-      (subst (λ (img : Image). Appends b c (mended_at old' img had has (place_at track n))) same' more)))
-
-  pub sector-part : (track n : ℕ) → Appends a b (up_to n (λ n. mended_at old new had has (place_at track (n - 1))))
-      → HandsPart b c (mended_at old' new' had has (place_at track n)) → n < 21
-      → HandsPart a c (mended_on old new had has track)
-  sector-part track n before part low =
-      let here : n ≡ n + 1 - 1 = omega arith in
-      one-part a b c n 21 (λ n. mended_at old new had has (place_at track (n - 1))) before
-      (subst (λ (m : ℕ). HandsPart b c (mended_at old new had has (place_at track m))) here
-      (subst (λ (img : Image). HandsPart b c (mended_at img new had has (place_at track n))) same
-      (subst (λ (img : Image). HandsPart b c (mended_at old' img had has (place_at track n))) same' part))) low
-
-  pub track-part : (n : ℕ) → Appends a b (up_to n (mended_on old new had has))
-      → HandsPart b c (mended_on old' new' had has (n + 1)) → n < 35
-      → HandsPart a c (up_to 35 (mended_on old new had has))
-  track-part n before part low =
-      one-part a b c n 35 (mended_on old new had has) before
-      (subst (λ (img : Image). HandsPart b c (mended_on img new had has (n + 1))) same
-      (subst (λ (img : Image). HandsPart b c (mended_on old' img had has (n + 1))) same' part)) low
-
-  pub track-more : (n : ℕ) → Appends a b (up_to n (mended_on old new had has))
-      → Appends b c (mended_on old' new' had has (n + 1)) → Appends a c (up_to (n + 1) (mended_on old new had has))
-  track-more n before more =
-      one-more a b c n (mended_on old new had has) before
-      (subst (λ (img : Image). Appends b c (mended_on img new had has (n + 1))) same
-      (subst (λ (img : Image). Appends b c (mended_on old' img had has (n + 1))) same' more))
-
--- the lines of all tracks, by the maps of the two disks
-pub changed-is : (old new old' new' : Image) (had has : Sector) → old' ≡ old → new' ≡ new → had ≡ sector old map_place
-    → has ≡ sector new map_place → up_to 35 (mended_on old' new' had has) ≡ changed_text old new
+-- the lines of all, by the maps of the two disks
+pub changed-is : (old new now : Image) (had has : Sector) → now ≡ new → had ≡ sector old map_place
+    → has ≡ sector new map_place → flat_map (mended_at old now had has) places ≡ changed_text old new
 unfolding changed_text
-changed-is old new old' new' had has same same' was is =
-    ap (λ (img : Image). up_to 35 (mended_on img new' had has)) same
-    ∙ ap (λ (img : Image). up_to 35 (mended_on old img had has)) same'
-    ∙ ap (λ (x : Sector). up_to 35 (mended_on old new x has)) was
-    ∙ ap (λ (x : Sector). up_to 35 (mended_on old new (sector old map_place) x)) is
+changed-is old new now had has same was is =
+    ap (λ (img : Image). flat_map (mended_at old img had has) places) same
+    ∙ ap (λ (x : Sector). flat_map (mended_at old new x has) places) was
+    ∙ ap (λ (x : Sector). flat_map (mended_at old new (sector old map_place) x) places) is
 
 -- and how it ends
 pub all-printed : (a b c d : Option (List ℕ)) (old new : Image) (n : ℕ) → Appends a b (changed_text old new)
@@ -168,13 +115,13 @@ as-told S a b (Err e) is told = absurd (false≢true (sym is))
 
 -- where the sectors that were read are the same, at most the line of one that became free
 pub same-line : (old new : Image) (had has : Sector) (p : Place) (x y : List ℕ) → x ≡ sector old p → y ≡ sector new p
-    → true ≡ bytes_eq x y → freed_at had has p ≡ mended_at old new had has (Some p)
+    → true ≡ bytes_eq x y → freed_at had has p ≡ mended_at old new had has p
 same-line old new had has p x y left right is =
     rw (sym (is ∙ ap (λ (z : List ℕ). bytes_eq z y) left ∙ ap (λ (z : List ℕ). bytes_eq (sector old p) z) right)) refl
 
 -- and where they aren't, its line
 pub other-line : (old new : Image) (had has : Sector) (p : Place) (x y : List ℕ) → x ≡ sector old p → y ≡ sector new p
-    → false ≡ bytes_eq x y → codes "MENDED " ++ place_text p ++ codes "\n" ≡ mended_at old new had has (Some p)
+    → false ≡ bytes_eq x y → codes "MENDED " ++ place_text p ++ codes "\n" ≡ mended_at old new had has p
 other-line old new had has p x y left right is =
     rw (sym (is ∙ ap (λ (z : List ℕ). bytes_eq z y) left ∙ ap (λ (z : List ℕ). bytes_eq (sector old p) z) right)) refl
 

@@ -1,10 +1,9 @@
 -- A record that is there is read from a disk in memory, and its line is printed behind the others.
 use Rattle.std.proofs.Common.{◌≡◌, ◌≤◌, ◌+◌, ◌-◌, ◌++◌, ◌⊎◌, inl, inr, ℕ, suc, List, [], Option, Some, Result, Ok}
 use Rattle.std.proofs.Common.{Err, true, false, length, get_or, refl, subst, sym, ap, ◌∙◌, arith}
-use Rattle.std.specs.Prelude.{IfErr, OnOk, is_err, is_ok, slice_get}
+use Rattle.std.specs.Prelude.{IfErr, OnOk, is_err, slice_get}
 use Rattle.std.specs.Io.KnownBytes.{Appends}
 use Rattle.std.proofs.KnownBytes.{Appends-trans}
-use Rattle.std.proofs.lemmas.Bool.{false≢true}
 use Rattle.std.proofs.lemmas.List.{append_assoc}
 use Rattle.std.proofs.lemmas.Option.{get_or_from_slice_get}
 use Rattle.d64_image.proofs.Told.{memory-never}
@@ -74,11 +73,6 @@ read-had (Err fault) a b rs number tells told absent low high =
 pub not-err : {T E P : Type 0} (r : Result T E) → is_err r ≡ false → OnOk r P → P
 not-err (Ok x) e p = p
 not-err (Err x) e p = absurd (cc)
-
--- what holds at an answer, where there is one
-pub at-answer : {T E P : Type 0} (r : Result T E) → is_ok r ≡ true → OnOk r P → P
-at-answer (Ok x) is p = p
-at-answer (Err e) is p = absurd (false≢true is)
 
 pub got : (rs : List (List ℕ)) (i : ℕ) (x : List ℕ) → slice_get rs i ≡ Some x → get_or rs i [] ≡ x
 got rs i x e = get_or_from_slice_get rs i x [] e

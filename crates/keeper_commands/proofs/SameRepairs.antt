@@ -1,12 +1,12 @@
 -- Two repairs of one image leave the same, and print the same.
-use Rattle.std.proofs.Common.{ℕ, zero, suc, ◌≡◌, ◌≢◌, ◌↔◌, ◌≤◌, ◌-◌, ◌⊎◌, Bool, true, false, List, [], ◌∷◌, ◌++◌, Some}
-use Rattle.std.proofs.Common.{None, Option, length, length-append, inl, inr, refl, sym, ◌∙◌, ap, ap₂, subst, arith}
-use Rattle.std.specs.Prelude.{Contains, ◌&&◌, not, if◌then◌else◌, bytes_eq, codes, nat_eq}
+use Rattle.std.proofs.Common.{ℕ, ◌≡◌, ◌≢◌, ◌↔◌, ◌≤◌, ◌⊎◌, Bool, true, false, List, [], ◌∷◌, ◌++◌}
+use Rattle.std.proofs.Common.{length, length-append, inl, inr, refl, sym, ◌∙◌, ap, ap₂, subst, arith}
+use Rattle.std.specs.Prelude.{Contains, ◌&&◌, not, if◌then◌else◌, bytes_eq, codes, flat_map, nat_eq}
 use Rattle.std.proofs.lemmas.Bool.{cases_eq, false≢true, ne_eqb}
 use Rattle.std.proofs.lemmas.List.Elements.{Contains-append_cases, Contains-append_left, Contains-append_right}
 use Rattle.std.proofs.lemmas.Slice.Eq.{bytes_eq-Decides}
 use Rattle.d64_image.specs.Images.{Image, Sector, sector}
-use Rattle.d64_image.specs.Places.{place_at}
+use Rattle.d64_image.specs.Places.{places}
 use Rattle.d64_image.specs.declared.place.Place.{Place}
 use Rattle.disk_layout.proofs.lemmas.layouts.Layouts.{IsLayout-one}
 use Rattle.disk_layout.proofs.lemmas.lists.Once.{Contains-cases, Contains-here, Contains-nil, Contains-there, insert-out}
@@ -19,7 +19,7 @@ use Rattle.disk_layout.specs.Texts.{place_text}
 use Rattle.layout_check.specs.Keeping.{AreStray}
 use Rattle.layout_check.specs.RepairOrder.{IsRightBut, repair_order, sides_of}
 use Rattle.keeper_commands.specs.Repairs.{AreLeft, IsMendedAs, kept_text, mended_at}
-use Rattle.keeper_commands.specs.Repairs.{changed_text, mended_text, up_to}
+use Rattle.keeper_commands.specs.Repairs.{changed_text, mended_text}
 
 -- of distinct places that are among others there are no more
 split : (ys : List Place) (x : Place) → Contains ys x → (before after : List Place) × (ys ≡ before ++ x ∷ after)
@@ -123,10 +123,9 @@ one-same x y to back = elim (cases_eq x 1) [
   | inr ne ↦ ne_eqb x 1 ne ∙ sym (ne_eqb y 1 (λ e. ne (back e)))
 ]
 
-lines-same : (n : ℕ) (f g : ℕ → List ℕ) → ((k : ℕ) → f k ≡ g k) → up_to n f ≡ up_to n g
-unfolding up_to
-lines-same zero f g same = refl
-lines-same (suc n) f g same = ap₂ (λ (x y : List ℕ). x ++ y) (lines-same n f g same) (same (suc n))
+lines-same : (f g : Place → List ℕ) (ps : List Place) → ((p : Place) → f p ≡ g p) → flat_map f ps ≡ flat_map g ps
+lines-same f g [] same = refl
+lines-same f g (p ∷ ps) same = ap₂ (λ (x y : List ℕ). x ++ y) (same p) (lines-same f g ps same)
 
 module _ (free : Bool) (img one other : Image) (m n : ℕ) (h : IsMendedAs free img one m)
     (k : IsMendedAs free img other n) where
@@ -169,16 +168,13 @@ module _ (free : Bool) (img one other : Image) (m n : ℕ) (h : IsMendedAs free 
       (λ e. ((second-right.map refl).marked p).1 (((first-right.map refl).marked p).0 e))
       (λ e. ((first-right.map refl).marked p).1 (((second-right.map refl).marked p).0 e))
 
-  line-same : (at : Option Place) → mended_at img one (sector img map_place) (sector one map_place) at
-      ≡ mended_at img other (sector img map_place) (sector other map_place) at
-  line-same None = refl
-  line-same (Some p) = ap₂ (λ (same freed : Bool). if same
+  line-same : (p : Place) → mended_at img one (sector img map_place) (sector one map_place) p
+      ≡ mended_at img other (sector img map_place) (sector other map_place) p
+  line-same p = ap₂ (λ (same freed : Bool). if same
       then (if not (nat_eq (map_bit (sector img map_place) p.track p.sector) 1) && freed
       then codes "FREED " ++ place_text p ++ codes "\n" else [])
       else codes "MENDED " ++ place_text p ++ codes "\n") (changed-same p) (free-same p)
 
   pub text-same : mended_text img one m ≡ mended_text img other n
   unfolding mended_text changed_text
-  text-same = ap₂ (λ (x y : List ℕ). x ++ y)
-      (lines-same 35 _ _ (λ t. lines-same 21 _ _ (λ s. line-same (place_at t (s - 1)))))
-      (ap kept_text count-same)
+  text-same = ap₂ (λ (x y : List ℕ). x ++ y) (lines-same _ _ places line-same) (ap kept_text count-same)

@@ -1,10 +1,10 @@
 -- What comes of the repair of a disk, and what is printed of it. Our own.
-use Rattle.std.specs.Prelude.{◌≡◌, ◌≢◌, ◌⊎◌, ℕ, zero, suc, ◌-◌, ◌++◌, Bool, true, false, ◌&&◌, not, List, [], Option, Some}
-use Rattle.std.specs.Prelude.{None, Result, Ok, Err, IfErr, IfOk, if◌then◌else◌, codes, decimal, length, bytes_eq, nat_eq}
+use Rattle.std.specs.Prelude.{◌≡◌, ◌≢◌, ◌⊎◌, ℕ, ◌++◌, Bool, true, false, ◌&&◌, not, List, [], Option}
+use Rattle.std.specs.Prelude.{Result, Ok, Err, IfErr, IfOk, if◌then◌else◌, codes, decimal, flat_map, length, bytes_eq, nat_eq}
 use Rattle.std.specs.Io.KnownBytes.{Appends}
 use Rattle.d64_image.specs.History.{Changes, Failed, History, OnlyReads, WritesNothing}
 use Rattle.d64_image.specs.Images.{Image, Sector, sector}
-use Rattle.d64_image.specs.Places.{place_at}
+use Rattle.d64_image.specs.Places.{places}
 use Rattle.d64_image.specs.declared.place.Place.{Place}
 use Rattle.disk_layout.specs.Directory.{map_place}
 use Rattle.disk_layout.specs.Fault.{Holds, TellsFault, nowhere}
@@ -24,11 +24,6 @@ use Rattle.command_faults.specs.Outputs.{HandsPart}
 use Rattle.command_faults.specs.declared.faults.CommandFault.{CommandFault}
 use Rattle.command_faults.specs.declared.faults.CommandFault.TheVariants as faults
 
--- the lines of 1, 2 and so on up to n
-unfoldable pub up_to : ℕ → (ℕ → List ℕ) → List ℕ
-up_to zero line = []
-up_to (suc n) line = up_to n line ++ line (suc n)
-
 -- the one map calls the sector taken, and the other free
 abbrev pub is_freed : Sector → Sector → Place → Bool
 is_freed had has p = not (nat_eq (map_bit had p.track p.sector) 1) && nat_eq (map_bit has p.track p.sector) 1
@@ -38,14 +33,9 @@ abbrev pub freed_at : Sector → Sector → Place → List ℕ
 freed_at had has p = if is_freed had has p then codes "FREED " ++ place_text p ++ codes "\n" else []
 
 -- the line of a sector that the two images have otherwise, MENDED 18/0, or that became free by these two maps
-abbrev pub mended_at : Image → Image → Sector → Sector → Option Place → List ℕ
-mended_at old new had has None = []
-mended_at old new had has (Some p) = if bytes_eq (sector old p) (sector new p) then freed_at had has p
+abbrev pub mended_at : Image → Image → Sector → Sector → Place → List ℕ
+mended_at old new had has p = if bytes_eq (sector old p) (sector new p) then freed_at had has p
     else codes "MENDED " ++ place_text p ++ codes "\n"
-
--- the lines of a track's sectors: no track has more than 21
-abbrev pub mended_on : Image → Image → Sector → Sector → ℕ → List ℕ
-mended_on old new had has track = up_to 21 (λ n. mended_at old new had has (place_at track (n - 1)))
 
 -- how it ends: OK, or KEPT 3 if so many sectors stay taken that nobody owns
 abbrev pub kept_text : ℕ → List ℕ
@@ -53,7 +43,7 @@ kept_text n = if nat_eq n 0 then codes "OK\n" else codes "KEPT " ++ decimal n ++
 
 -- a line for each sector that the two images have otherwise, or that became free by their maps, by track and sector
 unfoldable pub changed_text : Image → Image → List ℕ
-changed_text old new = up_to 35 (mended_on old new (sector old map_place) (sector new map_place))
+changed_text old new = flat_map (mended_at old new (sector old map_place) (sector new map_place)) places
 
 -- what is printed of a repair: these lines, and then how it ends
 unfoldable pub mended_text : Image → Image → ℕ → List ℕ

@@ -68,7 +68,7 @@ pub fn bytes_image<W: Write>(
         Ok(file) => file,
         Err(ended) => return Err(no_file(ended)),
     };
-    put_file(out, &mut disk, blocks.as_slice(), file.last, form)?;
+    put_file(out, &disk, blocks.as_slice(), file.last, form)?;
     flush(out)?;
     ended(&mut disk, &file)
 }

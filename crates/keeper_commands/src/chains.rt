@@ -13,7 +13,7 @@ ghost use Rattle.keeper_commands.specs.declared.forms.ByteForm.TheVariants as fo
 use crate::forms::ByteForm;
 use arrayvec::ArrayVec;
 use command_faults::{CommandFault, put};
-use d64_image::{MemDisk, Place, Sectors};
+use d64_image::{MemDisk, Place};
 use line_text::{CharacterSet, Readable};
 use std::alloc::Global;
 use std::io::{self, Write};
@@ -54,39 +54,35 @@ fn put_as<W: Write>(out: &mut W, form: ByteForm, bytes: &[u8]) -> Result<(), Com
     }
 }
 
-/// Prints the bytes of a block up to the one with this index. A disk in memory gives every block.
+/// Prints the bytes of a block up to the one with this index.
 fn put_block<W: Write>(
     out: &mut W,
-    disk: &mut MemDisk,
+    disk: &MemDisk,
     place: Place,
     last: u8,
     form: ByteForm,
 ) -> Result<(), CommandFault>
     ensures ok { OnOk result (Appends (W.contents out.old) (W.contents out.new)
-        (bytes_as form (take (max last 1 - 1) (drop 2 (sector (disk_image disk.old) place))))) }
+        (bytes_as form (take (max last 1 - 1) (drop 2 (sector (disk_image disk.now) place))))) }
     ensures part { OnErr result (HandsPart (W.contents out.old) (W.contents out.new)
-        (bytes_as form (take (max last 1 - 1) (drop 2 (sector (disk_image disk.old) place))))) }
-    ensures same { disk_image disk.new ≡ disk_image disk.old }
+        (bytes_as form (take (max last 1 - 1) (drop 2 (sector (disk_image disk.now) place))))) }
     ensures err { IfErr result (λ fault. fault ≡ faults.File) }
 {
-    let mut bytes = [0; 256];
-    let _ = disk.read(place, &mut bytes);
     let end = (last as usize).max(1) + 1;
-    put_as(out, form, &bytes[2..end])
+    put_as(out, form, &disk.sector(place)[2..end])
 }
 
 /// Prints the bytes of blocks that others follow.
 fn put_blocks<W: Write>(
     out: &mut W,
-    disk: &mut MemDisk,
+    disk: &MemDisk,
     places: &[Place],
     form: ByteForm,
 ) -> Result<(), CommandFault>
     ensures ok { OnOk result (Appends (W.contents out.old) (W.contents out.new)
-        (bytes_as form (joined (disk_image disk.old) places.now))) }
+        (bytes_as form (joined (disk_image disk.now) places.now))) }
     ensures part { OnErr result (HandsPart (W.contents out.old) (W.contents out.new)
-        (bytes_as form (joined (disk_image disk.old) places.now))) }
-    ensures same { disk_image disk.new ≡ disk_image disk.old }
+        (bytes_as form (joined (disk_image disk.now) places.now))) }
     ensures err { IfErr result (λ fault. fault ≡ faults.File) }
 {
     for &place in places {
@@ -99,16 +95,15 @@ fn put_blocks<W: Write>(
 /// one 254. `File` if the output failed: then it has a first part of what is printed.
 pub fn put_file<W: Write>(
     out: &mut W,
-    disk: &mut MemDisk,
+    disk: &MemDisk,
     blocks: &[Place],
     last: u8,
     form: ByteForm,
 ) -> Result<(), CommandFault>
     ensures ok { OnOk result (Appends (W.contents out.old) (W.contents out.new)
-        (bytes_as form (file_bytes (disk_image disk.old) blocks.now last))) }
+        (bytes_as form (file_bytes (disk_image disk.now) blocks.now last))) }
     ensures part { OnErr result (HandsPart (W.contents out.old) (W.contents out.new)
-        (bytes_as form (file_bytes (disk_image disk.old) blocks.now last))) }
-    ensures same { disk_image disk.new ≡ disk_image disk.old }
+        (bytes_as form (file_bytes (disk_image disk.now) blocks.now last))) }
     ensures err { IfErr result (λ fault. fault ≡ faults.File) }
 {
     match blocks {
@@ -123,14 +118,13 @@ pub fn put_file<W: Write>(
 /// The bytes of a file with these blocks, up to the index `last` of the last one. `NoMemory` if there was none for them.
 pub fn read_file(
     alloc: Global,
-    disk: &mut MemDisk,
+    disk: &MemDisk,
     blocks: &[Place],
     last: u8,
 ) -> Result<Vec<u8>, CommandFault>
     requires { length blocks.now ≤ 720 }
-    ensures ok { IfOk result (λ bytes. bytes.items ≡ file_bytes (disk_image disk.old) blocks.now last) }
+    ensures ok { IfOk result (λ bytes. bytes.items ≡ file_bytes (disk_image disk.now) blocks.now last) }
     ensures err { IfErr result (λ fault. fault ≡ faults.NoMemory) }
-    ensures same { disk_image disk.new ≡ disk_image disk.old }
 {
     let Ok(mut bytes) = Vec::with_capacity(alloc, 254 * blocks.len()) else {
         return Err(CommandFault::NoMemory);

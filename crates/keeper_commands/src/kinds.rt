@@ -6,7 +6,7 @@ ghost use Rattle.disk_layout.specs.Directory.{map_place};
 ghost use Rattle.keeper_commands.specs.Kinds.{HasFormatByte, HasGeosSign, IsKindFault, IsPlainDisk};
 
 use command_faults::CommandFault;
-use d64_image::{MemDisk, Sectors};
+use d64_image::MemDisk;
 use disk_layout::map_place;
 
 /// GEOS's signature, from byte 173 of 18/0 on, up to the version's number.
@@ -20,14 +20,12 @@ fn has_geos_sign(bytes: &[u8; 256]) -> bool
 }
 
 /// Checks by 18/0 whether the disk is one of the 1541, and none of GEOS: `Geos` or `Format` if it isn't.
-pub(crate) fn judge_kind(disk: &mut MemDisk) -> Result<(), CommandFault>
-    ensures plain { OnOk result (IsPlainDisk (sector (disk_image disk.old) map_place)) }
-    ensures other { IfErr result (IsKindFault (sector (disk_image disk.old) map_place)) }
-    ensures same { disk_image disk.new ≡ disk_image disk.old }
+pub(crate) fn judge_kind(disk: &MemDisk) -> Result<(), CommandFault>
+    ensures plain { OnOk result (IsPlainDisk (sector (disk_image disk.now) map_place)) }
+    ensures other { IfErr result (IsKindFault (sector (disk_image disk.now) map_place)) }
 {
-    let mut bytes = [0; 256];
-    let _ = disk.read(map_place(), &mut bytes);
-    if has_geos_sign(&bytes) {
+    let bytes = disk.sector(map_place());
+    if has_geos_sign(bytes) {
         return Err(CommandFault::Geos);
     }
     if bytes[2] != b'A' {

@@ -1,22 +1,22 @@
 //! The repair of a disk, and what is printed of it.
-ghost use Rattle.std.specs.Prelude.{◌≡◌, ◌++◌, IfErr, IfOk, OnErr, OnOk, Some, codes};
+ghost use Rattle.std.specs.Prelude.{◌≡◌, ◌++◌, IfErr, IfOk, OnErr, OnOk, codes, flat_map};
 ghost use Rattle.std.specs.Io.KnownBytes.{Appends};
 ghost use Rattle.d64_image.specs.History.{WritesNothing};
 ghost use Rattle.d64_image.specs.Images.{sector};
 ghost use Rattle.d64_image.specs.Memory.{disk_image, sectors_in};
-ghost use Rattle.d64_image.specs.Places.{place_at};
+ghost use Rattle.d64_image.specs.Places.{places};
 ghost use Rattle.disk_layout.specs.Directory.{map_place};
 ghost use Rattle.disk_layout.specs.Texts.{place_text};
 ghost use Rattle.command_faults.specs.Outputs.{HandsPart};
 ghost use Rattle.keeper_commands.specs.Repairs.{IsRepairDone, IsRepairFault, IsRepairPart, MendsAs, TellsKeep, changed_text, freed_at};
-ghost use Rattle.keeper_commands.specs.Repairs.{is_freed as freed, mended_at, mended_on, mended_text, repair_fault};
-ghost use Rattle.keeper_commands.specs.Repairs.{kept_text, up_to};
+ghost use Rattle.keeper_commands.specs.Repairs.{is_freed as freed, mended_at, mended_text, repair_fault};
+ghost use Rattle.keeper_commands.specs.Repairs.{kept_text};
 ghost use Rattle.command_faults.specs.declared.faults.CommandFault.TheVariants as faults;
 
 use crate::kinds::judge_kind;
 use arrayvec::ArrayVec;
 use command_faults::{CommandFault, flush, load, put};
-use d64_image::{MemDisk, Place, Sectors, TRACK_SECTORS, TRACKS};
+use d64_image::{MemDisk, Place, SECTORS, Sectors};
 use disk_layout::{BamView, Fault, map_place};
 use layout_check::{repair, repair_keeping};
 use std::alloc::Global;
@@ -33,18 +33,17 @@ struct Maps {
 }
 
 /// The maps of the two disks. `Device` if the second couldn't be read.
-fn maps_of<D: Sectors>(before: &mut MemDisk, after: &mut D) -> Result<Maps, CommandFault>
-    ensures ok { IfOk result (λ maps. (maps.had ≡ sector (disk_image before.old) map_place)
+fn maps_of<D: Sectors>(before: &MemDisk, after: &mut D) -> Result<Maps, CommandFault>
+    ensures ok { IfOk result (λ maps. (maps.had ≡ sector (disk_image before.now) map_place)
         × (maps.has ≡ sector (D.history.image after.old) map_place)) }
-    ensures same { disk_image before.new ≡ disk_image before.old }
     ensures quiet { WritesNothing D.history after.old after.new }
     ensures told { TellsKeep D.history after.old after.new result }
 {
-    let (mut had, mut has) = ([0; 256], [0; 256]);
-    let _ = before.read(map_place(), &mut had);
+    let mut has = [0; 256];
     if after.read(map_place(), &mut has).is_err() {
         return Err(CommandFault::Device);
     }
+    let had = *before.sector(map_place());
     Ok(Maps { had, has })
 }
 
@@ -96,94 +95,44 @@ fn put_freed<W: Write>(out: &mut W, maps: &Maps, place: Place) -> Result<(), Com
 /// Prints the line of a sector, if the two disks differ in it, or if it became free.
 fn put_place<D: Sectors, W: Write>(
     out: &mut W,
-    before: &mut MemDisk,
+    before: &MemDisk,
     after: &mut D,
     maps: &Maps,
     place: Place,
 ) -> Result<(), CommandFault>
     ensures ok { OnOk result (Appends (W.contents out.old) (W.contents out.new)
-        (mended_at (disk_image before.old) (D.history.image after.old) maps.now.had maps.now.has (Some place))) }
+        (mended_at (disk_image before.now) (D.history.image after.old) maps.now.had maps.now.has place)) }
     ensures part { OnErr result (HandsPart (W.contents out.old) (W.contents out.new)
-        (mended_at (disk_image before.old) (D.history.image after.old) maps.now.had maps.now.has (Some place))) }
-    ensures same { disk_image before.new ≡ disk_image before.old }
+        (mended_at (disk_image before.now) (D.history.image after.old) maps.now.had maps.now.has place)) }
     ensures quiet { WritesNothing D.history after.old after.new }
     ensures told { TellsKeep D.history after.old after.new result }
 {
-    let (mut old, mut new) = ([0; 256], [0; 256]);
-    let _ = before.read(place, &mut old);
+    let mut new = [0; 256];
     if after.read(place, &mut new).is_err() {
         return Err(CommandFault::Device);
     }
-    if old == new {
+    if *before.sector(place) == new {
         return put_freed(out, maps, place);
     }
     put_about(out, "MENDED", place)
 }
 
-/// Prints the line of a sector, if there is such a sector.
-fn put_sector<D: Sectors, W: Write>(
-    out: &mut W,
-    before: &mut MemDisk,
-    after: &mut D,
-    maps: &Maps,
-    track: u8,
-    sector: u8,
-) -> Result<(), CommandFault>
-    ensures ok { OnOk result (Appends (W.contents out.old) (W.contents out.new)
-        (mended_at (disk_image before.old) (D.history.image after.old) maps.now.had maps.now.has
-        (place_at track sector))) }
-    ensures part { OnErr result (HandsPart (W.contents out.old) (W.contents out.new)
-        (mended_at (disk_image before.old) (D.history.image after.old) maps.now.had maps.now.has
-        (place_at track sector))) }
-    ensures same { disk_image before.new ≡ disk_image before.old }
-    ensures quiet { WritesNothing D.history after.old after.new }
-    ensures told { TellsKeep D.history after.old after.new result }
-{
-    match Place::new(track, sector) {
-        Some(place) => put_place(out, before, after, maps, place),
-        None => Ok(()),
-    }
-}
-
-/// Prints the lines of a track.
-fn put_track<D: Sectors, W: Write>(
-    out: &mut W,
-    before: &mut MemDisk,
-    after: &mut D,
-    maps: &Maps,
-    track: u8,
-) -> Result<(), CommandFault>
-    ensures ok { OnOk result (Appends (W.contents out.old) (W.contents out.new)
-        (mended_on (disk_image before.old) (D.history.image after.old) maps.now.had maps.now.has track)) }
-    ensures part { OnErr result (HandsPart (W.contents out.old) (W.contents out.new)
-        (mended_on (disk_image before.old) (D.history.image after.old) maps.now.had maps.now.has track)) }
-    ensures same { disk_image before.new ≡ disk_image before.old }
-    ensures quiet { WritesNothing D.history after.old after.new }
-    ensures told { TellsKeep D.history after.old after.new result }
-{
-    for sector in 0..TRACK_SECTORS {
-        put_sector(out, before, after, maps, track, sector)?;
-    }
-    Ok(())
-}
-
 /// Prints a line for each sector that the two disks have otherwise or that became free, by track and sector.
-fn put_tracks<D: Sectors, W: Write>(
+fn put_places<D: Sectors, W: Write>(
     out: &mut W,
-    before: &mut MemDisk,
+    before: &MemDisk,
     after: &mut D,
     maps: &Maps,
 ) -> Result<(), CommandFault>
-    ensures ok { OnOk result (Appends (W.contents out.old) (W.contents out.new)
-        (up_to 35 (mended_on (disk_image before.old) (D.history.image after.old) maps.now.had maps.now.has))) }
-    ensures part { OnErr result (HandsPart (W.contents out.old) (W.contents out.new)
-        (up_to 35 (mended_on (disk_image before.old) (D.history.image after.old) maps.now.had maps.now.has))) }
-    ensures same { disk_image before.new ≡ disk_image before.old }
+    ensures ok { OnOk result (Appends (W.contents out.old) (W.contents out.new) (flat_map
+        (mended_at (disk_image before.now) (D.history.image after.old) maps.now.had maps.now.has) places)) }
+    ensures part { OnErr result (HandsPart (W.contents out.old) (W.contents out.new) (flat_map
+        (mended_at (disk_image before.now) (D.history.image after.old) maps.now.had maps.now.has) places)) }
     ensures quiet { WritesNothing D.history after.old after.new }
     ensures told { TellsKeep D.history after.old after.new result }
 {
-    for below in 0..TRACKS {
-        put_track(out, before, after, maps, below + 1)?;
+    for index in 0..SECTORS {
+        put_place(out, before, after, maps, Place::nth(index))?;
     }
     Ok(())
 }
@@ -207,31 +156,31 @@ fn put_kept<W: Write>(out: &mut W, kept: u16) -> Result<(), CommandFault>
 /// Prints a line for each sector that the two disks have otherwise or that became free by their maps.
 pub(crate) fn put_changed<D: Sectors, W: Write>(
     out: &mut W,
-    before: &mut MemDisk,
+    before: &MemDisk,
     after: &mut D,
 ) -> Result<(), CommandFault>
     ensures ok { OnOk result (Appends (W.contents out.old) (W.contents out.new)
-        (changed_text (disk_image before.old) (D.history.image after.old))) }
+        (changed_text (disk_image before.now) (D.history.image after.old))) }
     ensures part { OnErr result (HandsPart (W.contents out.old) (W.contents out.new)
-        (changed_text (disk_image before.old) (D.history.image after.old))) }
+        (changed_text (disk_image before.now) (D.history.image after.old))) }
     ensures quiet { WritesNothing D.history after.old after.new }
     ensures told { TellsKeep D.history after.old after.new result }
 {
     let maps = maps_of(before, after)?;
-    put_tracks(out, before, after, &maps)
+    put_places(out, before, after, &maps)
 }
 
 /// Prints what was mended and what is left, and hands it over.
 fn put_mended<D: Sectors, W: Write>(
     out: &mut W,
-    before: &mut MemDisk,
+    before: &MemDisk,
     after: &mut D,
     kept: u16,
 ) -> Result<(), CommandFault>
     ensures ok { OnOk result (Appends (W.contents out.old) (W.contents out.new)
-        (mended_text (disk_image before.old) (D.history.image after.old) kept)) }
+        (mended_text (disk_image before.now) (D.history.image after.old) kept)) }
     ensures part { OnErr result (HandsPart (W.contents out.old) (W.contents out.new)
-        (mended_text (disk_image before.old) (D.history.image after.old) kept)) }
+        (mended_text (disk_image before.now) (D.history.image after.old) kept)) }
     ensures quiet { WritesNothing D.history after.old after.new }
     ensures told { TellsKeep D.history after.old after.new result }
 {
@@ -288,11 +237,11 @@ pub fn repair_image<D: Sectors, W: Write>(
     ensures part { OnErr result
         (IsRepairPart free D.history W.contents image.now disk.old disk.new out.old out.new) }
 {
-    let mut before = load(alloc, image)?;
-    judge_kind(&mut before)?;
+    let before = load(alloc, image)?;
+    judge_kind(&before)?;
     match mended(disk, free) {
         Err(fault) => Err(refusal(fault)),
-        Ok(kept) => match put_mended(out, &mut before, disk, kept) {
+        Ok(kept) => match put_mended(out, &before, disk, kept) {
             Err(fault) => Err(fault),
             Ok(()) => Ok(kept),
         },

@@ -27,7 +27,7 @@ use std::io::Write;
 /// nothing was printed.
 pub(crate) fn put_reached<W: Write>(
     alloc: Global,
-    disk: &mut MemDisk,
+    disk: &MemDisk,
     file: FoundFile,
     blocks: &[Place],
     form: RecordForm,
@@ -36,11 +36,10 @@ pub(crate) fn put_reached<W: Write>(
     requires records { IsTrue (has_records file.slot) }
     requires few { length blocks.now ≤ 720 }
     ensures ok { OnOk result (Appends (W.contents out.old) (W.contents out.new)
-        (records_as form (records_of (record_length file.slot) (file_bytes (disk_image disk.old) blocks.now file.last)))) }
+        (records_as form (records_of (record_length file.slot) (file_bytes (disk_image disk.now) blocks.now file.last)))) }
     ensures part { OnErr result (HandsPart (W.contents out.old) (W.contents out.new)
-        (records_as form (records_of (record_length file.slot) (file_bytes (disk_image disk.old) blocks.now file.last)))) }
+        (records_as form (records_of (record_length file.slot) (file_bytes (disk_image disk.now) blocks.now file.last)))) }
     ensures err { IfErr result (λ fault. (fault ≡ faults.File) ⊎ ((fault ≡ faults.NoMemory) × (out.new ≡ out.old))) }
-    ensures same { disk_image disk.new ≡ disk_image disk.old }
 {
     let bytes = read_file(alloc, disk, blocks, file.last)?;
     let size = EntryView::new(&file.slot.bytes).record_length() as usize;

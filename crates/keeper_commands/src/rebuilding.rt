@@ -35,10 +35,10 @@ pub fn rebuild_image<D: Sectors, W: Write>(
     ensures part { OnErr result (IsRebuildPart D.history W.contents image.now disk.old disk.new out.old out.new) }
 {
     let mut before = load(alloc, image)?;
-    judge_kind(&mut before)?;
+    judge_kind(&before)?;
     let mut after = load(alloc, image)?;
     match rebuild_sides(&mut before, &mut after, shortened, disk) {
         Err(fault) => Err(refusal(fault)),
-        Ok(()) => put_changed(out, &mut before, disk),
+        Ok(()) => put_changed(out, &before, disk),
     }
 }

@@ -8,7 +8,6 @@ ghost use Rattle.damaged_files.specs.cut.Cut.{HasStray};
 ghost use Rattle.disk_layout.specs.Listed.{HasStock};
 ghost use Rattle.damaged_files.specs.cut.Told.{IsAsked, IsToldOf, IsToldOfDisk};
 
-use crate::cut::listed::bytes_at;
 use crate::cut::names::has_stock;
 use crate::cut::strays::has_stray;
 use crate::cut::tails::{Facts, cut_of};
@@ -66,7 +65,7 @@ pub fn find_cut(disk: &mut MemDisk, entry: Option<usize>) -> Result<Option<Place
     let mut slots = ArrayVec::new();
     read_directory(disk, &mut slots)?;
     let facts = Facts {
-        strays: has_stray(&bytes_at(disk, map_place()), &found),
+        strays: has_stray(disk.sector(map_place()), &found),
         shop: has_stock(slots.as_slice()),
     };
     Ok(first_cut(disk, slots.as_slice(), entry, facts))

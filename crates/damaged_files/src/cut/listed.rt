@@ -8,19 +8,8 @@ ghost use Rattle.disk_layout.specs.Layout.{File, IsRelFile};
 ghost use Rattle.damaged_files.specs.cut.Cut.{IsListedPast};
 ghost use Rattle.disk_layout.specs.Listed.{EndsBy, ListsOne, ListsWell};
 
-use d64_image::{MemDisk, Place, Sectors};
+use d64_image::MemDisk;
 use disk_layout::{EntryView, POINTERS, SideView, Slot};
-
-/// The bytes of a sector.
-pub(crate) fn bytes_at(disk: &mut MemDisk, place: Place) -> [u8; 256]
-    ensures bytes { result ≡ sector (disk_image disk.old) place }
-    ensures same { disk_image disk.new ≡ disk_image disk.old }
-{
-    let mut bytes = [0; 256];
-    // a disk in memory never fails
-    let _ = disk.read(place, &mut bytes);
-    bytes
-}
 
 /// Whether a side sector points to no data block from this number on.
 fn points_below(bytes: &[u8; 256], count: usize) -> bool
@@ -50,23 +39,21 @@ fn lists_one(bytes: &[u8; 256]) -> bool
 }
 
 /// Whether the side sector after one with these bytes points to one data block, and is the last.
-fn lists_one_behind(disk: &mut MemDisk, bytes: &[u8; 256]) -> bool
-    ensures told { IsTrue result ↔ ((q : Place) × (named_at bytes.now 0 ≡ Some q)
-        × ListsOne (sector (disk_image disk.old) q)) }
-    ensures same { disk_image disk.new ≡ disk_image disk.old }
+fn lists_one_behind(disk: &MemDisk, bytes: &[u8; 256]) -> bool
+    ensures { IsTrue result ↔ ((q : Place) × (named_at bytes.now 0 ≡ Some q)
+        × ListsOne (sector (disk_image disk.now) q)) }
 {
     match SideView::new(bytes).next() {
-        Some(next) => lists_one(&bytes_at(disk, next)),
+        Some(next) => lists_one(disk.sector(next)),
         None => false,
     }
 }
 
 /// Whether at most one data block is listed past a chain, and none if its file never grows. The bytes are those of the
 /// side sector that points to the last blocks of the chain, `used` of them.
-fn lists_well(disk: &mut MemDisk, bytes: &[u8; 256], used: usize, never_grows: bool) -> bool
+fn lists_well(disk: &MemDisk, bytes: &[u8; 256], used: usize, never_grows: bool) -> bool
     requires { used ≤ 120 }
-    ensures told { IsTrue result ↔ ListsWell (disk_image disk.old) (IsTrue never_grows) bytes.now used }
-    ensures same { disk_image disk.new ≡ disk_image disk.old }
+    ensures { IsTrue result ↔ ListsWell (disk_image disk.now) (IsTrue never_grows) bytes.now used }
 {
     if ends_by(bytes, used) {
         return true;
@@ -81,31 +68,23 @@ fn lists_well(disk: &mut MemDisk, bytes: &[u8; 256], used: usize, never_grows: b
 }
 
 /// The bytes of side sector `number` of a relative file of a sound disk, as the first one lists it.
-fn side_at(disk: &mut MemDisk, slot: &Slot, number: usize) -> Option<[u8; 256]>
+fn side_at(disk: &MemDisk, slot: &Slot, number: usize) -> Option<[u8; 256]>
     requires { number < 6 }
-    ensures told { (f : File) (q : Place) → IsRelFile (disk_image disk.old) f → f.slot ≡ slot.now
-        → slice_get f.sides number ≡ Some q → result ≡ Some (sector (disk_image disk.old) q) }
-    ensures same { disk_image disk.new ≡ disk_image disk.old }
+    ensures { (f : File) (q : Place) → IsRelFile (disk_image disk.now) f → f.slot ≡ slot.now
+        → slice_get f.sides number ≡ Some q → result ≡ Some (sector (disk_image disk.now) q) }
 {
     let first = EntryView::new(&slot.bytes).first_side()?;
-    let bytes = bytes_at(disk, first);
-    let place = SideView::new(&bytes).side(number)?;
-    Some(bytes_at(disk, place))
+    let place = SideView::new(disk.sector(first)).side(number)?;
+    Some(*disk.sector(place))
 }
 
 /// Whether the side sectors of a relative file of a sound disk list more than they may. `blocks` is the length of its
 /// chain.
-pub(crate) fn is_listed_past(
-    disk: &mut MemDisk,
-    slot: &Slot,
-    blocks: usize,
-    never_grows: bool,
-) -> bool
+pub(crate) fn is_listed_past(disk: &MemDisk, slot: &Slot, blocks: usize, never_grows: bool) -> bool
     requires some { 1 ≤ blocks }
     requires few { blocks ≤ 720 }
-    ensures told { (f : File) → IsRelFile (disk_image disk.old) f → f.slot ≡ slot.now → length f.blocks ≡ blocks
-        → (IsTrue result ↔ IsListedPast (disk_image disk.old) (IsTrue never_grows) f) }
-    ensures same { disk_image disk.new ≡ disk_image disk.old }
+    ensures { (f : File) → IsRelFile (disk_image disk.now) f → f.slot ≡ slot.now → length f.blocks ≡ blocks
+        → (IsTrue result ↔ IsListedPast (disk_image disk.now) (IsTrue never_grows) f) }
 {
     match side_at(disk, slot, (blocks - 1) / POINTERS) {
         Some(bytes) => !lists_well(disk, &bytes, (blocks - 1) % POINTERS + 1, never_grows),

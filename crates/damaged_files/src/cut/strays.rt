@@ -6,7 +6,7 @@ ghost use Rattle.disk_layout.specs.Layout.{Layout, owners};
 ghost use Rattle.disk_layout.specs.Map.{IsFree};
 ghost use Rattle.layout_check.specs.Survey.{IsSurveyOf};
 
-use d64_image::{Place, TRACK_SECTORS, TRACKS};
+use d64_image::{Place, SECTORS};
 use disk_layout::BamView;
 use layout_check::Survey;
 
@@ -18,29 +18,13 @@ fn is_stray(map: &[u8; 256], found: &Survey, place: Place) -> bool
     !BamView::new(map).is_free(place) && !found.is_owned(place)
 }
 
-/// Whether a track has such a sector.
-fn has_stray_on(map: &[u8; 256], found: &Survey, track: u8) -> bool
-    ensures { (l : Layout) → IsSurveyOf l found.now
-        → (IsTrue result ↔ ((p : Place) × (p.track ≡ track) × ¬ (IsFree map.now p)
-        × ¬ (Contains (map_place ∷ owners l) p))) }
-{
-    for sector in 0..TRACK_SECTORS {
-        if let Some(place) = Place::new(track, sector) {
-            if is_stray(map, found, place) {
-                return true;
-            }
-        }
-    }
-    false
-}
-
 /// Whether the disk has such a sector.
 pub(crate) fn has_stray(map: &[u8; 256], found: &Survey) -> bool
     ensures { (l : Layout) → IsSurveyOf l found.now
         → (IsTrue result ↔ ((p : Place) × ¬ (IsFree map.now p) × ¬ (Contains (map_place ∷ owners l) p))) }
 {
-    for below in 0..TRACKS {
-        if has_stray_on(map, found, below + 1) {
+    for index in 0..SECTORS {
+        if is_stray(map, found, Place::nth(index)) {
             return true;
         }
     }

@@ -6,7 +6,7 @@ ghost use Rattle.d64_image.specs.declared.place.Place.{Place};
 ghost use Rattle.disk_layout.specs.Layout.{File, IsFile, count_field};
 ghost use Rattle.damaged_files.specs.cut.Cut.{IsCutIn, IsShort};
 
-use crate::cut::listed::{bytes_at, is_listed_past};
+use crate::cut::listed::is_listed_past;
 use crate::cut::names::{is_plain, never_grows};
 use arrayvec::ArrayVec;
 use d64_image::{MemDisk, Place};
@@ -57,20 +57,18 @@ fn counts_more(slot: &Slot, blocks: usize) -> bool
 }
 
 /// Whether the sector holds nothing but zeros.
-fn is_blank(disk: &mut MemDisk, place: Place) -> bool
-    ensures told { IsTrue result ↔ (sector (disk_image disk.old) place ≡ replicate 256 0) }
-    ensures same { disk_image disk.new ≡ disk_image disk.old }
+fn is_blank(disk: &MemDisk, place: Place) -> bool
+    ensures { IsTrue result ↔ (sector (disk_image disk.now) place ≡ replicate 256 0) }
 {
-    bytes_at(disk, place) == [0; 256]
+    *disk.sector(place) == [0; 256]
 }
 
 /// Whether the chain of an entry of a sound disk, with this end, is too short.
-fn is_short(disk: &mut MemDisk, slot: &Slot, tail: Tail, facts: Facts) -> bool
+fn is_short(disk: &MemDisk, slot: &Slot, tail: Tail, facts: Facts) -> bool
     requires some { 1 ≤ tail.blocks }
     requires few { tail.blocks ≤ 720 }
-    ensures told { (f : File) → IsFile (disk_image disk.old) f → f.slot ≡ slot.now → length f.blocks ≡ tail.blocks
-        → (IsTrue result ↔ IsShort (disk_image disk.old) (IsTrue facts.strays) (IsTrue facts.shop) f tail.place) }
-    ensures same { disk_image disk.new ≡ disk_image disk.old }
+    ensures { (f : File) → IsFile (disk_image disk.now) f → f.slot ≡ slot.now → length f.blocks ≡ tail.blocks
+        → (IsTrue result ↔ IsShort (disk_image disk.now) (IsTrue facts.strays) (IsTrue facts.shop) f tail.place) }
 {
     if EntryView::new(&slot.bytes).is_relative() {
         return is_listed_past(disk, slot, tail.blocks, never_grows(slot, facts.shop))

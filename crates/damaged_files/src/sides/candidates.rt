@@ -1,9 +1,7 @@
 //! Places for the side sectors of one file, and whether the file is shorter than it was.
 ghost use Rattle.std.specs.Prelude.{◌≡◌, ◌≤◌, length};
-ghost use Rattle.d64_image.specs.Memory.{disk_image};
 
 use crate::sides::readable::{find_readable, lists_more, sides_needed};
-use crate::sides::sectors::bytes_at;
 use crate::sides::taken::contains;
 use arrayvec::ArrayVec;
 use d64_image::{MemDisk, Place};
@@ -20,18 +18,17 @@ fn first_free(map: &[u8; 256], unowned: &[Place], chosen: &[Place]) -> Option<Pl
 }
 
 /// The bytes of the first side sector of a file that can be read.
-fn first_readable(
-    disk: &mut MemDisk,
+fn first_readable<'d>(
+    disk: &'d MemDisk,
     unowned: &[Place],
     slot: &Slot,
     blocks: &[Place],
-) -> Option<[u8; 256]>
+) -> Option<&'d [u8; 256]>
     requires { length blocks.now ≤ 720 }
-    ensures same { disk_image disk.new ≡ disk_image disk.old }
 {
     for number in 0..sides_needed(blocks.len()) {
         if let Some(place) = find_readable(disk, unowned, slot, blocks, number) {
-            return Some(bytes_at(disk, place));
+            return Some(disk.sector(place));
         }
     }
     None
@@ -50,7 +47,7 @@ fn if_unowned(unowned: &[Place], chosen: &[Place], place: Option<Place>) -> Opti
 /// A place for the next side sector of a file. The entry names the place of the first one. Otherwise it is where the side
 /// sector can be read; where `list`, the bytes of another side sector, lists it; or where the map calls a sector free.
 fn choose_place(
-    disk: &mut MemDisk,
+    disk: &MemDisk,
     unowned: &[Place],
     slot: &Slot,
     blocks: &[Place],
@@ -58,7 +55,6 @@ fn choose_place(
     chosen: &[Place],
 ) -> Option<Place>
     requires { length chosen.now ≤ 5 }
-    ensures same { disk_image disk.new ≡ disk_image disk.old }
 {
     let number = chosen.len();
     if number == 0 {
@@ -74,24 +70,23 @@ fn choose_place(
             return Some(place);
         }
     }
-    first_free(&bytes_at(disk, map_place()), unowned, chosen)
+    first_free(disk.sector(map_place()), unowned, chosen)
 }
 
 /// Fills `sides` with places for the side sectors of a file with these blocks. False if there aren't enough.
 pub(crate) fn choose_places(
-    disk: &mut MemDisk,
+    disk: &MemDisk,
     unowned: &[Place],
     slot: &Slot,
     blocks: &[Place],
     sides: &mut ArrayVec<Place, MOST_SIDES>,
 ) -> bool
     requires { length blocks.now ≤ 720 }
-    ensures same { disk_image disk.new ≡ disk_image disk.old }
 {
     sides.clear();
     let list = first_readable(disk, unowned, slot, blocks);
     for _number in 0..sides_needed(blocks.len()) {
-        match choose_place(disk, unowned, slot, blocks, list.as_ref(), sides.as_slice()) {
+        match choose_place(disk, unowned, slot, blocks, list, sides.as_slice()) {
             Some(place) => sides.push(place),
             None => return false,
         }
@@ -101,14 +96,8 @@ pub(crate) fn choose_places(
 
 /// Whether a file with these blocks had more: a side sector of it that can be read lists two more, or its last block holds
 /// nothing but zeros. Another sign is a block count greater than one block more needs.
-pub(crate) fn is_shortened(
-    disk: &mut MemDisk,
-    unowned: &[Place],
-    slot: &Slot,
-    blocks: &[Place],
-) -> bool
+pub(crate) fn is_shortened(disk: &MemDisk, unowned: &[Place], slot: &Slot, blocks: &[Place]) -> bool
     requires { length blocks.now ≤ 720 }
-    ensures same { disk_image disk.new ≡ disk_image disk.old }
 {
     let count = blocks.len();
     let counted = EntryView::new(&slot.bytes).block_count() as usize;
@@ -117,14 +106,13 @@ pub(crate) fn is_shortened(
     }
     for number in 0..sides_needed(count) {
         if let Some(place) = find_readable(disk, unowned, slot, blocks, number) {
-            let bytes = bytes_at(disk, place);
-            if lists_more(disk, &bytes, number, count) {
+            if lists_more(disk, disk.sector(place), number, count) {
                 return true;
             }
         }
     }
     match blocks.last() {
-        Some(&last) => bytes_at(disk, last) == [0; 256],
+        Some(&last) => *disk.sector(last) == [0; 256],
         None => false,
     }
 }

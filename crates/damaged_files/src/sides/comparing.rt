@@ -12,13 +12,12 @@ use disk_layout::{EntryView, MOST_BLOCKS, Slot, read_directory, walk_chain};
 
 /// Whether the chain that an entry has on the second disk is the same on both, with all bytes. `blocks` is room for it.
 fn keeps_chain(
-    before: &mut MemDisk,
+    before: &MemDisk,
     after: &mut MemDisk,
     slot: &Slot,
     blocks: &mut ArrayVec<Place, MOST_BLOCKS>,
 ) -> bool
-    ensures told { IsTrue result → SameChain (disk_image before.old) (disk_image after.old) slot.now }
-    ensures before { disk_image before.new ≡ disk_image before.old }
+    ensures told { IsTrue result → SameChain (disk_image before.now) (disk_image after.old) slot.now }
     ensures after { disk_image after.new ≡ disk_image after.old }
 {
     let Some(first) = EntryView::new(&slot.bytes).first_block() else {
@@ -28,10 +27,9 @@ fn keeps_chain(
 }
 
 /// Whether the chain of each of these entries is the same on both disks.
-fn keeps_each(before: &mut MemDisk, after: &mut MemDisk, slots: &[Slot]) -> bool
+fn keeps_each(before: &MemDisk, after: &mut MemDisk, slots: &[Slot]) -> bool
     ensures told { IsTrue result → (s : entries.Slot) → Contains slots.now s
-        → SameChain (disk_image before.old) (disk_image after.old) s }
-    ensures before { disk_image before.new ≡ disk_image before.old }
+        → SameChain (disk_image before.now) (disk_image after.old) s }
     ensures after { disk_image after.new ≡ disk_image after.old }
 {
     let mut blocks = ArrayVec::new();
@@ -44,10 +42,9 @@ fn keeps_each(before: &mut MemDisk, after: &mut MemDisk, slots: &[Slot]) -> bool
 }
 
 /// Whether the chains of all entries of the second disk are the same on both, with all bytes.
-pub(crate) fn keeps_chains(before: &mut MemDisk, after: &mut MemDisk) -> bool
+pub(crate) fn keeps_chains(before: &MemDisk, after: &mut MemDisk) -> bool
     ensures told { IsTrue result → (l : Layout) → IsLayout (disk_image after.old) l → (f : File) → Contains l.files f
-        → SameChain (disk_image before.old) (disk_image after.old) f.slot }
-    ensures before { disk_image before.new ≡ disk_image before.old }
+        → SameChain (disk_image before.now) (disk_image after.old) f.slot }
     ensures after { disk_image after.new ≡ disk_image after.old }
 {
     let mut slots = ArrayVec::new();

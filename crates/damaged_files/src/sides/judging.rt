@@ -9,46 +9,25 @@ ghost use Rattle.damaged_files.specs.sides.Rebuilt.{IsRebuilt};
 
 use crate::sides::comparing::keeps_chains;
 use crate::sides::sectors::is_same;
-use d64_image::{MemDisk, Place, TRACK_SECTORS, TRACKS};
+use d64_image::{MemDisk, Place, SECTORS};
 use disk_layout::DIRECTORY_TRACK;
 use layout_check::{Survey, survey};
 
 /// Whether the two disks have the same bytes at the place, or it is outside track 18 and somebody's in the survey.
-fn is_same_or_owned(before: &mut MemDisk, after: &mut MemDisk, found: &Survey, place: Place) -> bool
-    ensures told { IsTrue result → (l : Layout) → IsSurveyOf l found.now
-        → SameOrOwned (disk_image before.old) (disk_image after.old) l place }
-    ensures before { disk_image before.new ≡ disk_image before.old }
-    ensures after { disk_image after.new ≡ disk_image after.old }
+fn is_same_or_owned(before: &MemDisk, after: &MemDisk, found: &Survey, place: Place) -> bool
+    ensures { IsTrue result → (l : Layout) → IsSurveyOf l found.now
+        → SameOrOwned (disk_image before.now) (disk_image after.now) l place }
 {
     is_same(before, after, place) || (place.track() != DIRECTORY_TRACK && found.is_owned(place))
 }
 
-/// Whether that is so for each sector of a track.
-fn is_same_or_owned_on(before: &mut MemDisk, after: &mut MemDisk, found: &Survey, track: u8) -> bool
-    ensures told { IsTrue result → (l : Layout) → IsSurveyOf l found.now → (p : places.Place) → p.track ≡ track
-        → SameOrOwned (disk_image before.old) (disk_image after.old) l p }
-    ensures before { disk_image before.new ≡ disk_image before.old }
-    ensures after { disk_image after.new ≡ disk_image after.old }
-{
-    for sector in 0..TRACK_SECTORS {
-        if let Some(place) = Place::new(track, sector) {
-            if !is_same_or_owned(before, after, found, place) {
-                return false;
-            }
-        }
-    }
-    true
-}
-
 /// Whether that is so for each sector of the disk.
-fn changes_owned(before: &mut MemDisk, after: &mut MemDisk, found: &Survey) -> bool
-    ensures told { IsTrue result → (l : Layout) → IsSurveyOf l found.now → (p : places.Place)
-        → SameOrOwned (disk_image before.old) (disk_image after.old) l p }
-    ensures before { disk_image before.new ≡ disk_image before.old }
-    ensures after { disk_image after.new ≡ disk_image after.old }
+fn changes_owned(before: &MemDisk, after: &MemDisk, found: &Survey) -> bool
+    ensures { IsTrue result → (l : Layout) → IsSurveyOf l found.now → (p : places.Place)
+        → SameOrOwned (disk_image before.now) (disk_image after.now) l p }
 {
-    for below in 0..TRACKS {
-        if !is_same_or_owned_on(before, after, found, below + 1) {
+    for index in 0..SECTORS {
+        if !is_same_or_owned(before, after, found, Place::nth(index)) {
             return false;
         }
     }
@@ -56,9 +35,8 @@ fn changes_owned(before: &mut MemDisk, after: &mut MemDisk, found: &Survey) -> b
 }
 
 /// Whether the second disk is sound, and differs from the first in its side sectors at most.
-pub(crate) fn is_rebuilt(before: &mut MemDisk, after: &mut MemDisk) -> bool
-    ensures told { IsTrue result → IsRebuilt (disk_image before.old) (disk_image after.old) }
-    ensures before { disk_image before.new ≡ disk_image before.old }
+pub(crate) fn is_rebuilt(before: &MemDisk, after: &mut MemDisk) -> bool
+    ensures told { IsTrue result → IsRebuilt (disk_image before.now) (disk_image after.old) }
     ensures after { disk_image after.new ≡ disk_image after.old }
 {
     let Ok(found) = survey(after) else {

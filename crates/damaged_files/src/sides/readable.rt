@@ -1,9 +1,7 @@
 //! Side sectors that can still be read, and what they say of a file.
 ghost use Rattle.std.specs.Prelude.{◌≡◌, ◌≤◌, length};
-ghost use Rattle.d64_image.specs.Memory.{disk_image};
 ghost use Rattle.disk_layout.specs.Layout.{sides_for};
 
-use crate::sides::sectors::bytes_at;
 use arrayvec::ArrayVec;
 use d64_image::{MemDisk, Place};
 use disk_layout::{
@@ -38,7 +36,7 @@ fn has_fields(bytes: &[u8; 256], exact: &[u8; 256], used: usize) -> bool
 
 /// Whether the sector is side sector `number` of the file with these blocks, as far as a sound disk requires.
 fn is_side(
-    disk: &mut MemDisk,
+    disk: &MemDisk,
     slot: &Slot,
     blocks: &[Place],
     sides: &[Place],
@@ -46,13 +44,12 @@ fn is_side(
     place: Place,
 ) -> bool
     requires { number ≤ 5 }
-    ensures same { disk_image disk.new ≡ disk_image disk.old }
 {
-    let bytes = bytes_at(disk, place);
+    let bytes = disk.sector(place);
     let length = EntryView::new(&slot.bytes).record_length();
     let exact = side_bytes(number as u8, blocks, sides, length);
     let list_end = LIST_AT + 2 * sides.len().min(MOST_SIDES);
-    has_fields(&bytes, &exact, used_in(number, blocks.len()))
+    has_fields(bytes, &exact, used_in(number, blocks.len()))
         && bytes[LIST_AT..list_end] == exact[LIST_AT..list_end]
         && (number + 1 >= sides.len() || bytes[..2] == exact[..2])
 }
@@ -60,21 +57,20 @@ fn is_side(
 /// Whether the side sectors of a relative entry agree with these blocks of its file, as far as a sound disk requires.
 /// Fills `sides` with those that its first side sector lists.
 pub(crate) fn are_in_order(
-    disk: &mut MemDisk,
+    disk: &MemDisk,
     slot: &Slot,
     blocks: &[Place],
     sides: &mut ArrayVec<Place, MOST_SIDES>,
 ) -> bool
     requires { length blocks.now ≤ 720 }
-    ensures same { disk_image disk.new ≡ disk_image disk.old }
 {
     sides.clear();
     let Some(first) = EntryView::new(&slot.bytes).first_side() else {
         return false;
     };
-    let head = bytes_at(disk, first);
+    let head = disk.sector(first);
     for number in 0..sides_needed(blocks.len()) {
-        match SideView::new(&head).side(number) {
+        match SideView::new(head).side(number) {
             Some(place) => sides.push(place),
             None => return false,
         }
@@ -94,23 +90,18 @@ pub(crate) fn are_in_order(
 /// The first of these sectors that can be read as side sector `number` of the file with these blocks: it has that
 /// number, the file's record length and all pointers to its blocks.
 pub(crate) fn find_readable(
-    disk: &mut MemDisk,
+    disk: &MemDisk,
     unowned: &[Place],
     slot: &Slot,
     blocks: &[Place],
     number: usize,
 ) -> Option<Place>
     requires { number ≤ 5 }
-    ensures same { disk_image disk.new ≡ disk_image disk.old }
 {
     let length = EntryView::new(&slot.bytes).record_length();
     let exact = side_bytes(number as u8, blocks, &[], length);
     for &place in unowned {
-        if has_fields(
-            &bytes_at(disk, place),
-            &exact,
-            used_in(number, blocks.len()),
-        ) {
+        if has_fields(disk.sector(place), &exact, used_in(number, blocks.len())) {
             return Some(place);
         }
     }
@@ -139,15 +130,9 @@ fn sides_listed(bytes: &[u8; 256]) -> usize {
 
 /// Whether side sector `number` with these bytes, of a file of so many blocks, lists two blocks more than these, or more
 /// side sectors than one block more needs.
-pub(crate) fn lists_more(
-    disk: &mut MemDisk,
-    bytes: &[u8; 256],
-    number: usize,
-    blocks: usize,
-) -> bool
+pub(crate) fn lists_more(disk: &MemDisk, bytes: &[u8; 256], number: usize, blocks: usize) -> bool
     requires number { number ≤ 5 }
     requires blocks { blocks ≤ 720 }
-    ensures same { disk_image disk.new ≡ disk_image disk.old }
 {
     let count = sides_needed(blocks);
     if number + 1 == count && pointers_from(bytes, used_in(number, blocks)) >= 2 {
@@ -160,7 +145,7 @@ pub(crate) fn lists_more(
         return false;
     }
     match SideView::new(bytes).side(count) {
-        Some(behind) => pointers_from(&bytes_at(disk, behind), 0) >= 2,
+        Some(behind) => pointers_from(disk.sector(behind), 0) >= 2,
         None => false,
     }
 }

@@ -4,33 +4,18 @@ ghost use Rattle.d64_image.specs.Images.{sector};
 ghost use Rattle.d64_image.specs.Memory.{disk_image};
 ghost use Rattle.damaged_files.specs.sides.Compared.{SameAt};
 
-use d64_image::{MemDisk, Place, Sectors};
-
-/// The bytes of a sector.
-pub(crate) fn bytes_at(disk: &mut MemDisk, place: Place) -> [u8; 256]
-    ensures bytes { result ≡ sector (disk_image disk.old) place }
-    ensures same { disk_image disk.new ≡ disk_image disk.old }
-{
-    let mut bytes = [0; 256];
-    // a disk in memory never fails
-    let _ = disk.read(place, &mut bytes);
-    bytes
-}
+use d64_image::{MemDisk, Place};
 
 /// Whether the two disks have the same bytes at the place.
-pub(crate) fn is_same(before: &mut MemDisk, after: &mut MemDisk, place: Place) -> bool
-    ensures told { IsTrue result → sector (disk_image before.old) place ≡ sector (disk_image after.old) place }
-    ensures before { disk_image before.new ≡ disk_image before.old }
-    ensures after { disk_image after.new ≡ disk_image after.old }
+pub(crate) fn is_same(before: &MemDisk, after: &MemDisk, place: Place) -> bool
+    ensures { IsTrue result → sector (disk_image before.now) place ≡ sector (disk_image after.now) place }
 {
-    bytes_at(before, place) == bytes_at(after, place)
+    before.sector(place) == after.sector(place)
 }
 
 /// Whether the two disks have the same bytes at each of these places.
-pub(crate) fn are_same(before: &mut MemDisk, after: &mut MemDisk, places: &[Place]) -> bool
-    ensures told { IsTrue result → SameAt (disk_image before.old) (disk_image after.old) places.now }
-    ensures before { disk_image before.new ≡ disk_image before.old }
-    ensures after { disk_image after.new ≡ disk_image after.old }
+pub(crate) fn are_same(before: &MemDisk, after: &MemDisk, places: &[Place]) -> bool
+    ensures { IsTrue result → SameAt (disk_image before.now) (disk_image after.now) places.now }
 {
     for &place in places {
         if !is_same(before, after, place) {

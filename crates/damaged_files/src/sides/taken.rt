@@ -2,7 +2,7 @@
 ghost use Rattle.std.specs.Prelude.{◌↔◌, Contains, IsTrue};
 
 use arrayvec::ArrayVec;
-use d64_image::{Place, SECTORS, TRACK_SECTORS, TRACKS};
+use d64_image::{Place, SECTORS};
 use disk_layout::{DIRECTORY_TRACK, MOST_BLOCKS};
 
 /// Adds these sectors to those that are somebody's. There is room for all that a disk has; those past it are left out.
@@ -24,22 +24,14 @@ fn may_hold_side(taken: &[Place], place: Place) -> bool {
     place.track() != DIRECTORY_TRACK && !contains(taken, place)
 }
 
-/// Adds the sectors of a track where a side sector may be put.
-fn add_unowned(unowned: &mut ArrayVec<Place, SECTORS>, taken: &[Place], track: u8) {
-    for sector in 0..TRACK_SECTORS {
-        if let Some(place) = Place::new(track, sector) {
-            if may_hold_side(taken, place) {
-                let _ = unowned.try_push(place);
-            }
-        }
-    }
-}
-
 /// The sectors where a side sector may be put, by track and sector: those outside track 18 that nobody owns.
 pub(crate) fn unowned_places(taken: &[Place]) -> ArrayVec<Place, SECTORS> {
     let mut unowned = ArrayVec::new();
-    for below in 0..TRACKS {
-        add_unowned(&mut unowned, taken, below + 1);
+    for index in 0..SECTORS {
+        let place = Place::nth(index);
+        if may_hold_side(taken, place) {
+            let _ = unowned.try_push(place);
+        }
     }
     unowned
 }

@@ -13,7 +13,7 @@ ghost use Rattle.command_faults.specs.declared.faults.CommandFault.TheVariants a
 use crate::rescue::choices::Choice;
 use crate::rescue::rescuing::{Rescued, rescue, rescue_all};
 use crate::rescue::sharing::owners_of;
-use crate::rescue::slots::{read_sector, used_of};
+use crate::rescue::slots::used_of;
 use arrayvec::ArrayVec;
 use command_faults::CommandFault;
 use d64_image::{MemDisk, Place};
@@ -47,15 +47,13 @@ fn add_deleted(bytes: &[u8; 256], place: Place, entries: &mut Entries)
 }
 
 /// The deleted entries of these directory sectors, in order.
-fn deleted_of(disk: &mut MemDisk, directory: &[Place]) -> Entries
+fn deleted_of(disk: &MemDisk, directory: &[Place]) -> Entries
     requires { length directory.now ≤ 18 }
-    ensures items { result.items ≡ deleted.deleted_slots (disk_image disk.old) directory.now }
-    ensures same { disk_image disk.new ≡ disk_image disk.old }
+    ensures { result.items ≡ deleted.deleted_slots (disk_image disk.now) directory.now }
 {
     let mut entries = ArrayVec::new();
     for &place in directory {
-        let bytes = read_sector(disk, place);
-        add_deleted(&bytes, place, &mut entries);
+        add_deleted(disk.sector(place), place, &mut entries);
     }
     entries
 }

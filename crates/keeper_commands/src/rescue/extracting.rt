@@ -36,22 +36,21 @@ const HEADING: &str =
 /// Makes the files of entry `number`, and adds its row to the index. `File` if the folder failed, or `NoMemory`.
 fn extract_entry<F: NewFolder>(
     alloc: Global,
-    disk: &mut MemDisk,
+    disk: &MemDisk,
     folder: &mut F,
     owners: &Owners,
     number: u8,
     file: &Rescued,
     index: &mut Vec<u8>,
 ) -> Result<Row, CommandFault>
-    requires rescued { IsRescued (disk_image disk.old) file.now }
+    requires rescued { IsRescued (disk_image disk.now) file.now }
     ensures row { IfOk result (λ row. (all : List Place) → CountsAll owners.now all
-        → row ≡ row_of (disk_image disk.old) all number file.now) }
+        → row ≡ row_of (disk_image disk.now) all number file.now) }
     ensures index { IfOk result (λ row. index.new.items ≡ index.old.items ++ row_text row) }
     ensures ok { IfOk result (λ row. AddsFiles (F.files folder.old) (F.files folder.new)
-        (files_of (disk_image disk.old) number file.now)) }
+        (files_of (disk_image disk.now) number file.now)) }
     ensures err { IfErr result (λ fault. IsMakeFault fault
-        × AddsPart (F.files folder.old) (F.files folder.new) (files_of (disk_image disk.old) number file.now)) }
-    ensures same { disk_image disk.new ≡ disk_image disk.old }
+        × AddsPart (F.files folder.old) (F.files folder.new) (files_of (disk_image disk.now) number file.now)) }
 {
     let bytes = make_files(alloc, disk, folder, number, file)?;
     let blocks = file.blocks.as_slice();
@@ -71,23 +70,23 @@ fn extract_entry<F: NewFolder>(
 /// `File` if the folder failed, or `NoMemory`.
 fn extract_entries<F: NewFolder>(
     alloc: Global,
-    disk: &mut MemDisk,
+    disk: &MemDisk,
     folder: &mut F,
     owners: &Owners,
     files: &[Rescued],
     index: &mut Vec<u8>,
     before: Option<Fault>,
 ) -> Result<Option<Fault>, CommandFault>
-    requires rescued { AllByRecursion (IsRescued (disk_image disk.old)) files.now }
+    requires rescued { AllByRecursion (IsRescued (disk_image disk.now)) files.now }
     requires few { length files.now ≤ 144 }
     ensures made { IfOk result (λ _. AddsFiles (F.files folder.old) (F.files folder.new)
-        (files_from (disk_image disk.old) 1 files.now)) }
+        (files_from (disk_image disk.now) 1 files.now)) }
     ensures rows { IfOk result (λ _. (all : List Place) → CountsAll owners.now all
-        → index.new.items ≡ index.old.items ++ rows_from (disk_image disk.old) all 1 files.now) }
+        → index.new.items ≡ index.old.items ++ rows_from (disk_image disk.now) all 1 files.now) }
     ensures told { IfOk result (λ fault. (all : List Place) → CountsAll owners.now all
-        → fault ≡ first_fault (disk_image disk.old) all 1 before files.now) }
+        → fault ≡ first_fault (disk_image disk.now) all 1 before files.now) }
     ensures err { IfErr result (λ fault. IsMakeFault fault
-        × AddsPart (F.files folder.old) (F.files folder.new) (files_from (disk_image disk.old) 1 files.now)) }
+        × AddsPart (F.files folder.old) (F.files folder.new) (files_from (disk_image disk.now) 1 files.now)) }
 {
     let mut found = before;
     let mut number = 0;
@@ -102,19 +101,19 @@ fn extract_entries<F: NewFolder>(
 /// Makes the files of all entries, and the index. `File` if the folder failed, or `NoMemory`.
 fn extract_files<F: NewFolder>(
     alloc: Global,
-    disk: &mut MemDisk,
+    disk: &MemDisk,
     folder: &mut F,
     sectors: &[Place],
     files: &[Rescued],
     found: Option<Fault>,
 ) -> Result<Option<Fault>, CommandFault>
-    requires rescued { AllByRecursion (IsRescued (disk_image disk.old)) files.now }
+    requires rescued { AllByRecursion (IsRescued (disk_image disk.now)) files.now }
     requires few { length files.now ≤ 144 }
     ensures ok { IfOk result (λ fault. AddsFiles (F.files folder.old) (F.files folder.new)
-        (all_files (disk_image disk.old) sectors.now files.now)
-        × (fault ≡ first_fault (disk_image disk.old) (owned sectors.now files.now) 1 found files.now)) }
+        (all_files (disk_image disk.now) sectors.now files.now)
+        × (fault ≡ first_fault (disk_image disk.now) (owned sectors.now files.now) 1 found files.now)) }
     ensures err { IfErr result (λ fault. IsMakeFault fault
-        × AddsPart (F.files folder.old) (F.files folder.new) (all_files (disk_image disk.old) sectors.now files.now)) }
+        × AddsPart (F.files folder.old) (F.files folder.new) (all_files (disk_image disk.now) sectors.now files.now)) }
 {
     let owners = owners_of(sectors, files);
     let mut index = Vec::new(alloc);
@@ -151,12 +150,12 @@ pub fn extract_image<F: NewFolder>(
     let mut disk = load(alloc, image)?;
     let mut sectors = ArrayVec::new();
     let mut entries = ArrayVec::new();
-    let found = read_so_far(&mut disk, &mut sectors, &mut entries);
-    add_chosen(&mut disk, choice, &mut sectors);
+    let found = read_so_far(&disk, &mut sectors, &mut entries);
+    add_chosen(&disk, choice, &mut sectors);
     let files = rescue_chosen(alloc, &mut disk, choice, sectors.as_slice())?;
     extract_files(
         alloc,
-        &mut disk,
+        &disk,
         folder,
         sectors.as_slice(),
         files.as_slice(),

@@ -56,11 +56,10 @@ fn make_entry<F: NewFolder>(
 }
 
 /// The bytes of a file that can be reached. `NoMemory` if there was none for them.
-fn bytes_of(alloc: Global, disk: &mut MemDisk, file: &Rescued) -> Result<Vec<u8>, CommandFault>
+fn bytes_of(alloc: Global, disk: &MemDisk, file: &Rescued) -> Result<Vec<u8>, CommandFault>
     requires { length file.now.blocks.items ≤ 720 }
-    ensures ok { IfOk result (λ bytes. bytes.items ≡ bytes_in (disk_image disk.old) file.now) }
+    ensures ok { IfOk result (λ bytes. bytes.items ≡ bytes_in (disk_image disk.now) file.now) }
     ensures err { IfErr result (λ fault. fault ≡ faults.NoMemory) }
-    ensures same { disk_image disk.new ≡ disk_image disk.old }
 {
     read_file(alloc, disk, file.blocks.as_slice(), file.last)
 }
@@ -107,17 +106,16 @@ fn make_records<F: NewFolder>(
 /// failed, or `NoMemory`: the folder then has a part of them.
 pub(crate) fn make_files<F: NewFolder>(
     alloc: Global,
-    disk: &mut MemDisk,
+    disk: &MemDisk,
     folder: &mut F,
     number: u8,
     file: &Rescued,
 ) -> Result<usize, CommandFault>
-    requires rescued { IsRescued (disk_image disk.old) file.now }
-    ensures ok { IfOk result (λ count. (count ≡ length (bytes_in (disk_image disk.old) file.now))
-        × AddsFiles (F.files folder.old) (F.files folder.new) (files_of (disk_image disk.old) number file.now)) }
+    requires rescued { IsRescued (disk_image disk.now) file.now }
+    ensures ok { IfOk result (λ count. (count ≡ length (bytes_in (disk_image disk.now) file.now))
+        × AddsFiles (F.files folder.old) (F.files folder.new) (files_of (disk_image disk.now) number file.now)) }
     ensures err { IfErr result (λ fault. IsMakeFault fault
-        × AddsPart (F.files folder.old) (F.files folder.new) (files_of (disk_image disk.old) number file.now)) }
-    ensures same { disk_image disk.new ≡ disk_image disk.old }
+        × AddsPart (F.files folder.old) (F.files folder.new) (files_of (disk_image disk.now) number file.now)) }
 {
     let bytes = bytes_of(alloc, disk, file)?;
     let ending = Ending::of_type(file.slot.bytes[2]);

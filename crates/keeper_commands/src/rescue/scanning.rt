@@ -10,7 +10,6 @@ ghost use Rattle.keeper_commands.specs.rescue.Rescues.{sectors_of};
 ghost use Rattle.keeper_commands.specs.rescue.Scanned as scanned;
 
 use crate::rescue::choices::Choice;
-use crate::rescue::slots::read_sector;
 use d64_image::{MemDisk, Place};
 use disk_layout::{DIRECTORY_TRACK, EntryView, Slot};
 use disk_rescue::DirectorySectors;
@@ -93,12 +92,11 @@ fn is_among(place: Place, sectors: &[Place]) -> bool
 }
 
 /// Adds the sector of track 18 with this number, if it looks like one of a directory and isn't among these.
-fn add_next(disk: &mut MemDisk, sectors: &mut DirectorySectors, number: u8)
+fn add_next(disk: &MemDisk, sectors: &mut DirectorySectors, number: u8)
     requires low { 1 ≤ number }
     requires once { EachOnce sectors.old.items }
     requires on_track { AllByRecursion IsDirectoryPlace sectors.old.items }
-    ensures items { sectors.new.items ≡ scanned.with_next (disk_image disk.old) sectors.old.items (place_at 18 number) }
-    ensures same { disk_image disk.new ≡ disk_image disk.old }
+    ensures { sectors.new.items ≡ scanned.with_next (disk_image disk.now) sectors.old.items (place_at 18 number) }
 {
     let Some(place) = Place::new(DIRECTORY_TRACK, number) else {
         return;
@@ -106,18 +104,16 @@ fn add_next(disk: &mut MemDisk, sectors: &mut DirectorySectors, number: u8)
     if is_among(place, sectors.as_slice()) {
         return;
     }
-    let bytes = read_sector(disk, place);
-    if is_directory_like(&bytes, place) {
+    if is_directory_like(disk.sector(place), place) {
         sectors.push(place);
     }
 }
 
 /// Adds the sectors of track 18 that look like those of a directory and aren't among these.
-fn scan(disk: &mut MemDisk, sectors: &mut DirectorySectors)
+fn scan(disk: &MemDisk, sectors: &mut DirectorySectors)
     requires once { EachOnce sectors.old.items }
     requires on_track { AllByRecursion IsDirectoryPlace sectors.old.items }
-    ensures items { sectors.new.items ≡ scanned.with_scanned (disk_image disk.old) sectors.old.items 18 }
-    ensures same { disk_image disk.new ≡ disk_image disk.old }
+    ensures { sectors.new.items ≡ scanned.with_scanned (disk_image disk.now) sectors.old.items 18 }
 {
     for before in 0..18u8 {
         add_next(disk, sectors, before + 1);
@@ -125,11 +121,10 @@ fn scan(disk: &mut MemDisk, sectors: &mut DirectorySectors)
 }
 
 /// Adds the sectors that are chosen, to those that a directory has.
-pub(crate) fn add_chosen(disk: &mut MemDisk, choice: Choice, sectors: &mut DirectorySectors)
+pub(crate) fn add_chosen(disk: &MemDisk, choice: Choice, sectors: &mut DirectorySectors)
     requires once { EachOnce sectors.old.items }
     requires on_track { AllByRecursion IsDirectoryPlace sectors.old.items }
-    ensures items { sectors.new.items ≡ sectors_of choice (disk_image disk.old) sectors.old.items }
-    ensures same { disk_image disk.new ≡ disk_image disk.old }
+    ensures { sectors.new.items ≡ sectors_of choice (disk_image disk.now) sectors.old.items }
 {
     if choice.scanned {
         scan(disk, sectors);

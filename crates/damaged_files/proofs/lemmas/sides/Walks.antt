@@ -12,7 +12,7 @@ use Rattle.disk_layout.specs.Chain.{IsChain, named_at}
 use Rattle.disk_layout.specs.Directory.{IsDirectory}
 use Rattle.disk_layout.specs.Layout.{File, IsLayout, Layout}
 use Rattle.disk_layout.specs.declared.slot.Slot.{Slot}
-use Rattle.damaged_files.proofs.lemmas.sides.Places.{below-or-here}
+use Rattle.damaged_files.proofs.lemmas.Below.{below-or-here}
 use Rattle.damaged_files.specs.sides.Compared.{SameAt, SameChain}
 
 -- what a call that passed returned

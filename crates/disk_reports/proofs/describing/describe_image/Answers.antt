@@ -3,6 +3,7 @@ use Rattle.std.proofs.Common.{List, ap, refl, subst, ◌∙◌}
 use Rattle.std.proofs.lemmas.Result.{err_from_is_err_and}
 use Rattle.std.specs.Io.KnownBytes.{Appends}
 use Rattle.d64_image.specs.Images.{Image, Sector, sector}
+use Rattle.d64_image.specs.Memory.{disk_image}
 use Rattle.disk_layout.specs.Directory.{map_place}
 use Rattle.disk_layout.specs.declared.slot.Slot.{Slot}
 use Rattle.disk_reports.specs.Objects.{object_text}
@@ -25,7 +26,8 @@ returns-in-Ok g c =
     let found = c.verdict-found.result in
     let files = c.list_files.new.files.items in
     let judged = c.verdict-found.ensures.same ∙ loaded.1 in
-    let map = c.read_map-map.ensures.map ∙ ap (λ (i : Image). sector i map_place) (c.list_files.ensures.same ∙ judged) in
+    let map = c.sector.ensures ∙ ap (sector (disk_image c.list_files.new.disk)) c.map_place.ensures
+    ∙ ap (λ (i : Image). sector i map_place) (c.list_files.ensures.same ∙ judged) in
     record {
       ok = record {
         size = loaded.0;
@@ -35,7 +37,7 @@ returns-in-Ok g c =
         printed = subst (λ (m : Sector). Appends (g.W.Write.contents c.args.out.now) (g.W.Write.contents c.put_object.new.out)
             (object_text c.args.name.now found files m)) map
             (subst (λ (ss : List Slot). Appends (g.W.Write.contents c.args.out.now) (g.W.Write.contents c.put_object.new.out)
-            (object_text c.args.name.now found ss c.read_map-map.result)) c.as_slice.ensures.value c.in-Ok.ensures);
+            (object_text c.args.name.now found ss c.sector.result.now)) c.as_slice.ensures.value c.in-Ok.ensures);
       };
       err = tt;
       untouched = tt;

@@ -1,7 +1,9 @@
--- Those of the tracks so far were found.
-use Rattle.std.proofs.Common.{[]}
-use Rattle.disk_reports.specs.AllFaults.{IsGathered, faults_below}
+-- Those of the sectors so far were found.
+use Rattle.std.proofs.Common.{[], take}
+use Rattle.std.specs.Prelude.{flat_map}
+use Rattle.d64_image.specs.Places.{places}
+use Rattle.disk_reports.specs.AllFaults.{IsGathered, faults_at}
 use Rattle.disk_reports.proofs.gathering.find_others.Given as goal
 
-abbrev pub invariant-loop-below : goal.invariant-loop-below
-invariant-loop-below l = IsGathered l.links l.first (faults_below l.below) [] l.found.items
+abbrev pub invariant-loop-index : goal.invariant-loop-index
+invariant-loop-index l = IsGathered l.links l.first (flat_map faults_at (take l.index places)) [] l.found.items

@@ -1,11 +1,8 @@
 -- What was read and followed is of the same image.
-use Rattle.std.proofs.Common.{List, ap, arith, length, subst, ◌↔◌, ◌∙◌}
-use Rattle.std.specs.Prelude.{IsTrue}
+use Rattle.std.proofs.Common.{List, ap, arith, length, subst, ◌∙◌}
 use Rattle.std.proofs.lemmas.Result.{err_from_is_err_and}
 use Rattle.d64_image.specs.Images.{Image, sector}
 use Rattle.d64_image.specs.Memory.{disk_image}
-use Rattle.disk_layout.specs.Directory.{map_place}
-use Rattle.disk_layout.specs.Layout.{IsSound}
 use Rattle.disk_layout.specs.declared.slot.Slot.{Slot}
 use Rattle.disk_reports.specs.AllFaults.{AreFollowed}
 use Rattle.disk_reports.proofs.links.follow_all.Goals as goal
@@ -20,19 +17,17 @@ returns-in_err-trails c =
 pub returns : goal.returns
 returns c =
     let read = c.read_so_far-end.ensures in
-    let mapped = c.read_map-header.ensures.same ∙ read.same in
-    let judged = c.is_sound-is_sound.ensures.same ∙ mapped in
     let trails = c.in_ok-trails.trails.items in
     record {
       ok = record {
         entries = c.read_so_far-end.new.entries.items;
         read = read.read;
         trails = subst (λ (ss : List Slot). AreFollowed (disk_image c.args.disk.now) ss trails) c.as_slice.ensures.value
-            (subst (λ (i : Image). AreFollowed i c.as_slice.result.now trails) judged c.in_ok-trails.ensures.ok);
+            (subst (λ (i : Image). AreFollowed i c.as_slice.result.now trails) c.is_sound-is_sound.ensures.same
+            c.in_ok-trails.ensures.ok);
         few = omega (arith, c.in_ok-trails.ensures.few, ap length c.as_slice.ensures.value, read.few);
-        header = c.read_map-header.ensures.map ∙ ap (λ (i : Image). sector i map_place) read.same;
-        sound = subst (λ (i : Image). IsTrue c.is_sound-is_sound.result ↔ IsSound i) mapped
-            c.is_sound-is_sound.ensures.sound;
+        header = c.sector-header.ensures ∙ ap (sector (disk_image c.args.disk.now)) c.map_place.ensures;
+        sound = c.is_sound-is_sound.ensures.sound;
       };
       err = tt;
     }

@@ -8,11 +8,10 @@ use Rattle.disk_rescue.proofs.directory.read_so_far.Given as goal
 
 abbrev pub invariant-sectors : goal.invariant-sectors
 invariant-sectors l = record {
-  reached : IsReached (disk_image l.fn.disk) l.sectors.items l.at;
-  slots : l.entries.items ≡ used_slots (disk_image l.fn.disk) l.sectors.items;
+  reached : IsReached (disk_image l.disk) l.sectors.items l.at;
+  slots : l.entries.items ≡ used_slots (disk_image l.disk) l.sectors.items;
   room : array_vec_len l.entries ≤ 8 * array_vec_len l.sectors;
   few : array_vec_len l.sectors < 18;
-  same : disk_image l.disk ≡ disk_image l.fn.disk;
 }
 
 abbrev pub decreases-sectors : goal.decreases-sectors

@@ -65,7 +65,7 @@ returns g c =
     let both = printed-end c.args.image.now (Any c.args.candidates) c.args.name.now
     (AreBytesPrinted g.W.Write.contents c.args.form c.args.candidates c.args.image.now c.args.name.now c.args.out.now
     c.flush.new.out) c.args.out.now c.flush.new.out (λ f t. t.file.number) _
-    (c.in_ok-put_file.ensures.same ∙ c.find_file.ensures.same ∙ loaded.1) c.in-Ok.file.number c.in-Ok.file.fault
+    (c.find_file.ensures.same ∙ loaded.1) c.in-Ok.file.number c.in-Ok.file.fault
     c.ended.result c.ended.ensures (record {
       file = file;
       printed = subst (λ (img : Image). Appends before after

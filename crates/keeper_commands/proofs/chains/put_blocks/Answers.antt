@@ -16,17 +16,13 @@ pub loop-place-init : goal.loop-place-init
 loop-place-init g c =
     let before = g.W.Write.contents c.args.out.now in
     let none = ap (bytes_as c.args.form) (joined-nil (disk_image c.args.disk.now)) ∙ as-nil c.args.form in
-    (refl, subst (Appends before before) (sym none) (Appends-nil before))
+    subst (Appends before before) (sym none) (Appends-nil before)
 
 pub loop-place-preserved : goal.loop-place-preserved
 loop-place-preserved g c =
-    let same = c.loop-place.invariant.0 in (
-      c.in_ok-put_block.ensures.same ∙ same,
-      block-more _ _ _ c.args.form (disk_image c.args.disk.now) (disk_image c.loop-place.disk) c.args.places.now
-          c.loop-place.place-index c.place-item.result c.args.disk.now.whole same c.loop-place-test.true
-          (sym c.place-item.is)
-          c.loop-place.invariant.1 c.in_ok-put_block.ensures.ok,
-    )
+    block-more _ _ _ c.args.form (disk_image c.args.disk.now) (disk_image c.args.disk.now) c.args.places.now
+    c.loop-place.place-index c.place-item.result c.args.disk.now.whole refl c.loop-place-test.true (sym c.place-item.is)
+    c.loop-place.invariant c.in_ok-put_block.ensures.ok
 
 pub returns-in_err-put_block : goal.returns-in_err-put_block
 returns-in_err-put_block g c =
@@ -34,10 +30,9 @@ returns-in_err-put_block g c =
     record {
       ok = rw (p.1 ∙ ap Err p.2) tt;
       part = rw (p.1 ∙ ap Err p.2) (block-part _ _ _ c.args.form (disk_image c.args.disk.now)
-          (disk_image c.loop-place.disk) c.args.places.now c.loop-place.place-index c.place-item.result
-          c.args.disk.now.whole c.loop-place.invariant.0 c.loop-place-test.true (sym c.place-item.is)
-          c.loop-place.invariant.1 c.in_err-put_block.ensures.part);
-      same = c.put_block.ensures.same ∙ c.loop-place.invariant.0;
+          (disk_image c.args.disk.now) c.args.places.now c.loop-place.place-index c.place-item.result
+          c.args.disk.now.whole refl c.loop-place-test.true (sym c.place-item.is)
+          c.loop-place.invariant c.in_err-put_block.ensures.part);
       err = rw (p.1 ∙ ap Err p.2) c.in_err-put_block.ensures.err;
     }
 
@@ -46,8 +41,7 @@ returns g c = record {
   ok = subst (λ (ps : List Place). Appends (g.W.Write.contents c.args.out.now) (g.W.Write.contents c.loop-place.out)
       (bytes_as c.args.form (joined (disk_image c.args.disk.now) ps)))
       (take_all c.loop-place.place-index c.args.places.now c.loop-place-test.false)
-      c.loop-place.invariant.1;
+      c.loop-place.invariant;
   part = tt;
-  same = c.loop-place.invariant.0;
   err = tt;
 }

@@ -1,5 +1,5 @@
--- The bytes of the blocks so far were printed; the disk stays.
-use Rattle.std.proofs.Common.{◌≡◌, take}
+-- The bytes of the blocks so far were printed.
+use Rattle.std.proofs.Common.{take}
 use Rattle.std.specs.Io.KnownBytes.{Appends}
 use Rattle.d64_image.specs.Memory.{disk_image}
 use Rattle.disk_layout.specs.Records.{joined}
@@ -8,6 +8,5 @@ use Rattle.keeper_commands.proofs.chains.put_blocks.Given as goal
 
 abbrev pub invariant-loop-place : goal.invariant-loop-place
 invariant-loop-place g l =
-    (disk_image l.disk ≡ disk_image l.fn.disk)
-    × Appends (g.W.Write.contents l.fn.out) (g.W.Write.contents l.out)
-    (bytes_as l.form (joined (disk_image l.fn.disk) (take l.place-index l.places)))
+    Appends (g.W.Write.contents l.fn.out) (g.W.Write.contents l.out)
+    (bytes_as l.form (joined (disk_image l.disk) (take l.place-index l.places)))

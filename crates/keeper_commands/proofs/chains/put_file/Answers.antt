@@ -1,5 +1,5 @@
 -- The whole blocks and the last one are the file's bytes.
-use Rattle.std.proofs.Common.{◌∙◌, Err, ap, arith, subst, sym}
+use Rattle.std.proofs.Common.{◌∙◌, Err, ap, arith, refl, subst, sym}
 use Rattle.std.proofs.KnownBytes.{Appends-nil}
 use Rattle.std.specs.Io.KnownBytes.{Appends}
 use Rattle.std.proofs.lemmas.Result.{err_from_is_err_and, on_err_weaker, on_ok_weaker}
@@ -20,7 +20,7 @@ returns-in_ok-put_blocks-in-len1-up-clause-ok g c =
     let done = c.in_ok-put_blocks-in-len1-up.ensures in
     on_ok_weaker c.put_block.result
     (file-printed _ _ _ c.args.form (disk_image c.args.disk.now) _ c.args.blocks.now c.end-item.result c.args.last
-    c.args.disk.now.whole done.same
+    c.args.disk.now.whole refl
     c.in-len1-up.len_at_least (sym c.end-item.is) done.ok)
     c.put_block.ensures.ok
 
@@ -36,6 +36,6 @@ returns-in_ok-put_blocks-in-len1-up-clause-part g c =
     let done = c.in_ok-put_blocks-in-len1-up.ensures in
     on_err_weaker c.put_block.result
     (end-part _ _ _ c.args.form (disk_image c.args.disk.now) _ c.args.blocks.now c.end-item.result c.args.last
-    c.args.disk.now.whole done.same
+    c.args.disk.now.whole refl
     c.in-len1-up.len_at_least (sym c.end-item.is) done.ok)
     c.put_block.ensures.part

@@ -1,4 +1,4 @@
--- The lines of the tracks are all that is printed of two disks, and these are read alone.
+-- The lines of the sectors are all that is printed of two disks, and these are read alone.
 use Rattle.std.proofs.Common.{Err, List, ap, subst, ℕ, ◌∙◌}
 use Rattle.std.proofs.lemmas.Result.{err_from_is_err_and}
 use Rattle.std.specs.Io.KnownBytes.{Appends}
@@ -15,17 +15,17 @@ returns-in_err-maps-clause-part g c =
     rw (p.1 ∙ ap Err p.2) (part-none _ _)
 
 pub returns-clause-ok : goal.returns-clause-ok
-returns-clause-ok g c = subst (λ (bs : List ℕ). OnOk c.put_tracks.result
-    (Appends (g.W.Write.contents c.args.out.now) (g.W.Write.contents c.put_tracks.new.out) bs))
-    (changed-is _ _ _ _ _ _ c.in_ok-maps.ensures.same c.in_ok-maps.ensures.quiet.image c.in_ok-maps.ensures.ok.0
-    c.in_ok-maps.ensures.ok.1) c.put_tracks.ensures.ok
+returns-clause-ok g c = subst (λ (bs : List ℕ). OnOk c.put_places.result
+    (Appends (g.W.Write.contents c.args.out.now) (g.W.Write.contents c.put_places.new.out) bs))
+    (changed-is _ _ _ _ _ c.in_ok-maps.ensures.quiet.image c.in_ok-maps.ensures.ok.0
+    c.in_ok-maps.ensures.ok.1) c.put_places.ensures.ok
 
 pub returns-clause-part : goal.returns-clause-part
-returns-clause-part g c = subst (λ (bs : List ℕ). OnErr c.put_tracks.result
-    (HandsPart (g.W.Write.contents c.args.out.now) (g.W.Write.contents c.put_tracks.new.out) bs))
-    (changed-is _ _ _ _ _ _ c.in_ok-maps.ensures.same c.in_ok-maps.ensures.quiet.image c.in_ok-maps.ensures.ok.0
-    c.in_ok-maps.ensures.ok.1) c.put_tracks.ensures.part
+returns-clause-part g c = subst (λ (bs : List ℕ). OnErr c.put_places.result
+    (HandsPart (g.W.Write.contents c.args.out.now) (g.W.Write.contents c.put_places.new.out) bs))
+    (changed-is _ _ _ _ _ c.in_ok-maps.ensures.quiet.image c.in_ok-maps.ensures.ok.0
+    c.in_ok-maps.ensures.ok.1) c.put_places.ensures.part
 
 pub returns-clause-quiet : goal.returns-clause-quiet
 returns-clause-quiet g c = no_write_then g.D.Sectors.history _ _ _ c.in_ok-maps.ensures.quiet
-    c.put_tracks.ensures.quiet
+    c.put_places.ensures.quiet

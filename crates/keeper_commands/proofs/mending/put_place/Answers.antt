@@ -5,7 +5,7 @@ use Rattle.std.specs.Io.KnownBytes.{Appends}
 use Rattle.d64_image.proofs.Moments.{reads_no_write}
 use Rattle.keeper_commands.proofs.Mendings.{as-told, failed-there, other-line, same-line, tells-output}
 use Rattle.command_faults.proofs.Parts.{part-none}
-use Rattle.keeper_commands.proofs.Printing.{at-answer, not-err}
+use Rattle.keeper_commands.proofs.Printing.{not-err}
 use Rattle.command_faults.specs.Outputs.{HandsPart}
 use Rattle.keeper_commands.proofs.mending.put_place.Goals as goal
 
@@ -13,9 +13,8 @@ pub returns-then-is_err : goal.returns-then-is_err
 returns-then-is_err g c = record {
   ok = tt;
   part = part-none _ _;
-  same = c.read.ensures.device.reads.image;
-  quiet = reads_no_write g.D.Sectors.history _ _ 1 c.read-2.ensures.reads;
-  told = failed-there g.D.Sectors.history _ _ c.read-2.result (sym c.if-is_err.ensures.value) c.read-2.ensures.failures;
+  quiet = reads_no_write g.D.Sectors.history _ _ 1 c.read.ensures.reads;
+  told = failed-there g.D.Sectors.history _ _ c.read.result (sym c.if-is_err.ensures.value) c.read.ensures.failures;
 }
 
 pub eq-requires : goal.eq-requires
@@ -26,15 +25,14 @@ returns-then-eq g c =
     let a = g.W.Write.contents c.args.out.now in
     let b = g.W.Write.contents c.put_freed.new.out in
     let line = same-line _ _ _ _ _ _ _
-    (at-answer c.read.result c.read.ensures.never_fails c.read.ensures.device.sector)
-    (not-err c.read-2.result (sym c.if-is_err.ensures.value) c.read-2.ensures.sector) c.if-eq.ensures in
+    c.sector.ensures
+    (not-err c.read.result (sym c.if-is_err.ensures.value) c.read.ensures.sector) c.if-eq.ensures in
     record {
       ok = subst (λ (bs : List ℕ). OnOk c.put_freed.result (Appends a b bs)) line c.put_freed.ensures.ok;
       part = subst (λ (bs : List ℕ). OnErr c.put_freed.result (HandsPart a b bs)) line c.put_freed.ensures.part;
-      same = c.read.ensures.device.reads.image;
-      quiet = reads_no_write g.D.Sectors.history _ _ 1 c.read-2.ensures.reads;
-      told = tells-output g.D.Sectors.history _ _ c.put_freed.result (as-told g.D.Sectors.history _ _ c.read-2.result
-          (sym c.if-is_err.ensures.value) c.read-2.ensures.failures) c.put_freed.ensures.err;
+      quiet = reads_no_write g.D.Sectors.history _ _ 1 c.read.ensures.reads;
+      told = tells-output g.D.Sectors.history _ _ c.put_freed.result (as-told g.D.Sectors.history _ _ c.read.result
+          (sym c.if-is_err.ensures.value) c.read.ensures.failures) c.put_freed.ensures.err;
     }
 
 pub returns : goal.returns
@@ -42,13 +40,12 @@ returns g c =
     let a = g.W.Write.contents c.args.out.now in
     let b = g.W.Write.contents c.put_about.new.out in
     let line = other-line _ _ _ _ _ _ _
-    (at-answer c.read.result c.read.ensures.never_fails c.read.ensures.device.sector)
-    (not-err c.read-2.result (sym c.if-is_err.ensures.value) c.read-2.ensures.sector) c.if-eq.ensures in
+    c.sector.ensures
+    (not-err c.read.result (sym c.if-is_err.ensures.value) c.read.ensures.sector) c.if-eq.ensures in
     record {
       ok = subst (λ (bs : List ℕ). OnOk c.put_about.result (Appends a b bs)) line c.put_about.ensures.ok;
       part = subst (λ (bs : List ℕ). OnErr c.put_about.result (HandsPart a b bs)) line c.put_about.ensures.part;
-      same = c.read.ensures.device.reads.image;
-      quiet = reads_no_write g.D.Sectors.history _ _ 1 c.read-2.ensures.reads;
-      told = tells-output g.D.Sectors.history _ _ c.put_about.result (as-told g.D.Sectors.history _ _ c.read-2.result
-          (sym c.if-is_err.ensures.value) c.read-2.ensures.failures) c.put_about.ensures.err;
+      quiet = reads_no_write g.D.Sectors.history _ _ 1 c.read.ensures.reads;
+      told = tells-output g.D.Sectors.history _ _ c.put_about.result (as-told g.D.Sectors.history _ _ c.read.result
+          (sym c.if-is_err.ensures.value) c.read.ensures.failures) c.put_about.ensures.err;
     }

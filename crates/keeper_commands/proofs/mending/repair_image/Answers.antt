@@ -61,7 +61,7 @@ pub returns-clause-ok : goal.returns-clause-ok
 returns-clause-ok g c =
     let S = g.D.Sectors.history in
     let loaded = c.in_ok-before.ensures.ok in
-    let same = c.in_ok-judge_kind.ensures.same ∙ loaded.1 ∙ sym c.requires.holds in
+    let same = loaded.1 ∙ sym c.requires.holds in
     let plain = subst (λ (img : Image). IsPlainDisk (sector img map_place)) (loaded.1 ∙ sym c.requires.holds)
     c.in_ok-judge_kind.ensures.plain in
     record {
@@ -88,5 +88,5 @@ returns-in-Err-put_mended-clause-part g c =
     c.put_mended.new.after c.args.out.now c.put_mended.new.out _ c.in-Ok.kept
     (mended-quiet S c.args.free c.args.image.now c.args.disk.now c.mended.new.disk loaded.0 plain c.mended.result
     c.mended.ensures c.put_mended.new.after c.put_mended.ensures.quiet c.in-Ok.kept c.in-Ok.ensures.ok)
-    (c.in_ok-judge_kind.ensures.same ∙ loaded.1 ∙ sym c.requires.holds) c.put_mended.ensures.quiet
+    (loaded.1 ∙ sym c.requires.holds) c.put_mended.ensures.quiet
     c.in-Err-put_mended.ensures.part

@@ -54,7 +54,7 @@ pub returns-clause-ok : goal.returns-clause-ok
 returns-clause-ok g c =
     let S = g.D.Sectors.history in
     let loaded = c.in_ok-before.ensures.ok in
-    let same = c.in-Ok.ensures.same ∙ c.in_ok-judge_kind.ensures.same ∙ loaded.1 ∙ sym c.requires.holds in
+    let same = c.in-Ok.ensures.same ∙ loaded.1 ∙ sym c.requires.holds in
     let plain = subst (λ (img : Image). IsPlainDisk (sector img map_place)) (loaded.1 ∙ sym c.requires.holds)
     c.in_ok-judge_kind.ensures.plain in
     done-rebuilt S c.args.image.now c.args.disk.now loaded.0 plain c.rebuild_sides.new.disk (Ok c.in-Ok.field-0)
@@ -79,7 +79,7 @@ pub returns-clause-part : goal.returns-clause-part
 returns-clause-part g c =
     let S = g.D.Sectors.history in
     let loaded = c.in_ok-before.ensures.ok in
-    let same = c.in-Ok.ensures.same ∙ c.in_ok-judge_kind.ensures.same ∙ loaded.1 ∙ sym c.requires.holds in
+    let same = c.in-Ok.ensures.same ∙ loaded.1 ∙ sym c.requires.holds in
     let plain = subst (λ (img : Image). IsPlainDisk (sector img map_place)) (loaded.1 ∙ sym c.requires.holds)
     c.in_ok-judge_kind.ensures.plain in
     rebuild-part S c.args.image.now c.args.disk.now loaded.0 plain c.rebuild_sides.new.disk (Ok c.in-Ok.field-0)

@@ -38,12 +38,11 @@ returns-clause-ok c l is =
     let img = disk_image c.args.disk.now in
     let (m, own, of, reads) = c.in_ok-found.ensures.ok in
     let listed = c.in_ok-read_directory.ensures.reads.image ∙ reads.image in
-    let all : disk_image c.bytes_at.new.disk ≡ img = c.bytes_at.ensures.same ∙ listed in
     let O : Layout → Type 0 = λ k. IsSurveyOf k c.in_ok-found.found in
     let mine = subst O (IsLayout-one img m l own is) of in
     let entries = entries-listed img (disk_image c.survey.new.disk) l c.read_directory.new.slots.items reads.image is
     c.in_ok-read_directory.ensures.ok in
-    let bytes : c.bytes_at.result ≡ sector img map_place = c.bytes_at.ensures.bytes
+    let bytes : c.sector.result.now ≡ sector img map_place = c.sector.ensures
     ∙ ap (λ (p : Place). sector (disk_image c.read_directory.new.disk) p) c.map_place.ensures
     ∙ ap (λ (i : Image). sector i map_place) listed in
     let B : Sector → Type 0 = λ bs. IsTrue c.has_stray.result
@@ -57,4 +56,4 @@ returns-clause-ok c l is =
     let Q : Image → Type 0 = λ i. IsLayout i l → c.as_slice-2.result.now ≡ map (λ (f : File). f.slot) l.files
     → (IsTrue c.has_stray.result ↔ HasStray i l) → (IsTrue c.has_stock.result ↔ HasStock l)
     → IsToldOf i l c.args.entry c.first_cut.result in
-    subst Q all (c.first_cut.ensures.told l) is (c.as_slice-2.ensures.value ∙ entries) strays stock
+    subst Q listed (c.first_cut.ensures.told l) is (c.as_slice-2.ensures.value ∙ entries) strays stock

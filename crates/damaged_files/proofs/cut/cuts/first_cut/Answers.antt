@@ -7,7 +7,7 @@ use Rattle.d64_image.specs.Memory.{disk_image}
 use Rattle.d64_image.specs.declared.place.Place.{Place}
 use Rattle.disk_layout.specs.Layout.{IsFile}
 use Rattle.damaged_files.proofs.lemmas.cut.Entries.{entry-at, file-at, one-entry}
-use Rattle.damaged_files.proofs.lemmas.cut.Places.{below-or-here}
+use Rattle.damaged_files.proofs.lemmas.Below.{below-or-here}
 use Rattle.damaged_files.proofs.lemmas.cut.Shorts.{cut-as}
 use Rattle.damaged_files.specs.cut.Cut.{HasStray, IsCutIn}
 use Rattle.disk_layout.specs.Listed.{HasStock}

@@ -5,7 +5,7 @@ use Rattle.disk_layout.specs.Chain.{named_at}
 use Rattle.damaged_files.proofs.lemmas.cut.Sides.{behind-judged}
 use Rattle.damaged_files.proofs.cut.listed.lists_one_behind.Goals as goal
 
-pub returns-in-Some-clause-told : goal.returns-in-Some-clause-told
-returns-in-Some-clause-told c = behind-judged (disk_image c.args.disk.now) c.args.bytes.now c.bytes_at.result c.in-Some.next
+pub returns-in-Some : goal.returns-in-Some
+returns-in-Some c = behind-judged (disk_image c.args.disk.now) c.args.bytes.now c.sector.result.now c.in-Some.next
     c.lists_one.result (c.in-Some.ensures ∙ ap (λ (bs : List ℕ). named_at bs 0) c.new.ensures)
-    c.bytes_at.ensures.bytes c.lists_one.ensures
+    c.sector.ensures c.lists_one.ensures

@@ -3,7 +3,7 @@ use Rattle.std.proofs.Common.{arith, inl, inr, length, refl, subst, sym, ◌∙�
 use Rattle.std.proofs.lemmas.Bool.{false≢true}
 use Rattle.std.proofs.lemmas.Option.{slice_get_read, slice_get_within}
 use Rattle.damaged_files.proofs.lemmas.cut.Entries.{one-entry}
-use Rattle.damaged_files.proofs.lemmas.cut.Places.{below-or-here}
+use Rattle.damaged_files.proofs.lemmas.Below.{below-or-here}
 use Rattle.disk_layout.specs.Listed.{IsStock}
 use Rattle.damaged_files.proofs.cut.names.has_stock.Goals as goal
 

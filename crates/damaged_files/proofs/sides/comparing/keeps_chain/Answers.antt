@@ -15,4 +15,4 @@ returns-then-is_ok-clause-told c t =
     walked-same (disk_image c.args.before.now) (disk_image c.args.after.now) (disk_image c.walk_chain.new.disk)
     c.args.slot.now c.new.result.bytes.now c.in-Some.first c.walk_chain.new.places.items c.as_slice.result.now u
     c.walk_chain.ensures.reads.image c.new.ensures c.in-Some.ensures c.as_slice.ensures.value chain
-    (c.are_same.ensures.told t)
+    (c.are_same.ensures t)

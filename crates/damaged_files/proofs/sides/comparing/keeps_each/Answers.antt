@@ -13,13 +13,11 @@ loop-slot-preserved c =
     let s = c.slot-item.result in
     let old = c.loop-slot.invariant in
     let here = slice_get_read c.args.slots.now (length c.args.slots.now) n s refl c.loop-slot-test.true c.slot-item.is in
-    let P : Image → Type 0 = λ i. SameChain i (disk_image c.loop-slot.after) s in
     let Q : Image → Type 0 = λ i. SameChain (disk_image c.args.before.now) i s in
     record {
-      before = c.keeps_chain.ensures.before ∙ old.before;
       after = c.keeps_chain.ensures.after ∙ old.after;
       same = one-more (SameChain (disk_image c.args.before.now) (disk_image c.args.after.now)) c.args.slots.now n s here
-          (subst Q old.after (subst P old.before (c.keeps_chain.ensures.told c.if-not-keeps_chain.false))) old.same;
+          (subst Q old.after (c.keeps_chain.ensures.told c.if-not-keeps_chain.false)) old.same;
     }
 
 pub returns-clause-told : goal.returns-clause-told

@@ -7,8 +7,7 @@ use Rattle.damaged_files.proofs.sides.comparing.keeps_each.Given as goal
 
 abbrev pub invariant-loop-slot : goal.invariant-loop-slot
 invariant-loop-slot l = record {
-  before : disk_image l.before ≡ disk_image l.fn.before;
   after : disk_image l.after ≡ disk_image l.fn.after;
   same : (k : ℕ) (s : Slot) → k < l.slot-index → slice_get l.slots k ≡ Some s
-      → SameChain (disk_image l.fn.before) (disk_image l.fn.after) s;
+      → SameChain (disk_image l.before) (disk_image l.fn.after) s;
 }

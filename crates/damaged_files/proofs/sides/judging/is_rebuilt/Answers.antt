@@ -1,5 +1,5 @@
 -- The second disk is sound, and its chains and all that nobody owns are those of the first.
-use Rattle.std.proofs.Common.{subst, ◌∙◌, ◌≡◌}
+use Rattle.std.proofs.Common.{subst}
 use Rattle.std.specs.Prelude.{Contains}
 use Rattle.d64_image.specs.Images.{Image}
 use Rattle.d64_image.specs.Memory.{disk_image}
@@ -15,9 +15,7 @@ returns-then-changes_owned-clause-told c t =
     let b = disk_image c.args.after.now in
     let (l, is, of, reads) = c.in-Ok.ensures.ok in
     let A : Image → Type 0 = λ i. (p : Place) → SameOrOwned a i l p in
-    let after : disk_image c.changes_owned.new.after ≡ b = c.changes_owned.ensures.after ∙ reads.image in
     let T : Image → Type 0 = λ i. (m : Layout) → IsLayout i m → (f : File) → Contains m.files f
-    → SameChain (disk_image c.changes_owned.new.before) i f.slot in
-    let B : Image → Type 0 = λ i. (f : File) → Contains l.files f → SameChain i b f.slot in
-    rebuilt a b l is (subst A reads.image (c.changes_owned.ensures.told c.if-changes_owned.true l of))
-    (subst B c.changes_owned.ensures.before (subst T after (c.keeps_chains.ensures.told t) l is))
+    → SameChain a i f.slot in
+    rebuilt a b l is (subst A reads.image (c.changes_owned.ensures c.if-changes_owned.true l of))
+    (subst T reads.image (c.keeps_chains.ensures.told t) l is)

@@ -28,6 +28,6 @@ returns-clause-rebuilds g c =
     (subst IsSound (sym c.requires.holds) sound)) in
     rebuilds S b c.args.disk.now c.write_changes.new.disk c.write_changes.result
     (subst P first (c.is_rebuilt.ensures.told c.if-not-is_rebuilt.false)) unsound
-    (takes-from S a b (disk_image c.is_rebuilt.new.before) (disk_image c.is_rebuilt.new.after) (λ p. ⊤)
-    c.args.disk.now c.write_changes.new.disk c.write_changes.result (c.is_rebuilt.ensures.before ∙ first)
-    c.is_rebuilt.ensures.after c.write_changes.ensures.takes)
+    (takes-from S a b (disk_image c.plan_sides.new.before) (disk_image c.is_rebuilt.new.after) (λ p. ⊤)
+    c.args.disk.now c.write_changes.new.disk c.write_changes.result first c.is_rebuilt.ensures.after
+    c.write_changes.ensures)

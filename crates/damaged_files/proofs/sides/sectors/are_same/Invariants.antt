@@ -6,9 +6,5 @@ use Rattle.d64_image.specs.declared.place.Place.{Place}
 use Rattle.damaged_files.proofs.sides.sectors.are_same.Given as goal
 
 abbrev pub invariant-loop-place : goal.invariant-loop-place
-invariant-loop-place l = record {
-  before : disk_image l.before ≡ disk_image l.fn.before;
-  after : disk_image l.after ≡ disk_image l.fn.after;
-  same : (k : ℕ) (p : Place) → k < l.place-index → slice_get l.places k ≡ Some p
-      → sector (disk_image l.fn.before) p ≡ sector (disk_image l.fn.after) p;
-}
+invariant-loop-place l = (k : ℕ) (p : Place) → k < l.place-index → slice_get l.places k ≡ Some p
+    → sector (disk_image l.before) p ≡ sector (disk_image l.after) p

@@ -1,7 +1,6 @@
 -- The entries of one sector more.
-use Rattle.std.proofs.Common.{ap, arith, length, refl, sym, ◌∙◌}
+use Rattle.std.proofs.Common.{ap, arith, length, sym, ◌∙◌}
 use Rattle.std.proofs.lemmas.List.{take_all}
-use Rattle.d64_image.specs.Images.{Image, sector}
 use Rattle.d64_image.specs.Memory.{disk_image}
 use Rattle.keeper_commands.proofs.lemmas.rescue.Undeleted.{deleted-more}
 use Rattle.keeper_commands.specs.rescue.Deleted.{deleted_slots}
@@ -11,7 +10,6 @@ pub loop-place-init : goal.loop-place-init
 loop-place-init c = record {
   items = c.new-entries.ensures;
   room = omega (arith, ap length c.new-entries.ensures);
-  same = refl;
 }
 
 pub loop-place-preserved : goal.loop-place-preserved
@@ -19,13 +17,12 @@ loop-place-preserved c =
     let old = c.loop-place.invariant in
     record {
       items = deleted-more (disk_image c.args.disk.now) c.args.directory.now c.loop-place.place-index c.place-item.result
-          c.read_sector-bytes.result c.loop-place.entries.items c.add_deleted.new.entries.items c.loop-place-test.true
-          (sym c.place-item.is) (c.read_sector-bytes.ensures.bytes ∙ ap (λ (i : Image). sector i c.place-item.result) old.same)
+          c.sector.result.now c.loop-place.entries.items c.add_deleted.new.entries.items c.loop-place-test.true
+          (sym c.place-item.is) c.sector.ensures
           old.items c.add_deleted.ensures.items;
       room = omega (arith, old.room, c.add_deleted.ensures.room);
-      same = c.read_sector-bytes.ensures.same ∙ old.same;
     }
 
-pub returns-clause-items : goal.returns-clause-items
-returns-clause-items c = c.loop-place.invariant.items
+pub returns : goal.returns
+returns c = c.loop-place.invariant.items
     ∙ ap (deleted_slots (disk_image c.args.disk.now)) (take_all c.loop-place.place-index c.args.directory.now c.loop-place-test.false)

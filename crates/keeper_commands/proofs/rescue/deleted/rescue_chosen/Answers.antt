@@ -11,10 +11,10 @@ returns-clause-few c = elim c.if-choice.branch [
       let (found, items, are) = w.in_ok-add_undeleted.ensures.ok in
       few-all (disk_image c.args.disk.now) (disk_image c.rescue_all.new.disk) c.args.directory.now c.as_slice.result.now
       c.in_ok-files.files.items found c.if-choice.files.items c.requires
-      (c.as_slice.ensures.value ∙ c.used_of-entries.ensures.items) c.in_ok-files.ensures.few
-      (c.in_ok-files.ensures.same ∙ c.used_of-entries.ensures.same) are (ap (λ v. v.items) w.files-is ∙ items)
+      (c.as_slice.ensures.value ∙ c.used_of-entries.ensures) c.in_ok-files.ensures.few
+      c.in_ok-files.ensures.same are (ap (λ v. v.items) w.files-is ∙ items)
   | else-choice w ↦
       few-used (disk_image c.args.disk.now) c.args.directory.now c.as_slice.result.now c.if-choice.files.items
-      c.in_ok-files.files.items c.requires (c.as_slice.ensures.value ∙ c.used_of-entries.ensures.items)
+      c.in_ok-files.files.items c.requires (c.as_slice.ensures.value ∙ c.used_of-entries.ensures)
       c.in_ok-files.ensures.few (ap (λ v. v.items) w.files-is)
 ]

@@ -3,14 +3,13 @@ use Rattle.std.proofs.Common.{◌+◌, ◌++◌, List, Option, ap, arith, refl, 
 use Rattle.std.specs.Option.{option_or}
 use Rattle.std.proofs.lemmas.Result.{err_from_is_err_and}
 use Rattle.std.proofs.lemmas.List.{take_all}
-use Rattle.d64_image.specs.Images.{Image}
 use Rattle.d64_image.specs.Memory.{disk_image}
 use Rattle.disk_layout.specs.declared.faults.Fault.{Fault}
 use Rattle.keeper_commands.proofs.lemmas.rescue.Made.{fault-more, made-more, made-part, no-fault, no-files, no-rows, rows-more}
 use Rattle.keeper_commands.proofs.lemmas.rescue.Reached.{rescued-at}
 use Rattle.keeper_commands.specs.rescue.Folders.{AddsFiles}
 use Rattle.keeper_commands.specs.rescue.Index.{row_text}
-use Rattle.keeper_commands.specs.rescue.Rescues.{IsRescued, fault_of, files_from, first_fault, rows_from}
+use Rattle.keeper_commands.specs.rescue.Rescues.{fault_of, files_from, first_fault, rows_from}
 use Rattle.keeper_commands.specs.declared.rescue.rescuing.Rescued.{Rescued}
 use Rattle.keeper_commands.specs.declared.rescue.rows.Row.{Row}
 use Rattle.keeper_commands.proofs.rescue.extracting.extract_entries.Goals as goal
@@ -21,7 +20,6 @@ loop-file-init g c = record {
   made = no-files (g.F.NewFolder.files c.args.folder.now) (disk_image c.args.disk.now) c.args.files.now;
   rows = λ all counts. no-rows (disk_image c.args.disk.now) all c.args.index.now.items c.args.files.now;
   told = λ all counts. no-fault (disk_image c.args.disk.now) all c.args.before c.args.files.now;
-  same = refl;
 }
 
 pub overflow_add-number : goal.overflow_add-number
@@ -29,9 +27,8 @@ overflow_add-number g c = omega (arith, c.requires.few, c.loop-file.invariant.nu
 
 pub extract_entry-requires : goal.extract_entry-requires
 extract_entry-requires g c = record {
-  rescued = subst (λ (img : Image). IsRescued img c.file-item.result) (sym c.loop-file.invariant.same)
-      (rescued-at (disk_image c.args.disk.now) c.args.files.now c.loop-file.file-index c.file-item.result
-      c.requires.rescued c.loop-file-test.true c.file-item.is);
+  rescued = rescued-at (disk_image c.args.disk.now) c.args.files.now c.loop-file.file-index c.file-item.result
+      c.requires.rescued c.loop-file-test.true c.file-item.is;
 }
 
 pub loop-file-preserved : goal.loop-file-preserved
@@ -42,19 +39,18 @@ loop-file-preserved g c =
       number_is = next;
       made = made-more _ _ _ (disk_image c.args.disk.now) c.loop-file.file-index (c.loop-file.number + 1) c.args.files.now
           c.file-item.result c.loop-file-test.true (sym c.file-item.is) next old.made
-          (rw old.same at c.in_ok-row.ensures.ok);
+          (c.in_ok-row.ensures.ok);
       rows = λ all counts. rows-more (disk_image c.args.disk.now) all c.loop-file.file-index (c.loop-file.number + 1)
           c.args.files.now c.file-item.result c.args.index.now.items c.loop-file.index.items _ c.loop-file-test.true
           (sym c.file-item.is) next (old.rows all counts)
           (c.in_ok-row.ensures.index ∙ ap (λ (r : Row). c.loop-file.index.items ++ row_text r)
-          (rw old.same at (c.in_ok-row.ensures.row all counts)));
+          ((c.in_ok-row.ensures.row all counts)));
       told = λ all counts. c.or-found.ensures
           ∙ ap (λ (o : Option Fault). option_or c.loop-file.found o)
-          (c.fault.ensures ∙ ap fault_of (rw old.same at (c.in_ok-row.ensures.row all counts)))
+          (c.fault.ensures ∙ ap fault_of ((c.in_ok-row.ensures.row all counts)))
           ∙ fault-more (disk_image c.args.disk.now) all c.loop-file.file-index (c.loop-file.number + 1)
           c.args.files.now c.file-item.result c.args.before c.loop-file.found c.loop-file-test.true
           (sym c.file-item.is) next (old.told all counts);
-      same = c.in_ok-row.ensures.same ∙ old.same;
     }
 
 pub returns-in_err-row : goal.returns-in_err-row
@@ -69,7 +65,7 @@ returns-in_err-row g c =
         c.in_err-row.ensures.err.0,
         made-part _ _ _ (disk_image c.args.disk.now) c.loop-file.file-index (c.loop-file.number + 1) c.args.files.now
             c.file-item.result c.loop-file-test.true (sym c.file-item.is) (omega (arith, old.number_is)) old.made
-            (rw old.same at c.in_err-row.ensures.err.1),
+            (c.in_err-row.ensures.err.1),
       );
     }
 

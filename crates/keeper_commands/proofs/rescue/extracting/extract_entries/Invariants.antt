@@ -9,7 +9,7 @@ use Rattle.keeper_commands.proofs.rescue.extracting.extract_entries.Given as goa
 
 abbrev pub invariant-loop-file : goal.invariant-loop-file
 invariant-loop-file g l =
-    let img = disk_image l.fn.disk in
+    let img = disk_image l.disk in
     record {
       number_is : l.number ≡ l.file-index;
       made : AddsFiles (g.F.NewFolder.files l.fn.folder) (g.F.NewFolder.files l.folder)
@@ -18,5 +18,4 @@ invariant-loop-file g l =
           → l.index.items ≡ l.fn.index.items ++ rows_from img all 1 (take l.file-index l.files);
       told : (all : List Place) → CountsAll l.owners all
           → l.found ≡ first_fault img all 1 l.fn.before (take l.file-index l.files);
-      same : disk_image l.disk ≡ img;
     }

@@ -6,7 +6,7 @@ use Rattle.keeper_commands.specs.rescue.Scanned.{with_scanned}
 use Rattle.keeper_commands.proofs.rescue.scanning.scan.Goals as goal
 
 pub loop-before-init : goal.loop-before-init
-loop-before-init c = record { items = refl; sound = (c.requires.once, c.requires.on_track); same = refl }
+loop-before-init c = record { items = refl; sound = (c.requires.once, c.requires.on_track) }
 
 pub add_next-requires : goal.add_next-requires
 add_next-requires c = record {
@@ -19,15 +19,14 @@ pub loop-before-preserved : goal.loop-before-preserved
 loop-before-preserved c =
     let old = c.loop-before.invariant in
     record {
-      items = scanned-more (disk_image c.args.disk.now) (disk_image c.loop-before.disk) c.args.sectors.now.items
-          c.loop-before.sectors.items c.add_next.new.sectors.items c.loop-before.before old.same old.items
-          c.add_next.ensures.items;
-      sound = next-sound (disk_image c.loop-before.disk) c.loop-before.sectors.items c.add_next.new.sectors.items
-          (c.loop-before.before + 1) (omega arith) c.add_next.ensures.items old.sound;
-      same = c.add_next.ensures.same ∙ old.same;
+      items = scanned-more (disk_image c.args.disk.now) (disk_image c.args.disk.now) c.args.sectors.now.items
+          c.loop-before.sectors.items c.add_next.new.sectors.items c.loop-before.before refl old.items
+          c.add_next.ensures;
+      sound = next-sound (disk_image c.args.disk.now) c.loop-before.sectors.items c.add_next.new.sectors.items
+          (c.loop-before.before + 1) (omega arith) c.add_next.ensures old.sound;
     }
 
-pub returns-clause-items : goal.returns-clause-items
-returns-clause-items c =
+pub returns : goal.returns
+returns c =
     let n : c.loop-before.before ≡ 18 = omega arith in
     c.loop-before.invariant.items ∙ ap (with_scanned (disk_image c.args.disk.now) c.args.sectors.now.items) n

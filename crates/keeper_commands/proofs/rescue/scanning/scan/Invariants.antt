@@ -7,7 +7,6 @@ use Rattle.keeper_commands.proofs.rescue.scanning.scan.Given as goal
 
 abbrev pub invariant-loop-before : goal.invariant-loop-before
 invariant-loop-before l = record {
-  items : l.sectors.items ≡ with_scanned (disk_image l.fn.disk) l.fn.sectors.items l.before;
+  items : l.sectors.items ≡ with_scanned (disk_image l.disk) l.fn.sectors.items l.before;
   sound : IsSound l.sectors.items;
-  same : disk_image l.disk ≡ disk_image l.fn.disk;
 }
