@@ -9,9 +9,9 @@ A FAULT is one of these; files are told by their names:
 - `output-interrupted`: the first call to the output is interrupted (EINTR)
 - `input-fails`: standard input fails behind its last byte (ETIMEDOUT); `input-in N`: it comes N bytes at a time, behind an interrupted
   call; `unreadable`: each read of *.d64 fails (EIO)
-- `others unknown`: no lock is known (EOPNOTSUPP)
-- `gone N`, `cut N`: before the Nth look at the name of *.d64 the file goes to *.d64-elsewhere, or half of its bytes go; `unseen N`: that
-  look finds nothing (ENOENT)
+- `others unknown`: no lock is known (EOPNOTSUPP); `shared N`: the Nth lock that isn't for one program alone
+- `gone N`, `other N`, `cut N`: before the Nth look at the name of *.d64 the file goes to *.d64-elsewhere, and another of its bytes comes, or
+  half of its bytes go; `unseen N`: that look finds nothing (ENOENT); `log-gone N`: before its Nth sync *.d64-log goes
 
 The file COUNTS gets a word for each call that syncs, or reads or writes *.d64: `sync`, `folder-sync`, `log-sync`, `read`, `write`. The
 status is the program's."""
@@ -22,6 +22,7 @@ import fcntl
 import os
 import re
 import select
+import shutil
 import socket
 import struct
 import sys
@@ -86,11 +87,14 @@ class Faults:
         kind = "image" if is_image(path) else "log" if ".d64-log" in path else "folder" if has_image(path) else ""
         if call in (FSYNC, FDATASYNC) and kind:
             self.done.append(SYNCS[kind])
+            if kind == "log" and self.is_due("log-gone"):
+                os.rename(path, path + "-elsewhere")
             return errno.EIO if self.is_due(SYNCS[kind]) else None
         if call == STATX and kind == "image":
             return self.look(path)
         if call == FLOCK:
-            return errno.EOPNOTSUPP if "others" in self.at else None
+            is_refused = "others" in self.at or given[1] & fcntl.LOCK_SH and self.is_due("shared")
+            return errno.EOPNOTSUPP if is_refused else None
         if call == READ:
             return self.read(number, given, kind)
         if call in (WRITE, PWRITE) and (kind == "image" or given[0] == 1):
@@ -100,6 +104,9 @@ class Faults:
     def look(self, path):
         if self.is_due("gone"):
             os.rename(path, path + "-elsewhere")
+        if self.is_due("other"):
+            os.rename(path, path + "-elsewhere")
+            shutil.copyfile(path + "-elsewhere", path)
         if self.is_due("cut"):
             os.truncate(path, os.path.getsize(path) // 2)
         return errno.ENOENT if self.is_due("unseen") else None

@@ -96,7 +96,9 @@ class Part:
         elif word in (b"no", b"folder", b"read-only", b"pipe") and rest in (b"image", b"script"):
             self.put(word, rest, held)
         elif word == b"beside":
-            (self.folder / "b.d64").write_bytes(held)
+            (self.folder / (text_of(rest).decode() or "b.d64")).write_bytes(held)
+        elif word == b"named":
+            os.link(path, self.folder / rest.decode())
         elif word == b"feed":
             self.put(b"", b"input", held)
         elif word == b"shop":

@@ -71,8 +71,8 @@ def left_by(program, words, folder, given, terminals, is_full, faults=None):
             except subprocess.TimeoutExpired:
                 started.kill()
                 status = b"no end"
-    if (folder / "a.d64-elsewhere").exists():
-        (folder / "a.d64-elsewhere").rename(folder / "a.d64")
+    for gone in folder.glob("*-elsewhere"):
+        gone.rename(folder / gone.name.removesuffix("-elsewhere"))
     after = seen_in(folder)
     made = {it for it in after.keys() - before.keys() if it.startswith("out/")}
     changed = {it for it in {*before, *after} - made if before.get(it) != after.get(it)}
