@@ -1,5 +1,5 @@
 -- A disk in memory whose sectors also go to a file. Our own.
-use Rattle.std.specs.Prelude.{ℕ, ◌≡◌, ◌≢◌, ◌⊎◌, ◌+◌, ◌*◌, ◌++◌, List, [], ◌∷◌, Option, Some, IfSome, take, drop, length, min, refl, true}
+use Rattle.std.specs.Prelude.{ℕ, ◌≡◌, ◌≢◌, ◌⊎◌, ◌+◌, ◌++◌, List, [], ◌∷◌, Option, Some, IfSome, length, min, refl, true}
 use Rattle.std.proofs.Common.{◌∙◌, ap, arith, inl, inr, length-append, subst, ⊎_elim}
 use Rattle.std.specs.Io.KnownBytes.{Appends, Keeps}
 use Rattle.d64_image.specs.declared.mem_disk.MemDisk.{MemDisk}

@@ -17,8 +17,7 @@ fn put_title(disk: &mut MemDisk, name: &[u8], id: [u8; 2])
     requires { length name.now ≤ 16 }
     ensures { disk_image disk.new ≡ retitled (disk_image disk.old) name.now id }
 {
-    let mut bytes = [0; 256];
-    let _ = disk.read(map_place(), &mut bytes);
+    let mut bytes = *disk.sector(map_place());
     overwrite(&mut bytes, 144, &padded_name(name));
     overwrite(&mut bytes, 162, &id);
     let _ = disk.write(map_place(), &bytes);
