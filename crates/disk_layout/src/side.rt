@@ -2,7 +2,7 @@
 ghost use Rattle.std.specs.Prelude.{◌≡◌, ◌+◌, ◌*◌, ◌++◌, ◌<◌, ◌≤◌, ◌∷◌, [], length, slice_get, slice_index, take, drop};
 ghost use Rattle.std.specs.Prelude.{MatchOption, flat_map};
 ghost use Rattle.disk_layout.specs.Chain.{named_at};
-ghost use Rattle.disk_layout.specs.Fault.{NamesNext};
+ghost use Rattle.disk_layout.specs.Side.{NamesNext};
 ghost use Rattle.disk_layout.specs.Side.{link_bytes, place_bytes, pointers_of, side_sector};
 
 use d64_image::Place;

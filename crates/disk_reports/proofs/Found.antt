@@ -12,7 +12,8 @@ use Rattle.disk_layout.proofs.lemmas.chains.Chains.{Names-one}
 use Rattle.disk_layout.proofs.lemmas.layouts.Exact.{exact-side}
 use Rattle.disk_layout.proofs.lemmas.lists.Lists.{get-some, take-get}
 use Rattle.disk_layout.specs.Chain.{Names, NamesNone}
-use Rattle.disk_layout.specs.Fault.{NamesNext, SidesLead}
+use Rattle.disk_layout.specs.Fault.{SidesLead}
+use Rattle.disk_layout.specs.Side.{NamesNext}
 use Rattle.disk_layout.specs.Layout.{record_length, sides_for}
 use Rattle.disk_layout.specs.Side.{side_sector}
 use Rattle.disk_layout.proofs.lemmas.kept.OtherWrites.{other-bytes}

@@ -5,7 +5,8 @@ use Rattle.d64_image.specs.Images.{Image, sector}
 use Rattle.d64_image.specs.declared.place.Place.{Place}
 use Rattle.disk_layout.specs.Chain.{Names, NamesNone}
 use Rattle.disk_layout.specs.Directory.{type_byte}
-use Rattle.disk_layout.specs.Fault.{NamesNext, SidesLead}
+use Rattle.disk_layout.specs.Fault.{SidesLead}
+use Rattle.disk_layout.specs.Side.{NamesNext}
 use Rattle.disk_layout.specs.Layout.{count_field, is_rel, sides_for}
 use Rattle.disk_layout.specs.declared.faults.Fault.{Fault}
 use Rattle.disk_layout.specs.declared.faults.Fault.TheVariants as faults

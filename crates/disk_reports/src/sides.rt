@@ -2,7 +2,7 @@
 ghost use Rattle.std.specs.Prelude.{◌≡◌, ◌↔◌, ◌+◌, ◌<◌, ◌≤◌, ◌++◌, IsTrue, List, MatchOption, length};
 ghost use Rattle.d64_image.specs.Images.{sector as sector_at};
 ghost use Rattle.d64_image.specs.Memory.{disk_image};
-ghost use Rattle.disk_layout.specs.Fault.{NamesNext};
+ghost use Rattle.disk_layout.specs.Side.{NamesNext};
 ghost use Rattle.disk_layout.specs.Layout.{sides_for};
 ghost use Rattle.disk_reports.specs.Trails.{AreLinked, AreSides, AreWrong, IsIntact, IsReachedBy};
 ghost use Rattle.layout_check.specs.Sides.{NamesEach};

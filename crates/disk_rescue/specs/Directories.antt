@@ -1,5 +1,5 @@
 -- A directory as far as it can be read, of a disk that is hurt too (1541 User's Guide, directory format). Our own.
-use Rattle.std.specs.Prelude.{◌≡◌, ◌⊎◌, ℕ, List, [], ◌∷◌, ◌++◌, Contains, None, Option, Some}
+use Rattle.std.specs.Prelude.{◌≡◌, ◌⊎◌, List, [], ◌∷◌, ◌++◌, Contains, None, Option, Some}
 use Rattle.std.specs.List.{AllByRecursion}
 use Rattle.d64_image.specs.Images.{Image}
 use Rattle.d64_image.specs.declared.place.Place.{Place}

@@ -6,7 +6,8 @@ use Rattle.d64_image.specs.Images.{Image, sector}
 use Rattle.d64_image.specs.declared.place.Place.{Place}
 use Rattle.disk_layout.proofs.lemmas.chains.Chains.{IsChain-one, Names-one}
 use Rattle.disk_layout.specs.Chain.{Leads}
-use Rattle.disk_layout.specs.Fault.{IsSideSector, NamesNext, SidesLead}
+use Rattle.disk_layout.specs.Fault.{IsSideSector, SidesLead}
+use Rattle.disk_layout.specs.Side.{NamesNext}
 use Rattle.disk_layout.specs.Layout.{File, IsRelFile}
 use Rattle.disk_layout.proofs.lemmas.lists.Lists.{get-some}
 

@@ -3,7 +3,7 @@ use Rattle.std.proofs.Common.{ap, arith, inl, inr, length, subst, sym, ◌∙◌
 use Rattle.d64_image.specs.Images.{Image, sector}
 use Rattle.d64_image.specs.Memory.{disk_image}
 use Rattle.d64_image.specs.declared.place.Place.{Place}
-use Rattle.disk_layout.specs.Fault.{NamesNext}
+use Rattle.disk_layout.specs.Side.{NamesNext}
 use Rattle.layout_check.proofs.lemmas.finding.SideWalks.{next-led}
 use Rattle.disk_reports.proofs.Found.{linked}
 use Rattle.disk_reports.proofs.sides.follow_links.Goals as goal

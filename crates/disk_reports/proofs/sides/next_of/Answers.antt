@@ -3,7 +3,7 @@ use Rattle.std.proofs.Common.{subst, ◌∙◌}
 use Rattle.std.specs.Prelude.{MatchOption}
 use Rattle.d64_image.specs.Images.{Sector}
 use Rattle.d64_image.specs.declared.place.Place.{Place}
-use Rattle.disk_layout.specs.Fault.{NamesNext}
+use Rattle.disk_layout.specs.Side.{NamesNext}
 use Rattle.disk_rescue.proofs.Walked.{at-answer}
 use Rattle.disk_reports.proofs.sides.next_of.Goals as goal
 

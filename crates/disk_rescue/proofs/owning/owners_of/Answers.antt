@@ -1,7 +1,6 @@
 -- The blocks of one entry more.
-use Rattle.std.proofs.Common.{lit≤, refl, subst, sym, ◌∙◌}
+use Rattle.std.proofs.Common.{refl, subst, sym, ◌∙◌}
 use Rattle.d64_image.specs.Images.{Image}
-use Rattle.d64_image.specs.Memory.{disk_image}
 use Rattle.disk_rescue.proofs.EntryBlocks.{counted-all, counted-more, counted-none}
 use Rattle.disk_rescue.specs.Reached.{IsReached}
 use Rattle.disk_rescue.proofs.owning.owners_of.Goals as goal

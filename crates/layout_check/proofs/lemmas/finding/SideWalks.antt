@@ -30,7 +30,8 @@ use Rattle.d64_image.specs.Images.{Image, sector}
 use Rattle.d64_image.specs.declared.place.Place.{Place}
 use Rattle.disk_layout.specs.Chain.{Names, NamesNone}
 use Rattle.disk_layout.proofs.lemmas.layouts.SidesAt.{SidesLead-push}
-use Rattle.disk_layout.specs.Fault.{Holds, IsBadSide, IsSideSector, NamesNext, SidesLead, length_byte, link, listed, number, pointer}
+use Rattle.disk_layout.specs.Fault.{Holds, IsBadSide, IsSideSector, SidesLead, length_byte, link, listed, number, pointer}
+use Rattle.disk_layout.specs.Side.{NamesNext}
 use Rattle.disk_layout.specs.Layout.{sides_for}
 use Rattle.disk_layout.specs.declared.faults.Fault.TheVariants.{BadSide}
 use Rattle.disk_layout.specs.declared.slot.Slot.{Slot}

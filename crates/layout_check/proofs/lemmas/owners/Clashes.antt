@@ -44,7 +44,6 @@ use Rattle.disk_layout.specs.Fault.{
   Holds,
   IsClosed,
   IsSideSector,
-  NamesNext,
   SidesLead,
   Owner,
   Owns,
@@ -53,6 +52,7 @@ use Rattle.disk_layout.specs.Fault.{
   sides_of,
   the_directory,
 }
+use Rattle.disk_layout.specs.Side.{NamesNext}
 use Rattle.disk_layout.specs.Layout.{File, HasChain, IsClosedType, IsFile, IsRelFile, file_owns, is_rel}
 use Rattle.disk_layout.specs.declared.faults.Fault.TheVariants.{OwnedTwice}
 use Rattle.disk_layout.specs.declared.slot.Slot.{Slot}

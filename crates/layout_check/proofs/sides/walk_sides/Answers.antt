@@ -4,7 +4,7 @@ use Rattle.std.proofs.Common.{ap, arith, lit<, ◌∙◌, ◌<◌, length, refl,
 use Rattle.d64_image.specs.Images.{Image, Sector, sector}
 use Rattle.disk_layout.proofs.lemmas.chains.Names.{named-match}
 use Rattle.layout_check.proofs.lemmas.judging.Calls.{passes_none, passes_read, passes_then}
-use Rattle.disk_layout.specs.Fault.{NamesNext}
+use Rattle.disk_layout.specs.Side.{NamesNext}
 use Rattle.layout_check.proofs.lemmas.finding.SideWalks.{next-led}
 use Rattle.layout_check.proofs.lemmas.finding.SideWalks.{some-blocks, walk-done}
 use Rattle.layout_check.proofs.sides.walk_sides.Goals as goal

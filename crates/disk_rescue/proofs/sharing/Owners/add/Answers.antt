@@ -1,5 +1,5 @@
 -- One sector more.
-use Rattle.std.proofs.Common.{◌≡◌, ◌+◌, ℕ, List, arith, min, subst, sym}
+use Rattle.std.proofs.Common.{◌≡◌, ◌+◌, List, min, subst, sym}
 use Rattle.std.proofs.lemmas.List.{take_all}
 use Rattle.d64_image.specs.declared.place.Place.{Place}
 use Rattle.disk_rescue.proofs.Counts.{count-next, count-none}

@@ -10,7 +10,8 @@ use Rattle.layout_check.proofs.lemmas.judging.Calls.{tells_read}
 use Rattle.layout_check.proofs.lemmas.judging.Calls.{tells_then}
 use Rattle.layout_check.proofs.lemmas.finding.SideWalks.{bad-holds, misjudged-bad, misnumbered, no_first_side}
 use Rattle.layout_check.proofs.lemmas.finding.SideWalks.{side-reached, unlinked-bad}
-use Rattle.disk_layout.specs.Fault.{NamesNext, nowhere}
+use Rattle.disk_layout.specs.Fault.{nowhere}
+use Rattle.disk_layout.specs.Side.{NamesNext}
 use Rattle.layout_check.proofs.sides.walk_sides.Goals as goal
 
 pub returns-in_err-read_sector : goal.returns-in_err-read_sector
