@@ -10,7 +10,7 @@ use command_faults::CommandFault;
 use disk_layout::Fault;
 use image_edits::do_trim;
 use image_file::{EndedFile, Failures, Locks, NotedRuntime};
-use ledger_jobs::{Job, announce, do_job, explain, files_of, tell_cut};
+use ledger_jobs::{Job, announce, do_job, explain, files_of, tell_verdict};
 use opened_files::{Refusal, end};
 use std::alloc::{AllocError, Global};
 use std::env;
@@ -178,13 +178,13 @@ where
     }
     let failures = Failures::none();
     let ended = do_noted(rt, job, told, &failures, err);
-    let refusal = ended.err();
     let status = end(ended, err).status;
-    if told != Audience::Program {
-        match refusal {
-            Some(refusal) => explain(rt, job, refusal, failures.cause(), err),
-            None => tell_cut(rt, job, err),
-        }
+    if told == Audience::Program {
+        return status;
+    }
+    match ended {
+        Err(refusal) => explain(rt, job, refusal, failures.cause(), err),
+        Ok(found) => tell_verdict(rt, job, found, err),
     }
     status
 }

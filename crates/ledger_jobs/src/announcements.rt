@@ -3,8 +3,10 @@ ghost use Rattle.ledger_jobs.specs.JobRights.{MayExplain};
 ghost use Rattle.opened_files.specs.Rights.{MayReadImage};
 
 use crate::jobs::Job;
-use crate::refusal_subjects::CUT_SHORT;
+use crate::failure_lines::tell_of;
+use crate::refusal_subjects::{CUT_SHORT, said_of_fault};
 use d64_image::Place;
+use disk_layout::Fault;
 use image_file::{HostFiles, Locks, ShownPath};
 use image_looks::Look;
 use opened_files::{STANDARD_INPUT, cut_in, image_of_file, size_of};
@@ -26,10 +28,10 @@ where
     cut_in(rt.alloc(), image.as_slice()).unwrap_or_default()
 }
 
-/// Prints for a person, after the verdict of a check, where the first file of the image is cut short, if one is: a line
-/// `SHORT t/s`. The image's file is opened, locked with others that read it, and read once more for it. If that can't be
-/// done, or the line can't be printed, nothing is printed.
-pub fn tell_cut<F, R, E>(rt: &R, job: &Job<'_>, err: &mut E)
+/// Prints for a person, after the verdict of a check, what the fault means that it found, and what to do. Then it prints
+/// where the first file of the image is cut short, if one is: a line `SHORT t/s`. For that the image's file is opened,
+/// locked with others that read it, and read once more. If that can't be done, or a line can't be printed, it isn't printed.
+pub fn tell_verdict<F, R, E>(rt: &R, job: &Job<'_>, found: Option<Fault>, err: &mut E)
 where
     F: Read + Locks + OpenFile + Drop,
     R: HostFiles<File = F> + AllocGlobal,
@@ -43,6 +45,9 @@ where
     else {
         return;
     };
+    if let Some(fault) = found {
+        tell_of(err, image, said_of_fault(fault));
+    }
     if let Some(place) = cut_at(rt, image) {
         let _ = writeln!(err, "SHORT {}/{}", place.track(), place.sector());
     }

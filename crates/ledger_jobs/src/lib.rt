@@ -12,7 +12,7 @@ mod near_names;
 mod refusal_subjects;
 mod size_lines;
 
-pub use announcements::{announce, tell_cut};
+pub use announcements::{announce, tell_verdict};
 pub use dispatch::do_job;
 pub use explanations::explain;
 pub use image_file::ClosedStreams;

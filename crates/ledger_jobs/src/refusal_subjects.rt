@@ -2,8 +2,7 @@
 
 use crate::jobs::Job;
 use command_faults::CommandFault;
-use disk_layout::Fault;
-use image_edits::Edit;
+use disk_layout::{Fault, map_place};
 use opened_files::Refusal;
 
 /// What a line for a person is about.
@@ -26,10 +25,42 @@ pub(crate) enum About {
     Nothing,
 }
 
-/// What is wrong with a disk, and with an image that is no shop's.
 const JUDGED: &str =
     "\"man ledger-1541\" or docs/KEEPERS.md says what the word means, and what to do";
 
+/// What a fault of a disk means, and what to do.
+pub(crate) fn said_of_fault(fault: Fault) -> &'static str {
+    match fault {
+        Fault::BadLink(_) => {
+            "its link names no sector of the disk; `extract` takes out what can be read"
+        }
+        Fault::Loop(_) => "a chain of sectors comes back to it; `extract` takes out what can be read",
+        Fault::OwnedTwice(place) if place == map_place() => {
+            "an entry names the BAM's sector, as in drawn directories; `extract` takes the files out"
+        }
+        Fault::OwnedTwice(_) => {
+            "two of the files, the directory and the BAM have it; `extract` takes out what can be read"
+        }
+        Fault::BadType(_) => "an entry there has a type that doesn't exist; `bytes` takes files out",
+        Fault::Unclosed(_) => "a file there was never closed; `extract` takes it out",
+        Fault::BadSide(place) if place.track() == map_place().track() => {
+            "a relative file's entry there names no side sector; `records` prints what it has"
+        }
+        Fault::BadSide(_) => {
+            "a side sector disagrees with its file; `repair --sides` builds those anew"
+        }
+        Fault::BadLength(_) => {
+            "a relative file there has a record length of 0 or 255; `bytes` takes files out"
+        }
+        Fault::CountWrong(_) => {
+            "a relative file's entry there has a wrong block count; `repair` corrects it"
+        }
+        Fault::MapWrong(_) => "the BAM is wrong about it; `repair` corrects it",
+        Fault::Device(_) => JUDGED,
+    }
+}
+
+/// What is wrong with an image that is no shop's.
 const NO_SHOP: &str = "it is no shop of this program, or another program wrote to it";
 
 const KEPT: &str =
@@ -67,14 +98,12 @@ const GEOS: &str = "it is a disk of GEOS, which keeps sectors that no file owns"
 
 const FORMAT: &str = "its format byte isn't $41; it may be no disk of the 1541";
 
-const SIDES: &str = "a side sector disagrees with its file; `repair --sides` builds those anew";
-
 /// What a fault of a command is about.
 fn about_fault(fault: CommandFault) -> About {
     match fault {
         CommandFault::File => About::Files,
         CommandFault::ImageSize => About::Size,
-        CommandFault::Layout(_) => About::Image(JUDGED),
+        CommandFault::Layout(fault) => About::Image(said_of_fault(fault)),
         CommandFault::NoFile => About::Name,
         CommandFault::FileExists => About::Image(NAMED),
         CommandFault::DiskFull => About::Image(NO_ROOM),
@@ -90,20 +119,6 @@ fn about_fault(fault: CommandFault) -> About {
     }
 }
 
-/// What a fault of this job is about. A repair that keeps side sectors as they are says which flag builds them anew.
-fn about_job(job: &Job<'_>, fault: CommandFault) -> About {
-    match (job, fault) {
-        (
-            Job::Change {
-                edit: Edit::Repair { .. },
-                ..
-            },
-            CommandFault::Layout(Fault::BadSide(_)),
-        ) => About::Image(SIDES),
-        _ => about_fault(fault),
-    }
-}
-
 /// What is said of a log that gives this job no image.
 fn said_of_log(job: &Job<'_>) -> &'static str {
     match job {
@@ -115,7 +130,7 @@ fn said_of_log(job: &Job<'_>) -> &'static str {
 /// What a refusal of this job is about.
 pub(crate) fn subject_of(job: &Job<'_>, refusal: Refusal) -> About {
     match refusal {
-        Refusal::Fault(fault) => about_job(job, fault),
+        Refusal::Fault(fault) => about_fault(fault),
         Refusal::InUse => About::Image("another program has it; end that one first"),
         Refusal::Kept(_) => About::Image(KEPT),
         Refusal::Exists => About::Made,

@@ -1,5 +1,5 @@
 -- The room in a file's last blocks is filled: the tail of a block, and then the last block with another last index.
-use Rattle.std.proofs.Common.{◌≡◌, ℕ, inl, ◌+◌, ◌≤◌, List, ◌∷◌, ◌++◌, length, refl, sym, ◌∙◌, ap, subst, slice_index, IsTrue, take, drop}
+use Rattle.std.proofs.Common.{◌≡◌, ℕ, inl, ◌≤◌, List, ◌∷◌, ◌++◌, length, refl, sym, ◌∙◌, ap, subst, slice_index, IsTrue, take, drop}
 use Rattle.std.specs.Prelude.{Contains, flat_map}
 use Rattle.std.specs.List.{AllByRecursion}
 use Rattle.std.proofs.lemmas.List.Elements.{Contains-append_left}
