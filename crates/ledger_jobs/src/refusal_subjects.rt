@@ -55,7 +55,7 @@ pub(crate) fn said_of_fault(fault: Fault) -> &'static str {
         Fault::CountWrong(_) => {
             "a relative file's entry there has a wrong block count; `repair` corrects it"
         }
-        Fault::MapWrong(_) => "the BAM is wrong about it; `repair` corrects it",
+        Fault::MapWrong(_) => "the BAM is wrong; `repair` corrects it",
         Fault::Device(_) => JUDGED,
     }
 }
