@@ -6,6 +6,7 @@ pub mod Kept
 pub mod Lined
 pub mod ListingExamples
 pub mod Listings
+pub mod NoneNamed
 pub mod SameFaults
 pub mod Shown
 pub mod Spelled

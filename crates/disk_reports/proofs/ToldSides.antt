@@ -62,7 +62,7 @@ begins (x ∷ xs) (y ∷ ys) h =
     rw same (ap (λ (zs : List Place). x ∷ zs) (begins xs ys (λ k z e. h (suc k) z e)))
 
 -- the blocks of an entry whose chain is whole
-whole-chain : (img : Image) (s : Slot) (blocks : List Place) (end : Option Fault) → IsReachedBy img s blocks end
+pub whole-chain : (img : Image) (s : Slot) (blocks : List Place) (end : Option Fault) → IsReachedBy img s blocks end
     → HasWholeChain s end → (p : Place) × Names s.bytes 3 p × ((u : ℕ) × IsChain img p blocks u)
 whole-chain img s blocks end (u, inl (plain, none, fine, z)) whole = absurd (false≢true (sym plain.0 ∙ whole.0))
 whole-chain img s blocks end (u, inr (inl (other, none, empty, broken, z))) whole =
@@ -123,7 +123,7 @@ inexact img f s blocks sides j p slot r same all wrong exact =
       exact = rw (same, ← whole, ← slot) exact;
     })
 
-rel-closed : (s : Slot) → IsTrue (is_rel s) → 128 ≤ type_byte s
+pub rel-closed : (s : Slot) → IsTrue (is_rel s) → 128 ≤ type_byte s
 rel-closed s h = grind (arith, nat_tests)
 
 told-wrong : (img : Image) (t : Trail) (p : Place) (j : ℕ) → IsSlot img t.slot.sector t.slot
