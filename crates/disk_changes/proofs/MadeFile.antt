@@ -13,7 +13,7 @@ use Rattle.disk_changes.specs.declared.changes.Why.TheVariants as whys
 use Rattle.disk_layout.specs.Clean.{IsCleanLayout}
 use Rattle.keeper_commands.specs.Faults.{keep_fault}
 use Rattle.rel_records.specs.Calls.{Creates}
-use Rattle.rel_records.specs.creation.Made.{HasFileMore, HasNoRoom, IsTakenName}
+use Rattle.rel_records.specs.creation.Made.{HasFileMore, HasNoRoom}
 use Rattle.rel_records.specs.declared.faults.RelFault.{RelFault}
 use Rattle.rel_records.specs.declared.faults.RelFault.TheVariants as rel
 use Rattle.rel_records.specs.declared.rel_file.RelFile.{RelFile}

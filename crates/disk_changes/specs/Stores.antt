@@ -1,5 +1,5 @@
 -- What comes of storing records in a file of an image. Our own.
-use Rattle.std.specs.Prelude.{◌≡◌, List, Some, length, slice_get, ℕ}
+use Rattle.std.specs.Prelude.{◌≡◌, List, Some, slice_get, ℕ}
 use Rattle.command_faults.specs.declared.faults.CommandFault.TheVariants as faults
 use Rattle.d64_image.specs.Memory.{disk_image, sectors_in}
 use Rattle.damaged_files.specs.declared.sides.planning.Shortened.{Shortened}

@@ -73,7 +73,7 @@ fn said_of_bytes(bytes: &[u8]) -> &'static str {
     }
     let (at, map) = MAP;
     match bytes.get(at..at + map.len()) {
-        Some(found) if found == map => "it is cut short, since 35 tracks have 174848; read the disk again",
+        Some(found) if found == map.as_slice() => "it is cut short, since 35 tracks have 174848; read the disk again",
         _ => WANTED,
     }
 }

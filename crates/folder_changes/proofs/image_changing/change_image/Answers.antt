@@ -1,5 +1,4 @@
 -- The change is made, put in place, and printed.
-use Rattle.disk_changes.specs.Changes.{IsChanged}
 use Rattle.folder_changes.proofs.Changed.{made-moments, printed}
 use Rattle.folder_changes.proofs.image_changing.change_image.Goals as goal
 use Rattle.folder_changes.specs.FolderChanges.{IsLeft, IsMade}
