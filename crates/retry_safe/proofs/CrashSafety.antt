@@ -1,7 +1,6 @@
 -- A run is safe, whatever cuts it.
-use Rattle.std.proofs.Common.{◌≡◌, ◌++◌, List, subst, sym, length}
+use Rattle.std.proofs.Common.{◌++◌, List, subst, sym}
 use Rattle.d64_image.specs.History.{History}
-use Rattle.d64_image.specs.Images.{Image}
 use Rattle.host_session.proofs.lemmas.Held.{weaker}
 use Rattle.host_session.proofs.lemmas.runs.Chained.{whole}
 use Rattle.host_session.proofs.lemmas.runs.CutChains.{run_grows}

@@ -1,6 +1,6 @@
 -- An image that is made and said to be, by how its two steps ended.
 use Rattle.std.proofs.Common.{◌≡◌, ◌≤◌, ◌⊎◌, ◌∙◌, ℕ, List, Option, Result, Ok, Err, ap, inl, inr, refl, subst, sym}
-use Rattle.std.specs.Prelude.{IfErr, IsOk, OnOk, codes}
+use Rattle.std.specs.Prelude.{IfErr, OnOk, codes}
 use Rattle.std.specs.Io.KnownBytes.{Appends}
 use Rattle.d64_image.specs.Chunks.{sectors_in-bytes_of}
 use Rattle.d64_image.specs.Images.{Image}

@@ -5,12 +5,11 @@ use Rattle.d64_image.specs.Images.{Image}
 use Rattle.disk_layout.specs.Layout.{File}
 use Rattle.rel_records.specs.Written.{touched}
 use Rattle.rel_records.specs.growth.Growth.{growth_writes}
-use Rattle.request_cards.specs.declared.answer.Answer.{Answer}
 use Rattle.request_cards.specs.declared.kind.Kind.TheVariants.{Set}
 use Rattle.request_cards.specs.declared.reply.Reply.{Reply}
 use Rattle.request_cards.specs.declared.reply.Reply.TheVariants.{Syntax, Told}
 use Rattle.request_cards.specs.declared.reply.Word.TheVariants.{Media}
-use Rattle.request_cards.specs.Ledgers.{Entry, State, after_message, next_in}
+use Rattle.request_cards.specs.Ledgers.{State, after_message, next_in}
 use Rattle.request_cards.specs.Reading.{request_of}
 use Rattle.request_cards.specs.Requests.{Ask, same_kind}
 use Rattle.request_cards.specs.Trade.{outcome}

@@ -1,5 +1,5 @@
 -- Replies that are printed.
-use Rattle.std.proofs.Common.{◌≡◌, ◌+◌, ◌++◌, ℕ, List, [], ◌∷◌, Ok, Err, Option, refl, sym, subst, ◌∙◌, ap}
+use Rattle.std.proofs.Common.{◌≡◌, ◌++◌, ℕ, List, [], ◌∷◌, Ok, Err, Option, refl, sym, subst, ◌∙◌, ap}
 use Rattle.std.proofs.Common.{arith, take}
 use Rattle.std.specs.Prelude.{OnErr, OnOk, Result}
 use Rattle.std.specs.Io.KnownBytes.{Appends}

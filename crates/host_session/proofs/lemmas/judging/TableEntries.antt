@@ -1,10 +1,10 @@
 -- One entry of a table, and the open intents of records up to one more.
-use Rattle.std.proofs.Common.{ℕ, zero, suc, ◌≡◌, ◌≢◌, ◌<◌, ◌≤◌, ◌+◌, ◌-◌, List, [], ◌∷◌, ◌++◌, None, Option, Some, true}
-use Rattle.std.proofs.Common.{add-one, ap, arith, append_assoc, length, length-append, refl, replicate, set, sym}
+use Rattle.std.proofs.Common.{ℕ, zero, suc, ◌≡◌, ◌<◌, ◌≤◌, ◌+◌, List, [], ◌∷◌, ◌++◌, None, Option, Some, true}
+use Rattle.std.proofs.Common.{ap, arith, append_assoc, length, length-append, refl, sym}
 use Rattle.std.proofs.Common.{take, drop, ◌∙◌, get_or}
 use Rattle.std.specs.Prelude.{is_some, slice_get}
-use Rattle.std.proofs.lemmas.Bool.{false≢true, ne_eqb}
-use Rattle.std.proofs.lemmas.List.{append-nil, get_or-set_same, get_or-set_other, take-append-drop}
+use Rattle.std.proofs.lemmas.Bool.{false≢true}
+use Rattle.std.proofs.lemmas.List.{append-nil, take-append-drop}
 use Rattle.std.proofs.lemmas.List.Concat.{flat_map-append}
 use Rattle.std.proofs.lemmas.Option.{get_or_from_slice_get, none-some, same_Some}
 use Rattle.disk_layout.specs.Records.{empty_record}

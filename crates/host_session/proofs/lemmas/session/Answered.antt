@@ -1,9 +1,9 @@
 -- A session answers its till's next request: what its tables know of it, and what it stands on once the drive has kept
 -- it.
-use Rattle.std.proofs.Common.{ℕ, ◌≡◌, ◌+◌, true, false, Bool, List, None, Option, Some, Ok, Err, Result, refl, sym, ◌∙◌}
+use Rattle.std.proofs.Common.{ℕ, ◌≡◌, ◌+◌, true, false, Bool, Option, Ok, Err, Result, refl, sym, ◌∙◌}
 use Rattle.std.proofs.Common.{ap, subst}
 use Rattle.std.specs.Prelude.{IsSome, OnOk, nat_le, ◌==◌}
-use Rattle.std.proofs.lemmas.Bool.{and_parts, eqb-true, false≢true}
+use Rattle.std.proofs.lemmas.Bool.{and_parts, eqb-true}
 use Rattle.d64_image.specs.History.{History}
 use Rattle.host_session.proofs.lemmas.Held.{at_end}
 use Rattle.request_cards.specs.declared.decision.Outcome.{Outcome}

@@ -1,19 +1,13 @@
 -- Each quantity on a disk at rest is one that a card can hold.
-use Rattle.std.proofs.Common.{◌≡◌, ℕ, ◌≤◌, ◌-◌, inl, inr, Bool, true, false, List, length, get_or, set, Option, Some}
-use Rattle.std.proofs.Common.{None, refl, sym, ◌∙◌, ap, arith, subst}
+use Rattle.std.proofs.Common.{◌≡◌, ℕ, ◌≤◌, Bool, true, false, List, Option, Some}
+use Rattle.std.proofs.Common.{None, refl, sym, ◌∙◌, ap, subst}
 use Rattle.std.specs.Prelude.{IfSome, if◌then◌else◌, ◌==◌}
 use Rattle.std.specs.Option.{option_and_then}
-use Rattle.std.proofs.lemmas.Bool.{cases_eq, eq-eqb, ne_eqb}
-use Rattle.std.proofs.lemmas.List.{get_or-set_other, get_or-set_same}
 use Rattle.d64_image.specs.Images.{Image}
 use Rattle.request_cards.proofs.CardReading.{stock_is}
-use Rattle.request_cards.specs.declared.decision.Outcome.{Outcome}
 use Rattle.request_cards.specs.CardReading.{stock_card_of}
 use Rattle.request_cards.specs.CardTexts.{Card, Stock}
-use Rattle.request_cards.specs.Ledgers.{State, applied, entry_of}
-use Rattle.request_cards.specs.Requests.{Ask}
-use Rattle.request_cards.specs.Trade.{Cards, cards_after, put}
-use Rattle.request_cards.specs.Tables.{newest_in, nth, renewed, second_in, state_in, traded}
+use Rattle.request_cards.specs.Trade.{Cards}
 use Rattle.host_session.specs.shop.Files.{record_at}
 use Rattle.host_session.specs.shop.Shop.{IsSettled, Shop, overlaid, quantities, quantity_if, quantity_in, results}
 

@@ -7,7 +7,7 @@ use Rattle.std.proofs.lemmas.List.{append-nil, length-set, take_all, take_at, dr
 use Rattle.d64_image.specs.History.{History}
 use Rattle.host_session.specs.Held.{Changes}
 use Rattle.d64_image.specs.Images.{Image}
-use Rattle.disk_layout.specs.Layout.{File, IsLayout, Layout, file_owns, record_length}
+use Rattle.disk_layout.specs.Layout.{File, file_owns, record_length}
 use Rattle.disk_layout.specs.Records.{pieces, record_count, records}
 use Rattle.rel_records.specs.Others.{HasRecords}
 use Rattle.rel_records.specs.Written.{IsWriting, grown_by, half_written, room_in_first, with_half}

@@ -5,7 +5,6 @@ use Rattle.request_cards.specs.CardReading.{request_card_of}
 use Rattle.host_session.specs.shop.Found.{Tells}
 use Rattle.host_session.proofs.lemmas.judging.TillTables.{bad-intent, bad-other, judged-card, judged-empty}
 use Rattle.host_session.proofs.lemmas.judging.TillTables.{lacks-answered, lacks-none, lacks-some, told-none, told-some}
-use Rattle.host_session.specs.declared.shop.record_content.RecordContent.TheVariants as contents
 use Rattle.std.proofs.Common.{Some}
 use Rattle.host_session.proofs.shop.judgment.judged_till.Goals.{else-pending-via-then-pending+else-passes}
 use Rattle.host_session.proofs.shop.judgment.judged_till.Goals.{else-pending-via-else-pending}
