@@ -74,6 +74,8 @@ pub enum Edit<'a> {
     },
     /// The first file of a name gets another name.
     Rename {
+        /// What is done if the image has lost its log.
+        loss: Loss,
         /// The name that the file has.
         from: Name,
         /// The name that the file gets.
@@ -83,11 +85,15 @@ pub enum Edit<'a> {
     Title {
         /// Its ID.
         id: [u8; 2],
+        /// What is done if the log of the image is away.
+        loss: Loss,
         /// Its name.
         name: Name,
     },
     /// The first file of a name is deleted.
     Delete {
+        /// What is done if the image has lost its log.
+        loss: Loss,
         /// The name of the file.
         name: Name,
     },
@@ -97,6 +103,8 @@ pub enum Edit<'a> {
         file: &'a str,
         /// The type of the new file.
         kind: FileType,
+        /// What is done if the image has lost its log.
+        loss: Loss,
         /// The name of the new file.
         name: Name,
     },
