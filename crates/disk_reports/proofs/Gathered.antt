@@ -1,5 +1,5 @@
 -- Faults gathered one after another.
-use Rattle.std.proofs.Common.{◌≡◌, ◌<◌, ◌+◌, ◌++◌, ◌∷◌, [], ℕ, suc, List, ap, append-nil, append_assoc, arith, get_or, inl, length, refl, subst, sym, take, ◌∙◌}
+use Rattle.std.proofs.Common.{◌≡◌, ◌<◌, ◌+◌, ◌++◌, ◌∷◌, [], ℕ, zero, suc, List, ap, append-nil, append_assoc, arith, get_or, inl, inr, length, refl, subst, sym, take, ◌∙◌}
 use Rattle.std.proofs.lemmas.List.{take_more}
 use Rattle.d64_image.specs.Places.{place_at}
 use Rattle.disk_layout.specs.declared.faults.Fault.{Fault}
