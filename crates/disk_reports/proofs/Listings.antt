@@ -16,6 +16,7 @@ use Rattle.disk_layout.specs.declared.slot.Slot.{Slot}
 use Rattle.command_faults.specs.Faults.{IsLoadFault}
 use Rattle.disk_reports.specs.Listings.{HasDirectory, IsListFault, IsListed}
 use Rattle.command_faults.specs.declared.faults.CommandFault.{CommandFault}
+use Rattle.command_faults.specs.declared.faults.CommandFault.TheVariants as faults
 use Rattle.disk_reports.specs.declared.texts.NameForm.{NameForm}
 use Rattle.disk_reports.specs.Texts.{disk_text, entry_line, entry_text, free_text, listing, name_text, quoted, type_text}
 use Rattle.command_faults.proofs.Loads.{by-load}

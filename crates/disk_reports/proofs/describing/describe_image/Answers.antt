@@ -1,5 +1,5 @@
 -- What the disk in memory holds is the image, which was judged and followed.
-use Rattle.std.proofs.Common.{List, ap, refl, subst, ◌∙◌}
+use Rattle.std.proofs.Common.{List, ap, refl, subst, ◌∙◌, ℕ}
 use Rattle.std.proofs.lemmas.Result.{err_from_is_err_and}
 use Rattle.std.specs.Io.KnownBytes.{Appends}
 use Rattle.d64_image.specs.Images.{Image, Sector, sector}
