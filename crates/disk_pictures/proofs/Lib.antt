@@ -5,14 +5,13 @@ pub mod ComparedMarkup
 pub mod Counted
 pub mod CountedDrawing
 pub mod Called
-pub mod Counting
 pub mod Drawn
 pub mod DrawnNumbers
 pub mod DrawnOnce
 pub mod FileBytes
 pub mod HowManyDrawn
+pub mod InOrder
 pub mod Marks
-pub mod Marking
 pub mod Markups
 pub mod Named
 pub mod Opening

@@ -1,11 +1,12 @@
 -- The shades of a small drawing: none is 29 or more, and what the table of them leaves out isn't drawn.
-use Rattle.std.proofs.Common.{◌≡◌, ◌<◌, ◌≤◌, ◌+◌, ◌++◌, ◌∙◌, ℕ, zero, suc, Bool, true, false, List, [], ap, ap₂, arith, get_or, inl, inr}
+use Rattle.std.proofs.Common.{◌≡◌, ◌<◌, ◌≤◌, ◌+◌, ◌-◌, ◌++◌, ◌∙◌, ℕ, zero, suc, Bool, true, false, List, [], ap, ap₂, arith, get_or, inl, inr}
 use Rattle.std.proofs.Common.{get_or-set_other, get_or-set_same, length, ne_eqb, refl, set, subst, sym}
-use Rattle.std.specs.Prelude.{IfSome, None, Option, Some, if◌then◌else◌, nat_eq}
-use Rattle.std.proofs.lemmas.Bool.{cases_eq, cases_lt, false≢true}
-use Rattle.d64_image.proofs.Places.{place_at-self, place_at-some, sector_small, track_fits}
+use Rattle.std.specs.Prelude.{None, Option, Some, if◌then◌else◌, nat_eq}
+use Rattle.std.proofs.lemmas.Bool.{cases_eq, false≢true}
+use Rattle.d64_image.proofs.Order.{each-more, each-place}
+use Rattle.d64_image.proofs.Places.{place_at-some}
 use Rattle.d64_image.specs.Images.{Sector}
-use Rattle.d64_image.specs.Places.{place_at}
+use Rattle.d64_image.specs.Places.{index_of, place_at}
 use Rattle.d64_image.specs.declared.place.Place.{Place}
 use Rattle.disk_layout.specs.Layout.{Layout}
 use Rattle.disk_layout.specs.declared.faults.Fault.{Fault}
@@ -44,39 +45,25 @@ module _ (v : Option Fault) (map : Sector) (l : Layout) where
       by true = omega arith
       by false = owner-shade map p (owner_of l p)
 
-  -- the shade of one sector of the track more
-  pub sector-more : (old new : Shades) (below s : ℕ) (o : Option Place) → o ≡ place_at (below + 1) s
-      → ((p : Place) → p.track ≡ below + 1 → p.sector < s → has_shade old below (shade v map l p) ≡ true)
+  -- the shade of one sector more
+  pub shade-more : (old new : Shades) (i : ℕ) (p : Place) (track n : ℕ) → index_of p ≡ i → track ≡ p.track
+      → n ≡ shade v map l p → ((q : Place) → index_of q < i → has_shade old (q.track - 1) (shade v map l q) ≡ true)
       → ((b n : ℕ) → has_shade old b n ≡ true → has_shade new b n ≡ true)
-      → IfSome o (λ p. has_shade new below (shade v map l p) ≡ true)
-      → (p : Place) → p.track ≡ below + 1 → p.sector < s + 1 → has_shade new below (shade v map l p) ≡ true
-  sector-more old new below s o is before kept now p on lt = elim (cases_lt p.sector s) [
-    | inl less ↦ kept below (shade v map l p) (before p on less)
-    | inr more ↦
-        let last : s ≡ p.sector = omega (arith, lt, more) in
-        let here : o ≡ Some p = is ∙ ap₂ place_at (sym on) last ∙ place_at-self p in
-        subst (λ (q : Option Place). IfSome q (λ p. has_shade new below (shade v map l p) ≡ true)) here now
-  ]
-
-  -- the shades of one track more
-  pub track-more : (old new : Shades) (below : ℕ)
-      → ((p : Place) (b : ℕ) → b < below → p.track ≡ b + 1 → has_shade old b (shade v map l p) ≡ true)
-      → ((b n : ℕ) → has_shade old b n ≡ true → has_shade new b n ≡ true)
-      → ((p : Place) → p.track ≡ below + 1 → has_shade new below (shade v map l p) ≡ true)
-      → (p : Place) (b : ℕ) → b < below + 1 → p.track ≡ b + 1 → has_shade new b (shade v map l p) ≡ true
-  track-more old new below before kept now p b lt on = elim (cases_lt b below) [
-    | inl less ↦ kept b (shade v map l p) (before p b less on)
-    | inr more ↦
-        let last : below ≡ b = omega (arith, lt, more) in
-        let here : p.track ≡ below + 1 = omega (arith, on, last) in
-        subst (λ (c : ℕ). has_shade new c (shade v map l p) ≡ true) last (now p here)
-  ]
+      → has_shade new (track - 1) n ≡ true
+      → (q : Place) → index_of q < i + 1 → has_shade new (q.track - 1) (shade v map l q) ≡ true
+  shade-more old new i p track n at on is before kept now =
+      each-more (λ q. has_shade new (q.track - 1) (shade v map l q) ≡ true) i p at
+      (λ q lt. kept (q.track - 1) (shade v map l q) (before q lt))
+      (subst (λ (m : ℕ). has_shade new (p.track - 1) m ≡ true) is
+      (subst (λ (t : ℕ). has_shade new (t - 1) n ≡ true) on now))
 
   -- and of all
-  pub all-tracks : (s : Shades) (n : ℕ) → 35 ≤ n
-      → ((p : Place) (b : ℕ) → b < n → p.track ≡ b + 1 → has_shade s b (shade v map l p) ≡ true)
-      → HasEach s (shade v map l)
-  all-tracks s n all each = λ p b on. each p b (omega (arith, track_fits p, on, all)) on
+  pub all-shades : (s : Shades) (i : ℕ) → 683 ≤ i
+      → ((p : Place) → index_of p < i → has_shade s (p.track - 1) (shade v map l p) ≡ true) → HasEach s (shade v map l)
+  all-shades s i all each p below on =
+      let at : p.track - 1 ≡ below = omega (arith, on) in
+      subst (λ (b : ℕ). has_shade s b (shade v map l p) ≡ true) at
+      (each-place (λ q. has_shade s (q.track - 1) (shade v map l q) ≡ true) i all each p)
 
   unset : (s : Shades) (below n : ℕ) → HasEach s (shade v map l) → has_shade s below n ≡ false
       → (p : Place) → p.track ≡ below + 1 → nat_eq (shade v map l p) n ≡ false

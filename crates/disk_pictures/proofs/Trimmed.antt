@@ -1,21 +1,17 @@
 -- What is told of an image that is trimmed, part by part.
-use Rattle.std.proofs.Common.{◌≡◌, ◌≢◌, ◌<◌, ◌≤◌, ◌+◌, ◌++◌, ℕ, Bool, true, false, List, [], ◌∷◌, take, get_or, length, map, ap}
-use Rattle.std.proofs.Common.{refl, subst, sym, ◌∙◌, ◌⊎◌, inl, inr, arith}
-use Rattle.std.specs.Prelude.{◌↔◌, IsTrue, None, Option, Some, flat_map, option_map, slice_get}
+use Rattle.std.proofs.Common.{◌≡◌, ◌<◌, ◌+◌, ◌++◌, ℕ, Bool, false, List, [], ◌∷◌, take, get_or, length, map, ap}
+use Rattle.std.proofs.Common.{subst, sym, ◌∙◌, inl, inr, arith}
+use Rattle.std.specs.Prelude.{◌↔◌, IsTrue, Option, Some, flat_map, option_map, slice_get}
 use Rattle.std.specs.Io.KnownBytes.{Appends, Keeps}
 use Rattle.std.proofs.KnownBytes.{Appends-kept, Appends-trans}
 use Rattle.std.proofs.lemmas.Bool.{cases_lt}
 use Rattle.std.proofs.lemmas.List.{flat_map_more, length-map, map_more, take_all}
 use Rattle.std.proofs.lemmas.Option.{slice_get-get_or, slice_get-map, slice_get_within}
-use Rattle.d64_image.specs.Geometry.{sectors_on}
-use Rattle.d64_image.specs.declared.place.Place.{Place}
-use Rattle.d64_image.proofs.Places.{few_sectors, place_at-self, track_fits, track_from_1}
-use Rattle.d64_image.specs.Places.{place_at}
 use Rattle.d64_image.specs.Memory.{sectors_in}
 use Rattle.disk_layout.specs.Fault.{HoldsOfDirectory, nowhere}
 use Rattle.disk_layout.specs.Layout.{File, Layout}
 use Rattle.disk_layout.specs.declared.faults.Fault.{Fault}
-use Rattle.disk_rescue.specs.Sizes.{IsImageSize, error_of}
+use Rattle.disk_rescue.specs.Sizes.{IsImageSize}
 use Rattle.disk_pictures.specs.Drawings.{IsDrawn, file_in}
 use Rattle.disk_pictures.specs.Trims.{AreFilesWhole, IsAllThere, IsFileWhole, IsTrimmed, errors_text, file_text, layout_line}
 use Rattle.disk_pictures.specs.Trims.{trim_text}
@@ -48,15 +44,6 @@ whole-all image fs i all before k f at =
     let inside = slice_get_within (map file_in fs) k f at in
     before k (omega (arith, inside, all, length-map fs file_in)) f at
 
--- the sectors of a track before number i were read
-abbrev pub AreReadBelow : List ℕ → ℕ → ℕ → Type 0
-AreReadBelow image t i = (p : Place) → p.track ≡ t → p.sector < i → error_of image p ≡ None
-
-pub read-all : (image : List ℕ) (t i : ℕ) → 21 ≤ i → AreReadBelow image t i
-    → (p : Place) → p.track ≡ t → error_of image p ≡ None
-read-all image t i all before p on =
-    before p on (omega (arith, p.on_disk, few_sectors p.track, all))
-
 -- what is told of both is told
 pub trim-told : (a b c d : Option (List ℕ)) (image : List ℕ) (l : Layout) → Appends a b (errors_text image)
     → Appends b c (flat_map (file_text image) l.files) → Keeps c d → Appends a d (trim_text image l)
@@ -80,47 +67,6 @@ pub all-files : (a b : Option (List ℕ)) (image : List ℕ) (fs : List DrawnFil
     → Appends a b (flat_map (file_text image) (map file_in fs))
 all-files a b image fs i all lines =
     subst (λ gs. Appends a b (flat_map (file_text image) (map file_in gs))) (take_all i fs (omega (arith, all))) lines
-
--- the tracks from 1 on, so many of them, were read
-abbrev pub AreTracksRead : List ℕ → ℕ → Type 0
-AreTracksRead image n = (p : Place) → p.track ≤ n → error_of image p ≡ None
-
--- a sector more of a track was read
-pub read-more : (image : List ℕ) (t i : ℕ) → AreReadBelow image t i
-    → ((p : Place) → place_at t i ≡ Some p → error_of image p ≡ None) → AreReadBelow image t (i + 1)
-read-more image t i before this p on below = elim (cases_lt p.sector i) [
-  | inl less ↦ before p on less
-  | inr more ↦
-      let here : p.sector ≡ i = omega (arith, below, more) in
-      this p (rw (← on, ← here) (place_at-self p))
-]
-
--- the sector with this number was, or there is none
-pub read-here : (image : List ℕ) (t i : ℕ) (q : Place) → place_at t i ≡ Some q → error_of image q ≡ None → (p : Place)
-    → place_at t i ≡ Some p → error_of image p ≡ None
-read-here image t i q at none p here =
-    let both : Some q ≡ Some p = sym at ∙ here in
-    let one : q ≡ p = cc in
-    subst (λ x. error_of image x ≡ None) one none
-
-pub read-none : (image : List ℕ) (t i : ℕ) → place_at t i ≡ None → (p : Place) → place_at t i ≡ Some p
-    → error_of image p ≡ None
-read-none image t i none p here = let both : None ≡ Some p = sym none ∙ here in absurd (cc)
-
--- a track more was
-pub tracks-more : (image : List ℕ) (n : ℕ) → AreTracksRead image n
-    → ((p : Place) → p.track ≡ n + 1 → error_of image p ≡ None) → AreTracksRead image (n + 1)
-tracks-more image n before this p below = elim (cases_lt p.track (n + 1)) [
-  | inl less ↦ before p (omega (arith, less))
-  | inr more ↦ this p (omega (arith, below, more))
-]
-
--- no track is 0, and each of 35 was read
-pub no-tracks : (image : List ℕ) → AreTracksRead image 0
-no-tracks image p none = absurd (omega (arith, none, track_from_1 p))
-
-pub tracks-all : (image : List ℕ) (n : ℕ) → 35 ≤ n → AreTracksRead image n → (p : Place) → error_of image p ≡ None
-tracks-all image n all before p = before p (omega (arith, all, track_fits p))
 
 -- all was printed, and what isn't there told
 module _ {W E : Type 0} (contents : W → Option (List ℕ)) (told : E → Option (List ℕ)) (image tracks : List ℕ)

@@ -1,18 +1,16 @@
 //! The sectors in which two disks differ, marked and counted.
-ghost use Rattle.std.specs.Prelude.{◌≡◌, ◌≤◌, ◌*◌, IfErr, OnOk, Some, if◌then◌else◌, length, []};
+ghost use Rattle.std.specs.Prelude.{◌≡◌, IfErr, OnOk, Some, if◌then◌else◌, []};
 ghost use Rattle.std.specs.Io.KnownBytes.{Appends};
 ghost use Rattle.std.specs.List.{list_any};
-ghost use Rattle.d64_image.specs.Places.{place_at};
 ghost use Rattle.disk_pictures.specs.ComparedPages.{differences, mark_arc, marks_text};
-ghost use Rattle.disk_pictures.specs.Comparisons.{differs as differs_at, number_of};
-ghost use Rattle.disk_pictures.specs.Texts.{at_place, each_below};
+ghost use Rattle.disk_pictures.specs.Comparisons.{differs as differs_at};
 ghost use Rattle.command_faults.specs.declared.faults.CommandFault.TheVariants as faults;
 
 use crate::arcs::Ring;
 use crate::compared::Compared;
 use crate::others::GROUP_END;
 use command_faults::{CommandFault, put_text};
-use d64_image::{Place, TRACK_SECTORS, TRACKS};
+use d64_image::{Place, SECTORS};
 use std::fmt::{self, Display, Formatter};
 use std::io::Write;
 
@@ -42,38 +40,14 @@ pub(crate) fn are_changed(before: &Compared<'_>, after: &Compared<'_>, places: &
     false
 }
 
-/// How many sectors that differ the track has at this number: one or none.
-fn count_at(before: &Compared<'_>, after: &Compared<'_>, track: u8, sector: u8) -> u16
-    ensures value { result ≡ length (at_place (λ p. if differs_at before.now.sectors.now after.now.sectors.now p
-        then number_of p else []) (place_at track sector)) }
-    ensures few { result ≤ 1 }
-{
-    match Place::new(track, sector) {
-        Some(place) if differs(before, after, place) => 1,
-        _ => 0,
-    }
-}
-
-/// How many sectors of a track differ.
-fn count_on(before: &Compared<'_>, after: &Compared<'_>, track: u8) -> u16
-    ensures value { result ≡ length (each_below 21 (λ sector. at_place (λ p. if differs_at before.now.sectors.now
-        after.now.sectors.now p then number_of p else []) (place_at track sector))) }
-    ensures few { result ≤ 21 }
-{
-    let mut count = 0;
-    for sector in 0..TRACK_SECTORS {
-        count += count_at(before, after, track, sector);
-    }
-    count
-}
-
 /// How many sectors differ, at most 683.
 pub(crate) fn count(before: &Compared<'_>, after: &Compared<'_>) -> u16
     ensures { result ≡ differences before.now.sectors.now after.now.sectors.now }
 {
     let mut count = 0;
-    for below in 0..TRACKS {
-        count += count_on(before, after, below + 1);
+    for index in 0..SECTORS {
+        let one = differs(before, after, Place::nth(index));
+        count += u16::from(one);
     }
     count
 }
@@ -108,26 +82,6 @@ fn put_mark<W: Write>(
     }
 }
 
-/// Marks the sectors of a track that differ.
-fn put_marks_on<W: Write>(
-    out: &mut W,
-    before: &Compared<'_>,
-    after: &Compared<'_>,
-    track: u8,
-) -> Result<(), CommandFault>
-    ensures ok { OnOk result (Appends (W.contents out.old) (W.contents out.new)
-        (each_below 21 (λ sector. at_place (λ p. if differs_at before.now.sectors.now after.now.sectors.now p
-        then mark_arc p else []) (place_at track sector)))) }
-    ensures err { IfErr result (λ fault. fault ≡ faults.File) }
-{
-    for sector in 0..TRACK_SECTORS {
-        if let Some(place) = Place::new(track, sector) {
-            put_mark(out, before, after, place)?;
-        }
-    }
-    Ok(())
-}
-
 /// Marks the sectors that differ, track by track.
 pub(crate) fn put_marks<W: Write>(
     out: &mut W,
@@ -139,8 +93,8 @@ pub(crate) fn put_marks<W: Write>(
     ensures err { IfErr result (λ fault. fault ≡ faults.File) }
 {
     put_text(out, MARKS)?;
-    for below in 0..TRACKS {
-        put_marks_on(out, before, after, below + 1)?;
+    for index in 0..SECTORS {
+        put_mark(out, before, after, Place::nth(index))?;
     }
     put_text(out, GROUP_END)
 }

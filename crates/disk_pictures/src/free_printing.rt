@@ -6,10 +6,9 @@ ghost use Rattle.disk_pictures.specs.Texts.{each_below};
 ghost use Rattle.disk_pictures.specs.Views.{AreFreePrinted, IsViewFault, free_line, free_text, free_total};
 ghost use Rattle.command_faults.specs.declared.faults.CommandFault.TheVariants as faults;
 
-use crate::reading::read_map;
 use command_faults::{CommandFault, flush, load, put_text};
 use d64_image::TRACKS;
-use disk_layout::BamView;
+use disk_layout::{BamView, map_place};
 use std::alloc::Global;
 use std::fmt::{self, Display, Formatter};
 use std::io::Write;
@@ -81,7 +80,6 @@ pub fn free_image<W: Write>(alloc: Global, image: &[u8], out: &mut W) -> Result<
     ensures err { IfErr result (IsViewFault image.now) }
     ensures untouched { IfErr result (λ fault. (fault ≢ faults.File) → out.new ≡ out.old) }
 {
-    let mut disk = load(alloc, image)?;
-    let map = read_map(&mut disk);
-    put_free(out, &map)
+    let disk = load(alloc, image)?;
+    put_free(out, disk.sector(map_place()))
 }

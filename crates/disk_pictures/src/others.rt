@@ -1,17 +1,15 @@
 //! The sectors of nobody.
 ghost use Rattle.std.specs.Prelude.{◌≡◌, IfErr, OnOk};
 ghost use Rattle.std.specs.Io.KnownBytes.{Appends};
-ghost use Rattle.d64_image.specs.Places.{place_at};
 ghost use Rattle.disk_pictures.specs.Held.{drawn_in};
 ghost use Rattle.disk_pictures.specs.Pictures.{other_arc, others_group};
-ghost use Rattle.disk_pictures.specs.Texts.{at_place, each_below};
 ghost use Rattle.command_faults.specs.declared.faults.CommandFault.TheVariants as faults;
 
 use crate::arcs::PlainArc;
 use crate::drawing::Drawing;
 use crate::owners::Owner;
 use command_faults::{CommandFault, put_text};
-use d64_image::{Place, TRACK_SECTORS, TRACKS};
+use d64_image::{Place, SECTORS};
 use disk_layout::BamView;
 use std::io::Write;
 
@@ -47,21 +45,6 @@ fn put_other<W: Write>(out: &mut W, drawing: &Drawing, place: Place) -> Result<(
     }
 }
 
-/// Prints the sectors of nobody on a track.
-fn put_others_on<W: Write>(out: &mut W, drawing: &Drawing, track: u8) -> Result<(), CommandFault>
-    ensures ok { OnOk result (Appends (W.contents out.old) (W.contents out.new)
-        (each_below 21 (λ sector.
-        at_place (other_arc drawing.now.map (drawn_in drawing.now)) (place_at track sector)))) }
-    ensures err { IfErr result (λ fault. fault ≡ faults.File) }
-{
-    for sector in 0..TRACK_SECTORS {
-        if let Some(place) = Place::new(track, sector) {
-            put_other(out, drawing, place)?;
-        }
-    }
-    Ok(())
-}
-
 /// Prints the group of the sectors of nobody, track by track.
 pub(crate) fn put_others<W: Write>(out: &mut W, drawing: &Drawing) -> Result<(), CommandFault>
     ensures ok { OnOk result (Appends (W.contents out.old) (W.contents out.new)
@@ -69,8 +52,8 @@ pub(crate) fn put_others<W: Write>(out: &mut W, drawing: &Drawing) -> Result<(),
     ensures err { IfErr result (λ fault. fault ≡ faults.File) }
 {
     put_text(out, "<g id=\"r\">\n")?;
-    for below in 0..TRACKS {
-        put_others_on(out, drawing, below + 1)?;
+    for index in 0..SECTORS {
+        put_other(out, drawing, Place::nth(index))?;
     }
     put_text(out, GROUP_END)
 }

@@ -13,19 +13,9 @@ use crate::drawn_file::DrawnFile;
 use crate::files::{Places, draw_file, list_of, walk};
 use arrayvec::ArrayVec;
 use command_faults::CommandFault;
-use d64_image::{MemDisk, Sectors};
+use d64_image::MemDisk;
 use disk_layout::{Fault, Slot, directory_start, map_place, read_directory};
 use std::alloc::Global;
-
-/// The bytes of 18/0. A disk in memory gives them always.
-pub(crate) fn read_map(disk: &mut MemDisk) -> [u8; 256]
-    ensures bytes { result ≡ sector (disk_image disk.old) map_at }
-    ensures same { disk_image disk.new ≡ disk_image disk.old }
-{
-    let mut map = [0; 256];
-    let _ = disk.read(map_place(), &mut map);
-    map
-}
 
 /// What is drawn of these entries, with room for the sectors of a walk.
 fn draw_files(
@@ -62,7 +52,7 @@ pub(crate) fn draw(alloc: Global, disk: &mut MemDisk) -> Result<Drawing, Command
     if let Err(fault) = read_directory(disk, &mut slots) {
         return Err(CommandFault::Layout(fault));
     }
-    let map = read_map(disk);
+    let map = *disk.sector(map_place());
     let mut places = ArrayVec::new();
     walk(disk, Some(directory_start()), &mut places);
     let directory = list_of(alloc, places.as_slice())?;

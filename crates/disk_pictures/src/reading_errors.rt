@@ -1,15 +1,13 @@
 //! The sectors that a drive couldn't read when an image was made.
 ghost use Rattle.std.specs.Prelude.{◌≡◌, ◌↔◌, IfErr, IsTrue, None, OnOk, Some};
 ghost use Rattle.std.specs.Io.KnownBytes.{Appends};
-ghost use Rattle.d64_image.specs.Places.{place_at};
 ghost use Rattle.d64_image.specs.declared.place.Place.{Place};
 ghost use Rattle.disk_rescue.specs.Sizes.{error_of};
-ghost use Rattle.disk_pictures.specs.Texts.{at_place, each_below};
 ghost use Rattle.disk_pictures.specs.Trims.{error_line, error_number, errors_text};
 ghost use Rattle.command_faults.specs.declared.faults.CommandFault.TheVariants as faults;
 
 use command_faults::{CommandFault, put_text};
-use d64_image::{Place, TRACK_SECTORS, TRACKS};
+use d64_image::{Place, SECTORS};
 use disk_rescue::error_at;
 use std::fmt::{self, Display, Formatter};
 use std::io::Write;
@@ -49,28 +47,15 @@ impl Display for ErrorLine {
     }
 }
 
-/// Prints the lines of the sectors of a track that weren't read.
-fn put_errors_on<E: Write>(err: &mut E, image: &[u8], track: u8) -> Result<(), CommandFault>
-    ensures ok { OnOk result (Appends (E.contents err.old) (E.contents err.new)
-        (each_below 21 (λ sector. at_place (λ p. error_line p (error_of image.now p)) (place_at track sector)))) }
-    ensures err { IfErr result (λ fault. fault ≡ faults.File) }
-{
-    for sector in 0..TRACK_SECTORS {
-        if let Some(place) = Place::new(track, sector) {
-            let error = error_at(image, place);
-            put_text(err, ErrorLine { place, error })?;
-        }
-    }
-    Ok(())
-}
-
 /// Prints a line for each sector of tracks 1 to 35 that wasn't read when the image was made.
 pub(crate) fn put_errors<E: Write>(err: &mut E, image: &[u8]) -> Result<(), CommandFault>
     ensures ok { OnOk result (Appends (E.contents err.old) (E.contents err.new) (errors_text image.now)) }
     ensures err { IfErr result (λ fault. fault ≡ faults.File) }
 {
-    for below in 0..TRACKS {
-        put_errors_on(err, image, below + 1)?;
+    for index in 0..SECTORS {
+        let place = Place::nth(index);
+        let error = error_at(image, place);
+        put_text(err, ErrorLine { place, error })?;
     }
     Ok(())
 }
@@ -82,26 +67,12 @@ fn is_sector_read(image: &[u8], place: Place) -> bool
     error_at(image, place).is_none()
 }
 
-/// Whether all sectors of a track were read.
-fn is_track_read(image: &[u8], track: u8) -> bool
-    ensures { IsTrue result ↔ ((p : Place) → p.track ≡ track → error_of image.now p ≡ None) }
-{
-    for sector in 0..TRACK_SECTORS {
-        if let Some(place) = Place::new(track, sector) {
-            if !is_sector_read(image, place) {
-                return false;
-            }
-        }
-    }
-    true
-}
-
-/// Whether all sectors of tracks 1 to 35 were.
+/// Whether all sectors of tracks 1 to 35 were read.
 pub(crate) fn is_read(image: &[u8]) -> bool
     ensures { IsTrue result ↔ ((p : Place) → error_of image.now p ≡ None) }
 {
-    for below in 0..TRACKS {
-        if !is_track_read(image, below + 1) {
+    for index in 0..SECTORS {
+        if !is_sector_read(image, Place::nth(index)) {
             return false;
         }
     }

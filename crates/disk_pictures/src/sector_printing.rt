@@ -147,16 +147,6 @@ fn put_unowned<W: Write>(out: &mut W, bytes: &[u8; 256], fault: Fault) -> Result
     put_link(out, bytes)
 }
 
-/// The bytes of the sector. A disk in memory gives them always.
-fn read_sector(disk: &mut MemDisk, place: Place) -> [u8; 256]
-    ensures bytes { result ≡ sector (disk_image disk.old) place }
-    ensures same { disk_image disk.new ≡ disk_image disk.old }
-{
-    let mut bytes = [0; 256];
-    let _ = disk.read(place, &mut bytes);
-    bytes
-}
-
 /// Prints a sector of the image: its bytes in hexadecimal digits, sixteen in a line, with the characters that a C64 shows
 /// for them after it was switched on. Then follow its owner, with the line of its entry as `map_image` prints it, and the
 /// place to which its link leads.
@@ -175,7 +165,7 @@ pub fn sector_image<W: Write>(
     ensures untouched { IfErr result (λ fault. (fault ≢ faults.File) → out.new ≡ out.old) }
 {
     let mut disk = load(alloc, image)?;
-    let bytes = read_sector(&mut disk, place);
+    let bytes = *disk.sector(place);
     match draw_or_fault(alloc, &mut disk)? {
         Ok(drawing) => put_owned(out, &bytes, &drawing, place),
         Err(fault) => put_unowned(out, &bytes, fault),

@@ -6,7 +6,7 @@ ghost use Rattle.disk_pictures.specs.Sheets.{shade as shade_of};
 use crate::drawing::Drawing;
 use crate::owners::Owner;
 use crate::texts::is_fault_at;
-use d64_image::{Place, TRACK_SECTORS, TRACKS};
+use d64_image::{Place, SECTORS};
 use disk_layout::{BamView, Fault};
 
 /// How many shades there are.
@@ -46,7 +46,7 @@ pub(crate) struct Shades {
 }
 
 impl Shades {
-    ghost use Rattle.std.specs.Prelude.{◌+◌, ℕ, IfSome, true};
+    ghost use Rattle.std.specs.Prelude.{ℕ, true};
     ghost use Rattle.disk_pictures.specs.Shades.{HasEach, has_shade};
 
     /// Those of a drawing's sectors.
@@ -54,8 +54,9 @@ impl Shades {
         ensures { HasEach result (shade_of found drawing.now.map (drawn_in drawing.now)) }
     {
         let mut shades = Shades::none();
-        for below in 0..TRACKS {
-            shades.insert_track(drawing, found, below);
+        for index in 0..SECTORS {
+            let place = Place::nth(index);
+            shades.insert(place.track() - 1, shade(drawing, found, place));
         }
         shades
     }
@@ -84,35 +85,5 @@ impl Shades {
         ensures kept { (b n : ℕ) → has_shade self.old b n ≡ true → has_shade self.new b n ≡ true }
     {
         self.marks[SHADES * below as usize + shade] = true;
-    }
-
-    /// Adds the shade of a sector of the track, if it has that sector.
-    fn insert_at(
-        &mut self,
-        drawing: &Drawing,
-        found: Option<Fault>,
-        below: u8,
-        place: Option<Place>,
-    )
-        requires { below < 35 }
-        ensures now { IfSome place (λ place.
-            has_shade self.new below (shade_of found drawing.now.map (drawn_in drawing.now) place) ≡ true) }
-        ensures kept { (b n : ℕ) → has_shade self.old b n ≡ true → has_shade self.new b n ≡ true }
-    {
-        if let Some(place) = place {
-            self.insert(below, shade(drawing, found, place));
-        }
-    }
-
-    /// Adds the shades of a track's sectors.
-    fn insert_track(&mut self, drawing: &Drawing, found: Option<Fault>, below: u8)
-        requires { below < 35 }
-        ensures now { (p : Place) → p.track ≡ below + 1
-            → has_shade self.new below (shade_of found drawing.now.map (drawn_in drawing.now) p) ≡ true }
-        ensures kept { (b n : ℕ) → has_shade self.old b n ≡ true → has_shade self.new b n ≡ true }
-    {
-        for sector in 0..TRACK_SECTORS {
-            self.insert_at(drawing, found, below, Place::new(below + 1, sector));
-        }
     }
 }

@@ -67,9 +67,9 @@ pub fn print_near_names<W: Write>(
     // Only if the output failed something may have been printed at a refusal.
     ensures untouched { IfErr result (λ fault. (fault ≢ faults.File) → out.new ≡ out.old) }
 {
-    let mut disk = load(alloc, image)?;
+    let disk = load(alloc, image)?;
     let (mut directory, mut entries) = (ArrayVec::new(), ArrayVec::new());
-    let _ = read_so_far(&mut disk, &mut directory, &mut entries);
+    let _ = read_so_far(&disk, &mut directory, &mut entries);
     let mut near = ArrayVec::new();
     near_entries(entries.as_slice(), name, &mut near);
     match put_all_near(out, first_three(near.as_slice())) {

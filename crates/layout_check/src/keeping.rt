@@ -1,5 +1,5 @@
 //! Stray sectors, which are taken in the map but owned by nobody, are given an owner so that they stay taken.
-ghost use Rattle.std.specs.Prelude.{◌≡◌, ◌≢◌, ◌⊎◌, ◌<◌, ◌≤◌, IfOk, IsFalse, IsTrue, List, length};
+ghost use Rattle.std.specs.Prelude.{◌≡◌, ◌≢◌, ◌⊎◌, ◌≤◌, ⊤, IfOk, IsFalse, IsTrue, List, length};
 ghost use Rattle.d64_image.specs.declared.place.Place.{Place};
 ghost use Rattle.d64_image.specs.History.{OnlyReads};
 ghost use Rattle.disk_layout.specs.Map.{IsFree};
@@ -10,7 +10,7 @@ ghost use Rattle.layout_check.specs.Survey.{IsToldBy};
 
 use crate::owners::Owners;
 use crate::survey_outcome::Survey;
-use d64_image::{Place, Sectors, TRACKS};
+use d64_image::{Place, SECTORS, Sectors};
 use disk_layout::{BamView, Fault, map_place, read_sector};
 
 /// The number of a stray sector: it is taken in the map, but nobody owns it.
@@ -37,29 +37,14 @@ fn mark_place(map: &[u8; 256], owners: &mut Owners, place: Place) -> u16
     1
 }
 
-/// Gives the stray sectors of a track an owner. Returns how many these are.
-fn mark_track(map: &[u8; 256], owners: &mut Owners, track: u8) -> u16
-    ensures marked { (ps : List Place)
-        × AreMarked map.now owners.old owners.new (λ p. p.track ≡ track) ps × (result ≡ length ps) }
-    ensures few { result ≤ 24 }
-{
-    let mut count = 0;
-    for sector in 0..24u8 {
-        if let Some(place) = Place::new(track, sector) {
-            count += mark_place(map, owners, place);
-        }
-    }
-    count
-}
-
 /// Gives the stray sectors of the disk an owner. Returns how many these are.
 fn mark_strays(map: &[u8; 256], owners: &mut Owners) -> u16
     ensures marked { (ps : List Place)
-        × AreMarked map.now owners.old owners.new (λ p. p.track < 36) ps × (result ≡ length ps) }
+        × AreMarked map.now owners.old owners.new (λ p. ⊤) ps × (result ≡ length ps) }
 {
     let mut count = 0;
-    for below in 0..TRACKS {
-        count += mark_track(map, owners, below + 1);
+    for index in 0..SECTORS {
+        count += mark_place(map, owners, Place::nth(index));
     }
     count
 }

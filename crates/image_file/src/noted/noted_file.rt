@@ -8,7 +8,7 @@ use crate::noted::failures::Failures;
 use crate::noted::subjects::Subject;
 use crate::reading::read_image;
 use crate::remaining::EndedFile;
-use d64_image::{Place, TRACK_SECTORS, TRACKS};
+use d64_image::{Place, SECTORS};
 use std::alloc::Global;
 use std::fs::{Metadata, OpenFile, TryLockError};
 use std::io::{self, Read, Seek, SeekFrom, Write};
@@ -17,16 +17,11 @@ use std::io::{self, Read, Seek, SeekFrom, Write};
 fn place_at(index: u64) -> Option<Place>
     ensures { IfSome result (λ place. index_of place ≡ index) }
 {
-    for below in 0..TRACKS {
-        for sector in 0..TRACK_SECTORS {
-            if let Some(place) = Place::new(below + 1, sector) {
-                if place.index() as u64 == index {
-                    return Some(place);
-                }
-            }
-        }
+    if index < SECTORS as u64 {
+        Some(Place::nth(index as usize))
+    } else {
+        None
     }
-    None
 }
 
 /// An open file, whose failures are kept. All calls go on to the file, and what they return is handed back as it is.

@@ -1,15 +1,13 @@
--- How many sectors of the tracks so far differ.
-use Rattle.std.proofs.Common.{◌≡◌, ◌≤◌, ◌+◌, ◌*◌, [], length}
-use Rattle.std.specs.Prelude.{if◌then◌else◌}
-use Rattle.d64_image.specs.Places.{place_at}
-use Rattle.disk_pictures.specs.Comparisons.{differs, number_of}
-use Rattle.disk_pictures.specs.Texts.{at_place, each_below}
+-- How many of the sectors so far differ.
+use Rattle.std.proofs.Common.{◌≡◌, ◌≤◌, length, take}
+use Rattle.std.specs.Prelude.{flat_map}
+use Rattle.d64_image.specs.Places.{places}
+use Rattle.disk_pictures.proofs.InOrder.{differing}
+use Rattle.disk_pictures.specs.Comparisons.{number_of}
 use Rattle.disk_pictures.proofs.differences.count.Given as goal
 
-abbrev pub invariant-loop-below : goal.invariant-loop-below
-invariant-loop-below l = record {
-  so_far : l.count ≡ length (each_below l.below (λ b. each_below 21
-      (λ s. at_place (λ p. if differs l.before.sectors.now l.after.sectors.now p then number_of p else [])
-      (place_at (b + 1) s))));
-  few : l.count ≤ 21 * l.below;
+abbrev pub invariant-loop-index : goal.invariant-loop-index
+invariant-loop-index l = record {
+  so_far : l.count ≡ length (flat_map (differing number_of l.before.sectors.now l.after.sectors.now) (take l.index places));
+  few : l.count ≤ l.index;
 }

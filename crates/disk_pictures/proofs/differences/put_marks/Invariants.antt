@@ -1,13 +1,12 @@
--- The beginning, and the tracks so far, were printed.
-use Rattle.std.proofs.Common.{◌+◌, ◌++◌}
+-- The beginning, and the marks of the sectors so far, were printed.
+use Rattle.std.proofs.Common.{◌++◌, take}
+use Rattle.std.specs.Prelude.{flat_map}
 use Rattle.std.specs.Io.KnownBytes.{Appends}
-use Rattle.d64_image.specs.Places.{place_at}
-use Rattle.disk_pictures.proofs.Marking.{marked}
-use Rattle.disk_pictures.specs.ComparedPages.{marks_head}
-use Rattle.disk_pictures.specs.Texts.{at_place, each_below}
+use Rattle.d64_image.specs.Places.{places}
+use Rattle.disk_pictures.proofs.InOrder.{differing}
+use Rattle.disk_pictures.specs.ComparedPages.{mark_arc, marks_head}
 use Rattle.disk_pictures.proofs.differences.put_marks.Given as goal
 
-abbrev pub invariant-loop-below : goal.invariant-loop-below
-invariant-loop-below g l = Appends (g.W.Write.contents l.fn.out) (g.W.Write.contents l.out)
-    (marks_head ++ each_below l.below (λ b. each_below 21
-    (λ s. at_place (marked l.before.sectors.now l.after.sectors.now) (place_at (b + 1) s))))
+abbrev pub invariant-loop-index : goal.invariant-loop-index
+invariant-loop-index g l = Appends (g.W.Write.contents l.fn.out) (g.W.Write.contents l.out)
+    (marks_head ++ flat_map (differing mark_arc l.before.sectors.now l.after.sectors.now) (take l.index places))

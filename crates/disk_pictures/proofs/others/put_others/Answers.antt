@@ -1,30 +1,27 @@
--- The sectors of nobody in their group, track by track.
-use Rattle.std.proofs.Common.{◌+◌, arith}
+-- The sectors of nobody in their group, one after another.
 use Rattle.std.specs.Prelude.{codes}
 use Rattle.std.proofs.lemmas.Result.{on_ok_weaker}
-use Rattle.d64_image.specs.Places.{place_at}
-use Rattle.disk_pictures.proofs.Printing.{begun, begun-more, ended}
+use Rattle.disk_pictures.proofs.InOrder.{place-more, places-ended}
+use Rattle.disk_pictures.proofs.Printing.{begun-flat}
 use Rattle.disk_pictures.specs.Held.{drawn_in}
-use Rattle.disk_pictures.specs.Pictures.{each_place, other_arc, others_group}
-use Rattle.disk_pictures.specs.Texts.{at_place, each_below}
+use Rattle.disk_pictures.specs.Pictures.{other_arc, others_group}
 use Rattle.disk_pictures.proofs.others.put_others.Goals as goal
 
-pub loop-below-init : goal.loop-below-init
-loop-below-init g c = begun _ _ _ _ c.in_ok-put_text.ensures.ok
-
-pub loop-below-preserved : goal.loop-below-preserved
-loop-below-preserved g c =
+pub loop-index-init : goal.loop-index-init
+loop-index-init g c =
     let d = c.args.drawing.now in
-    begun-more _ _ _ (codes "<g id=\"r\">\n") c.loop-below.below
-    (λ b. each_below 21 (λ s. at_place (other_arc d.map (drawn_in d)) (place_at (b + 1) s)))
-    c.loop-below.invariant c.in_ok-put_others_on.ensures.ok
+    begun-flat (other_arc d.map (drawn_in d)) _ _ _ c.in_ok-put_text.ensures.ok
+
+pub loop-index-preserved : goal.loop-index-preserved
+loop-index-preserved g c =
+    let d = c.args.drawing.now in
+    place-more (other_arc d.map (drawn_in d)) _ _ _ (codes "<g id=\"r\">\n") c.loop-index.index c.nth.result
+    c.nth.ensures c.loop-index.invariant c.in_ok-put_other.ensures.ok
 
 pub returns-clause-ok : goal.returns-clause-ok
-unfolding others_group each_place
+unfolding others_group
 returns-clause-ok g c =
     let d = c.args.drawing.now in
     on_ok_weaker c.put_text-2.result
-    (λ end. ended _ _ _ (codes "<g id=\"r\">\n") _ c.loop-below.below 35
-    (λ b. each_below 21 (λ s. at_place (other_arc d.map (drawn_in d)) (place_at (b + 1) s)))
-    (omega (arith, c.loop-below-test.false, c.loop-below.auto.below-end)) c.loop-below.invariant end)
-    c.put_text-2.ensures.ok
+    (λ end. places-ended (other_arc d.map (drawn_in d)) _ _ _ (codes "<g id=\"r\">\n") _ c.loop-index.index
+    c.loop-index-test.false c.loop-index.invariant end) c.put_text-2.ensures.ok

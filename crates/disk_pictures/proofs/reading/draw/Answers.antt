@@ -17,7 +17,7 @@ returns-in_err-directory c =
     record {
       ok = rw told tt;
       map = rw told tt;
-      same = c.walk.ensures.same ∙ c.read_map-map.ensures.same ∙ c.read_directory.ensures.reads.image;
+      same = c.walk.ensures.same ∙ c.read_directory.ensures.reads.image;
       err = rw told refl;
     }
 
@@ -28,19 +28,17 @@ returns-in_err-files c =
     record {
       ok = rw told tt;
       map = rw told tt;
-      same = c.draw_files.ensures.same ∙ c.walk.ensures.same ∙ c.read_map-map.ensures.same
-          ∙ c.read_directory.ensures.reads.image;
+      same = c.draw_files.ensures.same ∙ c.walk.ensures.same ∙ c.read_directory.ensures.reads.image;
       err = rw told refl;
     }
 
 pub returns-clause-same : goal.returns-clause-same
-returns-clause-same c = c.draw_files.ensures.same ∙ c.walk.ensures.same ∙ c.read_map-map.ensures.same
-    ∙ c.read_directory.ensures.reads.image
+returns-clause-same c = c.draw_files.ensures.same ∙ c.walk.ensures.same ∙ c.read_directory.ensures.reads.image
 
 pub returns-clause-ok : goal.returns-clause-ok
 returns-clause-ok c =
     let found = c.in_default.ensures.ok in
-    let first = c.read_map-map.ensures.same ∙ c.read_directory.ensures.reads.image in
+    let first = c.read_directory.ensures.reads.image in
     let last = c.walk.ensures.same ∙ first in
     let img = disk_image c.args.disk.now in
     let walked = c.walk.new.places.items in

@@ -1,25 +1,27 @@
--- One track more was read, or this one wasn't.
-use Rattle.std.proofs.Common.{arith, refl, sym, ◌∙◌}
-use Rattle.disk_pictures.proofs.Trimmed.{no-tracks, tracks-all, tracks-more}
+-- One sector more was read, or this one wasn't.
+use Rattle.std.proofs.Common.{arith, refl, sym, ◌∙◌, ◌≡◌}
+use Rattle.std.specs.Prelude.{None}
+use Rattle.d64_image.proofs.Order.{each-more, each-place}
+use Rattle.disk_rescue.specs.Sizes.{error_of}
 use Rattle.disk_pictures.proofs.reading_errors.is_read.Goals as goal
 
-pub loop-below-init : goal.loop-below-init
-loop-below-init c = no-tracks c.args.image.now
+pub loop-index-init : goal.loop-index-init
+loop-index-init c = λ p lt. absurd (omega (arith, lt))
 
-pub loop-below-preserved : goal.loop-below-preserved
-loop-below-preserved c =
-    tracks-more c.args.image.now c.loop-below.below c.loop-below.invariant
-    (c.is_track_read.ensures.0 c.if-not-is_track_read.false)
+pub loop-index-preserved : goal.loop-index-preserved
+loop-index-preserved c =
+    each-more (λ p. error_of c.args.image.now p ≡ None) c.loop-index.index c.nth.result c.nth.ensures
+    c.loop-index.invariant (c.is_sector_read.ensures.0 c.if-not-is_sector_read.false)
 
-pub returns-then-not-is_track_read : goal.returns-then-not-is_track_read
-returns-then-not-is_track_read c = (
+pub returns-then-not-is_sector_read : goal.returns-then-not-is_sector_read
+returns-then-not-is_sector_read c = (
   λ t. absurd (cc),
-  λ all. sym c.if-not-is_track_read.true ∙ c.is_track_read.ensures.1 (λ p on. all p),
+  λ all. sym c.if-not-is_sector_read.true ∙ c.is_sector_read.ensures.1 (all c.nth.result),
 )
 
 pub returns : goal.returns
 returns c = (
-  λ _. tracks-all c.args.image.now c.loop-below.below
-      (omega (arith, c.loop-below-test.false, c.loop-below.auto.below-end)) c.loop-below.invariant,
+  λ _. each-place (λ p. error_of c.args.image.now p ≡ None) c.loop-index.index c.loop-index-test.false
+      c.loop-index.invariant,
   λ _. refl,
 )

@@ -1,6 +1,10 @@
--- The tracks so far were read.
-use Rattle.disk_pictures.proofs.Trimmed.{AreTracksRead}
+-- The sectors so far were read.
+use Rattle.std.proofs.Common.{◌<◌, ◌≡◌}
+use Rattle.std.specs.Prelude.{None}
+use Rattle.d64_image.specs.Places.{index_of}
+use Rattle.d64_image.specs.declared.place.Place.{Place}
+use Rattle.disk_rescue.specs.Sizes.{error_of}
 use Rattle.disk_pictures.proofs.reading_errors.is_read.Given as goal
 
-abbrev pub invariant-loop-below : goal.invariant-loop-below
-invariant-loop-below l = AreTracksRead l.image l.below
+abbrev pub invariant-loop-index : goal.invariant-loop-index
+invariant-loop-index l = (p : Place) → index_of p < l.index → error_of l.image p ≡ None

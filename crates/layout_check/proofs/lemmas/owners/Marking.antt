@@ -1,16 +1,14 @@
--- Sectors that the map calls taken and that nobody owns, given an owner: one by one, track by track.
-use Rattle.std.proofs.Common.{ℕ, ◌≡◌, ◌≢◌, ◌<◌, ◌≤◌, ◌+◌, ◌↔◌, ◌⊎◌, List, [], ◌∷◌, ◌++◌, Some, None, length}
+-- Sectors that the map calls taken and that nobody owns, given an owner one by one.
+use Rattle.std.proofs.Common.{ℕ, ◌≡◌, ◌≢◌, ◌<◌, ◌≤◌, ◌+◌, ◌↔◌, ◌⊎◌, List, [], ◌∷◌, ◌++◌, length}
 use Rattle.std.proofs.Common.{inl, inr, sym, ◌∙◌, ap, refl, subst, arith}
-use Rattle.std.specs.Prelude.{Contains}
+use Rattle.std.specs.Prelude.{Contains, ⊤}
 use Rattle.std.proofs.Math.Decide.{dec_lt}
 use Rattle.std.proofs.lemmas.Bool.{cases_eq}
 use Rattle.std.proofs.lemmas.List.Elements.{Contains-append_cases, Contains-append_left, Contains-append_right}
-use Rattle.d64_image.proofs.Places.{place_at-some, same_place, sector_small, track_fits, track_from_1}
-use Rattle.d64_image.specs.Geometry.{sectors_on}
+use Rattle.d64_image.proofs.Places.{index_below, same_index}
 use Rattle.d64_image.specs.Images.{Image, Sector, sector}
-use Rattle.d64_image.specs.Places.{place_at}
+use Rattle.d64_image.specs.Places.{index_of}
 use Rattle.d64_image.specs.declared.place.Place.{Place}
-use Rattle.disk_layout.proofs.lemmas.chains.Names.{past-track}
 use Rattle.disk_layout.proofs.lemmas.lists.Once.{Contains-cases, Contains-here, Contains-nil, EachOnce-join}
 use Rattle.disk_layout.specs.Directory.{map_place}
 use Rattle.disk_layout.specs.Layout.{owners}
@@ -107,71 +105,32 @@ module _ (map : Sector) where
       out : (p : Place) → Contains ps p → ¬ (Contains qs p)
       out p x y = apart p ((h.those p).0 x).0 ((k.those p).0 y).0
 
-  -- the sectors of a track below n
-  abbrev pub On : (track n : ℕ) → Place → Type 0
-  On track n p = (p.track ≡ track) × (p.sector < n)
+  -- the sectors so far: none, one more, and all
+  pub places-start : (t : Owners) → AreMarked map t t (λ p. index_of p < 0) []
+  places-start t = marked-none t (λ p. index_of p < 0) (λ p below. absurd (omega (arith, below)))
 
-  pub track-start : (t : Owners) (track : ℕ) → AreMarked map t t (On track 0) []
-  track-start t track = marked-none t (On track 0) (λ p on. absurd (let below : p.sector < 0 = on.1 in omega arith))
-
-  pub track-more : (a b c : Owners) (track n : ℕ) (q : Place) (ps qs : List Place) → Some q ≡ place_at track n
-      → AreMarked map a b (On track n) ps → AreMarked map b c (λ p. p ≡ q) qs
-      → AreMarked map a c (On track (n + 1)) (ps ++ qs)
-  track-more a b c track n q ps qs at =
-      let both = place_at-some track n q (sym at) in
-      marked-then a b c (On track n) (λ p. p ≡ q) (On track (n + 1)) ps qs
+  pub places-more : (a b c : Owners) (n : ℕ) (q : Place) (ps qs : List Place) → index_of q ≡ n
+      → AreMarked map a b (λ p. index_of p < n) ps → AreMarked map b c (λ p. p ≡ q) qs
+      → AreMarked map a c (λ p. index_of p < n + 1) (ps ++ qs)
+  places-more a b c n q ps qs at =
+      marked-then a b c (λ p. index_of p < n) (λ p. p ≡ q) (λ p. index_of p < n + 1) ps qs
       (λ p. (
-        λ on. elim (dec_lt p.sector n) [
-          | yes low ↦ inl (on.0, low)
-          | no high ↦
-              let below : p.sector < n + 1 = on.1 in
-              let s : p.sector ≡ q.sector = omega (arith, both.1, high, below) in
-              inr (same_place p q (on.0 ∙ sym both.0) s)
+        λ below. elim (dec_lt (index_of p) n) [
+          | yes low ↦ inl low
+          | no high ↦ inr (same_index p q (omega (arith, at, high, below)))
         ],
-        λ h. elim h [
-          | inl on ↦ (on.0, (let below : p.sector < n = on.1 in omega (arith, below)))
-          | inr e ↦ let P : Place → Type 0 = On track (n + 1) in
-              subst P (sym e) (both.0, omega (arith, both.1))
-        ],
+        λ h. elim h [ inl low ↦ omega (arith, low) | inr e ↦ omega (arith, at, ap index_of e) ],
       ))
-      (λ p on e. let below : p.sector < n = on.1 in
-      let s : p.sector ≡ n = ap (λ (x : Place). x.sector) e ∙ both.1 in omega (arith, below, s))
+      (λ p low e. omega (arith, low, at, ap index_of e))
 
-  pub track-past : (a b : Owners) (track n : ℕ) (ps : List Place) → None ≡ place_at track n
-      → AreMarked map a b (On track n) ps → AreMarked map a b (On track (n + 1)) ps
-  track-past a b track n ps none = marked-as a b (On track n) (On track (n + 1)) ps (λ p. (
-    λ on. (on.0, (let below : p.sector < n = on.1 in omega (arith, below))),
-    λ on.
-        let past = past-track track n none in
-        let low : p.sector < sectors_on track = rw (← on.0) p.on_disk in
-        (on.0, omega (arith, past, low)),
-  ))
-
-  pub track-end : (a b : Owners) (track n : ℕ) (ps : List Place) → 24 ≤ n
-      → AreMarked map a b (On track n) ps → AreMarked map a b (λ p. p.track ≡ track) ps
-  track-end a b track n ps all = marked-as a b (On track n) (λ p. p.track ≡ track) ps
-      (λ p. (λ on. on.0, λ e. (e, omega (arith, all, sector_small p))))
-
-  pub tracks-start : (t : Owners) → AreMarked map t t (λ p. p.track < 1) []
-  tracks-start t = marked-none t (λ p. p.track < 1) (λ p below. absurd (omega (arith, below, track_from_1 p)))
-
-  pub tracks-more : (a b c : Owners) (n : ℕ) (ps qs : List Place) → AreMarked map a b (λ p. p.track < n) ps
-      → AreMarked map b c (λ p. p.track ≡ n) qs → AreMarked map a c (λ p. p.track < n + 1) (ps ++ qs)
-  tracks-more a b c n ps qs = marked-then a b c (λ p. p.track < n) (λ p. p.track ≡ n) (λ p. p.track < n + 1) ps qs
-      (λ p. (
-        λ below. elim (dec_lt p.track n) [ yes low ↦ inl low | no high ↦ inr (omega (arith, below, high)) ],
-        λ h. elim h [ inl low ↦ omega (arith, low) | inr e ↦ omega (arith, e) ],
-      ))
-      (λ p low e. omega (arith, low, e))
-
-  pub tracks-end : (a b : Owners) (n : ℕ) (ps : List Place) → 36 ≤ n → AreMarked map a b (λ p. p.track < n) ps
-      → AreMarked map a b (λ p. p.track < 36) ps
-  tracks-end a b n ps all = marked-as a b (λ p. p.track < n) (λ p. p.track < 36) ps
-      (λ p. (λ low. track_fits p, λ low. omega (arith, low, all)))
+  pub places-end : (a b : Owners) (n : ℕ) (ps : List Place) → 683 ≤ n → AreMarked map a b (λ p. index_of p < n) ps
+      → AreMarked map a b (λ p. ⊤) ps
+  places-end a b n ps all = marked-as a b (λ p. index_of p < n) (λ p. ⊤) ps
+      (λ p. (λ low. tt, λ any. omega (arith, index_below p, all)))
 
 -- the table of a survey, with an owner for each stray sector
 pub taken-of : (img : Image) (s : Survey) (map : Sector) (t : Owners) (ps : List Place) (n : ℕ) → IsToldBy img s
-    → map ≡ sector img map_place → AreMarked map s.owners t (λ p. p.track < 36) ps → n ≡ length ps
+    → map ≡ sector img map_place → AreMarked map s.owners t (λ p. ⊤) ps → n ≡ length ps
     → IsTakenTable img t n
 taken-of img s map t ps n (l, is, of) read h long =
     let marks : MarksTaken s.owners l [] = marks-of l s of in
@@ -187,7 +146,7 @@ taken-of img s map t ps n (l, is, of) read h long =
             unowned = λ own. (marks p).1 own x.2;
           },
           λ stray. (h.those p).1 (
-            track_fits p,
+            tt,
             (let P : Sector → Type 0 = λ b. ¬ (IsFree b p) in subst P (sym read) stray.taken),
             unowned s.owners p (λ ne. stray.unowned ((marks p).0 ne)),
           ),
@@ -197,7 +156,7 @@ taken-of img s map t ps n (l, is, of) read h long =
         λ ne. elim (cases_eq (owner_of s.owners p) 255) [
           | inl none ↦ elim (cases_eq (map_bit map p.track p.sector) 1) [
             | inl free ↦ absurd (ne ((h.table p).1 (λ c. ((h.those p).0 c).1 free) ∙ none))
-            | inr taken ↦ Contains-append_left ps (map_place ∷ owners l) p ((h.those p).1 (track_fits p, taken, none))
+            | inr taken ↦ Contains-append_left ps (map_place ∷ owners l) p ((h.those p).1 (tt, taken, none))
           ]
           | inr old ↦ Contains-append_right ps (map_place ∷ owners l) p ((marks p).0 old)
         ],

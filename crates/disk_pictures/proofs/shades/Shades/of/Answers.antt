@@ -1,20 +1,28 @@
--- One track more, and all of them.
+-- One sector more, and all of them.
 use Rattle.std.proofs.Common.{arith}
-use Rattle.disk_pictures.proofs.Shaded.{all-tracks, track-more}
+use Rattle.d64_image.proofs.Places.{track_fits}
+use Rattle.disk_pictures.proofs.Shaded.{all-shades, shade-more}
 use Rattle.disk_pictures.specs.Held.{drawn_in}
 use Rattle.disk_pictures.proofs.shades.Shades.of.Goals as goal
 
-pub loop-below-init : goal.loop-below-init
-loop-below-init c = λ p b lt on. absurd (omega (arith, lt))
+pub loop-index-init : goal.loop-index-init
+loop-index-init c = λ p lt. absurd (omega (arith, lt))
 
-pub loop-below-preserved : goal.loop-below-preserved
-loop-below-preserved c =
+pub insert-requires : goal.insert-requires
+insert-requires c = record {
+  track = omega (arith, c.track.ensures, track_fits c.nth-place.result);
+  small = c.shade.ensures.small;
+}
+
+pub loop-index-preserved : goal.loop-index-preserved
+loop-index-preserved c =
     let d = c.args.drawing.now in
-    track-more c.args.found d.map (drawn_in d) c.loop-below.shades c.insert_track.new.self c.loop-below.below
-    c.loop-below.invariant c.insert_track.ensures.kept c.insert_track.ensures.now
+    shade-more c.args.found d.map (drawn_in d) c.loop-index.shades c.insert.new.self c.loop-index.index c.nth-place.result
+    _ c.shade.result c.nth-place.ensures c.track.ensures c.shade.ensures.value c.loop-index.invariant
+    c.insert.ensures.kept c.insert.ensures.now
 
 pub returns : goal.returns
 returns c =
     let d = c.args.drawing.now in
-    all-tracks c.args.found d.map (drawn_in d) c.loop-below.shades c.loop-below.below
-    (omega (arith, c.loop-below-test.false)) c.loop-below.invariant
+    all-shades c.args.found d.map (drawn_in d) c.loop-index.shades c.loop-index.index c.loop-index-test.false
+    c.loop-index.invariant
