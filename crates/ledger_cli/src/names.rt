@@ -255,11 +255,9 @@ pub(crate) fn titling<'a>(matches: &ArgMatches<'a>, image: &'a str) -> Result<Jo
     let Some(name) = Name::read(value_of(matches, "NAME")) else {
         return Err(JobFault::Name);
     };
-    match id_of(value_of(matches, "ID")) {
-        Some(id) => {
-            let loss = loss(matches);
-            Ok(edited(matches, image, Edit::Title { id, loss, name }))
-        }
-        None => Err(JobFault::Id),
-    }
+    let Some(id) = id_of(value_of(matches, "ID")) else {
+        return Err(JobFault::Id);
+    };
+    let loss = loss(matches);
+    Ok(edited(matches, image, Edit::Title { id, loss, name }))
 }
