@@ -41,7 +41,7 @@ impl Place {
         Place { track, sector }
     }
 
-    /// The place with this index, as `index` tells it.
+    /// The place with this index, which `index` returns of it.
     pub fn nth(index: usize) -> Place
         requires { index < 683 }
         ensures { index_of result ≡ index }
