@@ -2,8 +2,8 @@
 ghost use Rattle.ledger_jobs.specs.JobRights.{MayExplain};
 ghost use Rattle.opened_files.specs.Rights.{MayReadImage};
 
-use crate::jobs::Job;
 use crate::failure_lines::tell_of;
+use crate::jobs::Job;
 use crate::refusal_subjects::{CUT_SHORT, said_of_fault};
 use d64_image::Place;
 use disk_layout::Fault;

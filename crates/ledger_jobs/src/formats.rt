@@ -3,12 +3,30 @@
 
 /// The first bytes of files of other formats, and what is said of each.
 const MARKS: [(&[u8], &str); 6] = [
-    (b"PK\x03\x04", "it is a zip archive; `unzip` takes the image out"),
-    (b"\x1f\x8b", "it is compressed; `zcat OLD > NEW` makes the image"),
-    (b"GCR-1541", "it is a G64 image; VICE's c1541 takes its files out"),
-    (b"C64File\0", "it is a file in P00; cbmconvert puts it on a disk"),
-    (b"C64 tape", "it is a T64 archive; cbmconvert puts its files on a disk"),
-    (b"C64S tape", "it is a T64 archive; cbmconvert puts its files on a disk"),
+    (
+        b"PK\x03\x04",
+        "it is a zip archive; `unzip` takes the image out",
+    ),
+    (
+        b"\x1f\x8b",
+        "it is compressed; `zcat OLD > NEW` makes the image",
+    ),
+    (
+        b"GCR-1541",
+        "it is a G64 image; VICE's c1541 takes its files out",
+    ),
+    (
+        b"C64File\0",
+        "it is a file in P00; cbmconvert puts it on a disk",
+    ),
+    (
+        b"C64 tape",
+        "it is a T64 archive; cbmconvert puts its files on a disk",
+    ),
+    (
+        b"C64S tape",
+        "it is a T64 archive; cbmconvert puts its files on a disk",
+    ),
 ];
 
 /// The word that a Lynx archive has in its first line of BASIC.
@@ -22,7 +40,9 @@ const WANTED: &str = "an image of 35 tracks without error bytes has 174848";
 /// What is said of a file of this size, whatever it has.
 fn said_of_size(bytes: u64) -> Option<&'static str> {
     match bytes {
-        175_531 => Some("35 tracks and error bytes; `ledger trim OLD > NEW` leaves the error bytes out"),
+        175_531 => Some(
+            "35 tracks and error bytes; `ledger trim OLD > NEW` leaves the error bytes out",
+        ),
         196_608 => Some("40 tracks; `ledger trim OLD > NEW` takes the first 35, then check NEW"),
         197_376 => Some(
             "40 tracks and error bytes; `ledger trim OLD > NEW` takes the first 35, then check NEW",
@@ -73,7 +93,8 @@ fn said_of_bytes(bytes: &[u8]) -> &'static str {
     }
     let (at, map) = MAP;
     match bytes.get(at..at + map.len()) {
-        Some(found) if found == map.as_slice() => "it is cut short, since 35 tracks have 174848; read the disk again",
+        Some(found) if found == map.as_slice() =>
+            "it is cut short, since 35 tracks have 174848; read the disk again",
         _ => WANTED,
     }
 }

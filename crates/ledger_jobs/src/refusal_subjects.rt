@@ -34,14 +34,16 @@ pub(crate) fn said_of_fault(fault: Fault) -> &'static str {
         Fault::BadLink(_) => {
             "its link names no sector of the disk; `extract` takes out what can be read"
         }
-        Fault::Loop(_) => "a chain of sectors comes back to it; `extract` takes out what can be read",
+        Fault::Loop(_) =>
+            "a chain of sectors comes back to it; `extract` takes out what can be read",
         Fault::OwnedTwice(place) if place == map_place() => {
             "an entry names the BAM's sector, as in drawn directories; `extract` takes the files out"
         }
         Fault::OwnedTwice(_) => {
             "two of the files, the directory and the BAM have it; `extract` takes out what can be read"
         }
-        Fault::BadType(_) => "an entry there has a type that doesn't exist; `bytes` takes files out",
+        Fault::BadType(_) =>
+            "an entry there has a type that doesn't exist; `bytes` takes files out",
         Fault::Unclosed(_) => "a file there was never closed; `extract` takes it out",
         Fault::BadSide(place) if place.track() == map_place().track() => {
             "a relative file's entry there names no side sector; `records` prints what it has"

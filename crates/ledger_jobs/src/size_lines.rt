@@ -52,7 +52,11 @@ where
     requires { MayReadImage R.rights rt.now image.now }
 {
     let Some(size) = size_of(rt, image) else {
-        return tell_of(err, image, "an image of 35 tracks without error bytes has 174848");
+        return tell_of(
+            err,
+            image,
+            "an image of 35 tracks without error bytes has 174848",
+        );
     };
     let shown = ShownPath(image);
     let said = match bytes_again(rt, image) {

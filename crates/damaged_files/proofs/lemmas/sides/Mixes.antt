@@ -75,32 +75,7 @@ module _ {D : Type 0} (S : History D) (a b : Image) where
           subst P (sym same) (ap (λ (i : Image). sector i p) e ∙ sector-put_same (S.image c) p w size ∙ is)
       done (Err f) e = tt
 
-  -- none, since both have the same bytes there
-  pub takes-same : (p : Place) (d : D) (x : Unit {0}) → sector a p ≡ sector b p → Takes S a b (λ q. q ≡ p) d d (Ok x)
-  takes-same p d x same = record {
-    nears = nears-none d;
-    taken = λ mix q e. let P : Place → Type 0 = λ y. sector (S.image d) y ≡ sector b y in
-        subst P (sym e) (⊎_elim (λ old. old ∙ same) (λ new. new) (mix p));
-    failures = refl;
-  }
-
   module _ (These Those All : Place → Type 0) where
-    -- nothing yet
-    pub so-far-none : (d : D) → ((p : Place) → ¬ (These p)) → TakesSoFar S a b These d d
-    so-far-none d none = record {
-      nears = nears-none d;
-      taken = λ mix p own. absurd (none p own);
-      failures = refl;
-    }
-
-    -- no more
-    pub so-far-same : (c d : D) → ((p : Place) → All p → These p) → TakesSoFar S a b These c d → TakesSoFar S a b All c d
-    so-far-same c d split old = record {
-      nears = old.nears;
-      taken = λ mix p own. old.taken mix p (split p own);
-      failures = old.failures;
-    }
-
     -- and these
     pub so-far-more : (c d e : D) (x : Unit {0}) → ((p : Place) → All p → These p ⊎ Those p)
         → TakesSoFar S a b These c d → Takes S a b Those d e (Ok x) → TakesSoFar S a b All c e
