@@ -38,6 +38,7 @@ impl Edit<'_> {
             Edit::Make { loss, .. } | Edit::Store { loss, .. } | Edit::Put { loss, .. } => loss,
             Edit::Rename { loss, .. } | Edit::Title { loss, .. } => loss,
             Edit::Delete { loss, .. } => loss,
+        }
     }
 
     /// The change that it asks for. `text` has the bytes of its FILE, or the lines of its RECORDS, in one column each; otherwise
