@@ -1,5 +1,5 @@
 -- What comes of a change of an image's files, as the words ask for it. Our own.
-use Rattle.std.specs.Prelude.{◌≡◌, ⊤, ℕ, Bool, List, false, true}
+use Rattle.std.specs.Prelude.{◌≡◌, ◌≤◌, ⊤, ℕ, Bool, List, false, length, true}
 use Rattle.disk_changes.specs.Deletes.{IsDeleteRefusal, IsDeleted}
 use Rattle.disk_changes.specs.Makes.{IsMade, IsMakeRefusal}
 use Rattle.disk_changes.specs.Puts.{IsPut, IsPutRefusal}
@@ -45,6 +45,7 @@ abbrev pub IsFitEdit : Edit → Type 0
 IsFitEdit (edits.Make size loss name) = IsNewName (name_bytes name) × IsLength size
 IsFitEdit (edits.Rename loss from to) = IsNewName (name_bytes to)
 IsFitEdit (edits.Put file kind loss name) = IsNewName (name_bytes name)
+IsFitEdit (edits.Title id loss name) = length (name_bytes name) ≤ 16
 IsFitEdit _ = ⊤
 
 -- the text that a change takes is that of the file that it names, if the host says its bytes: records in one column each

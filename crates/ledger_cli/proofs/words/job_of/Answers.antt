@@ -195,7 +195,7 @@ returns-in-title c =
     let rows = rows_of (found_of c.in-Some.found.now) in
     let is = met-is c.parsed_subcommand.result _ c.in-Some.name c.in-Some.found _ c.parsed_subcommand.ensures c.in-Some.is c.in-title.is in
     let met = titling-met _ rows (λ name id. jobs.Change c.value_of-image.result (effect_in rows) (edits.Title id (loss_in rows) name)) c.titling.result
-    (λ name id at two. (record { rows = rows; is = is; holds = (c.value_of-image.ensures, (at, two, refl), refl) }, tt))
+    (λ name id at two. (record { rows = rows; is = is; holds = (c.value_of-image.ensures, (at, two, refl), refl) }, at.short))
     (λ missing. inr (inr (inr (inr (inr (inr (inr (record { rows = rows; is = is; holds = missing }))))))))
     (λ missing. (refl, inr (record { rows = rows; is = is; holds = missing }))) c.titling.ensures in
     record { job = met.0; fit = met.1 }
