@@ -6,3 +6,5 @@ pub mod Played
 pub mod Lasts
 pub mod Ends
 pub mod Noted
+pub mod SnapshotRights
+pub mod SnapshotPremises

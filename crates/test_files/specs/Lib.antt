@@ -6,3 +6,4 @@ pub mod Shops
 pub mod WholeShops
 pub mod Noted
 pub mod Known
+pub mod Snapshots

@@ -1,5 +1,6 @@
 //! A file in memory. It is known what it holds, what of that is on its disk, and all that was there before. Also a run
-//! of the program over it, whose contract says what it holds if the program dies at any moment. And a host of one file.
+//! of the program over it, whose contract says what it holds if the program dies at any moment. And a host of files that
+//! says what they held.
 #![tactic(auto)]
 
 mod disk;
@@ -7,6 +8,7 @@ mod disk_file;
 mod known;
 mod noting;
 mod runs;
+mod snapshots;
 mod whole_file;
 
 pub use disk::{Disk, IMAGE_BYTES};
@@ -14,4 +16,8 @@ pub use disk_file::{DiskFile, Lock};
 pub use known::{Known, KnownFile};
 pub use noting::{NotedLines, NotedReplies, RecordedReply};
 pub use runs::play_in_file;
+pub use snapshots::host::Snapshot;
+pub use snapshots::jobs::{do_over, premises_are_met};
+pub use snapshots::open_file::SnapshotFile;
+pub use snapshots::store::Store;
 pub use whole_file::WholeFile;
