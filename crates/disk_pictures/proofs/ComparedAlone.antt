@@ -1,7 +1,7 @@
 -- Which sectors a comparison marks; and a disk that is compared with itself has no mark and no row.
-use Rattle.std.proofs.Common.{◌≡◌, ◌≢◌, ◌+◌, ◌++◌, ◌∷◌, ◌<◌, ◌∙◌, ℕ, zero, suc, Bool, true, false, List, [], length, take, drop}
+use Rattle.std.proofs.Common.{◌≡◌, ◌≢◌, ◌+◌, ◌++◌, ◌∷◌, ◌∙◌, ℕ, zero, suc, Bool, true, false, List, [], length, take, drop}
 use Rattle.std.proofs.Common.{ap, arith, refl, subst, sym}
-use Rattle.std.specs.Prelude.{◌||◌, Option, Some, None, bytes_eq, filter, if◌then◌else◌, not, slice_get}
+use Rattle.std.specs.Prelude.{Option, Some, None, bytes_eq, filter, if◌then◌else◌, not, slice_get}
 use Rattle.std.specs.List.{list_any}
 use Rattle.std.proofs.lemmas.Bool.{false_from_ne_true}
 use Rattle.std.proofs.lemmas.Slice.Eq.{bytes_eq-Decides}
@@ -11,7 +11,7 @@ use Rattle.d64_image.specs.declared.place.Place.{Place}
 use Rattle.disk_layout.specs.Layout.{File}
 use Rattle.disk_pictures.proofs.CountedDrawing.{no-place, one-place}
 use Rattle.disk_pictures.specs.ComparedPages.{changed_row, changes_text, entry_row, former_row, gone_by, row_by}
-use Rattle.disk_pictures.specs.Comparisons.{Disk, are_sectors_changed, called, counterpart, differs, each_difference}
+use Rattle.disk_pictures.specs.Comparisons.{Disk, are_sectors_changed, counterpart, differs, each_difference}
 use Rattle.disk_pictures.specs.Comparisons.{is_called, is_entry_changed, number_of}
 use Rattle.disk_pictures.specs.Html.{Show}
 use Rattle.disk_rescue.specs.Names.{name_of}

@@ -1,6 +1,6 @@
 -- The markup of a comparison is the same, however bytes of the disks are shown, where what is shown has the same markup.
 use Rattle.std.proofs.Common.{ℕ, List, []}
-use Rattle.std.specs.Prelude.{◌||◌, Option, None, Some, codes, decimal}
+use Rattle.std.specs.Prelude.{◌||◌, Option, None, Some, codes}
 use Rattle.d64_image.specs.Images.{Image}
 use Rattle.disk_layout.specs.Layout.{File}
 use Rattle.disk_pictures.specs.ComparedPages.{changes_text, compared_head, compared_text, comparison_text, difference_row}
@@ -10,7 +10,6 @@ use Rattle.disk_pictures.specs.Comparisons.{Disk, are_bytes_changed, are_sectors
 use Rattle.disk_pictures.specs.Html.{Show}
 use Rattle.disk_rescue.specs.Names.{disk_name, name_of}
 use Rattle.disk_pictures.specs.Pictures.{look}
-use Rattle.disk_pictures.specs.Texts.{numbered, verdict_text}
 use Rattle.disk_pictures.proofs.PageMarkup.{IsSameMarkup, alike, before, behind, both, each, on-drawing, on-link, on-title}
 use Rattle.disk_pictures.proofs.PageMarkup.{on-told, where-so}
 

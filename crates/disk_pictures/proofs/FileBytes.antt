@@ -1,6 +1,6 @@
 -- A byte of a file, where it is in its blocks.
-use Rattle.std.proofs.Common.{◌≡◌, ◌<◌, ◌≤◌, ◌+◌, ◌/◌, ◌%◌, ◌∙◌, ℕ, Bool, true, false, ap, refl, sym}
-use Rattle.std.specs.Prelude.{Option, Some, None, if◌then◌else◌, nat_lt, option_map, slice_get}
+use Rattle.std.proofs.Common.{◌≡◌, ◌<◌, ◌≤◌, ◌+◌, ◌/◌, ◌%◌, ◌∙◌, ℕ, Bool, ap, sym}
+use Rattle.std.specs.Prelude.{Option, None, if◌then◌else◌, nat_lt, option_map, slice_get}
 use Rattle.std.proofs.lemmas.Bool.{le-ltb, lt-ltb}
 use Rattle.d64_image.specs.Images.{Image}
 use Rattle.d64_image.specs.declared.place.Place.{Place}

@@ -1,5 +1,5 @@
 -- The number of each sector stands in a small drawing by number once.
-use Rattle.std.proofs.Common.{◌≡◌, ◌≢◌, ◌+◌, ◌++◌, ℕ, Bool, true, false, List, [], length, eq-eqb, ne_eqb, refl, subst, sym, arith}
+use Rattle.std.proofs.Common.{◌≡◌, ◌+◌, ℕ, Bool, true, false, [], length, eq-eqb, ne_eqb, refl, subst, sym, arith}
 use Rattle.std.specs.Prelude.{Option, Some, None, if◌then◌else◌, nat_eq}
 use Rattle.d64_image.proofs.Places.{index_below, place_of}
 use Rattle.d64_image.specs.Images.{Sector}

@@ -1,18 +1,18 @@
 -- A sector and the free blocks, as they are printed part by part.
-use Rattle.std.proofs.Common.{◌≡◌, ◌≢◌, ◌<◌, ◌+◌, ◌*◌, ◌/◌, ◌%◌, ℕ, Bool, true, false, List, [], ◌∷◌, ◌++◌, take, get_or, length, ap, ap₂}
-use Rattle.std.proofs.Common.{refl, subst, sym, ◌∙◌, ◌⊎◌, inl, inr, arith}
-use Rattle.std.specs.Prelude.{None, Option, Some, codes, flat_map, map, slice_get, slice_index, slice_range, if◌then◌else◌, nat_lt}
+use Rattle.std.proofs.Common.{◌≡◌, ◌<◌, ◌+◌, ◌*◌, ◌%◌, ℕ, Bool, true, false, List, [], ◌∷◌, ◌++◌, take, get_or, length, ap}
+use Rattle.std.proofs.Common.{subst, sym, ◌∙◌, inl, inr, arith}
+use Rattle.std.specs.Prelude.{Option, codes, flat_map, map, slice_get, slice_index, slice_range, if◌then◌else◌, nat_lt}
 use Rattle.std.specs.Char.{encode_utf8}
 use Rattle.std.specs.Io.KnownBytes.{Appends, Keeps}
 use Rattle.std.proofs.KnownBytes.{Appends-kept, Appends-trans}
 use Rattle.std.proofs.lemmas.Grind.{flat_map-append}
-use Rattle.std.proofs.lemmas.List.{append-nil, append_assoc, take_more}
+use Rattle.std.proofs.lemmas.List.{append-nil, take_more}
 use Rattle.d64_image.specs.Images.{Image, Sector, sector}
 use Rattle.d64_image.specs.Memory.{sectors_in}
 use Rattle.d64_image.specs.declared.place.Place.{Place}
 use Rattle.disk_layout.specs.Directory.{map_place}
 use Rattle.disk_layout.specs.Fault.{HoldsOfDirectory, nowhere}
-use Rattle.disk_layout.specs.Layout.{File, Layout}
+use Rattle.disk_layout.specs.Layout.{Layout}
 use Rattle.disk_layout.specs.Map.{map_count}
 use Rattle.disk_layout.specs.View.{blocks_free}
 use Rattle.disk_layout.specs.declared.faults.Fault.{Fault}
@@ -21,7 +21,6 @@ use Rattle.disk_pictures.proofs.Marks.{own-byte}
 use Rattle.disk_pictures.proofs.Printing.{three}
 use Rattle.disk_pictures.specs.Drawings.{IsDrawn, owner_of}
 use Rattle.disk_pictures.specs.Maps.{is_wide}
-use Rattle.disk_pictures.specs.Outcomes.{map_in}
 use Rattle.disk_pictures.specs.Texts.{each_below}
 use Rattle.disk_pictures.specs.Views.{IsSectorPrinted, byte_sign, bytes_line, bytes_text, code_text, free_line, free_text}
 use Rattle.disk_pictures.specs.Views.{free_total, line_if, link_text, owner_text, sector_text, unknown_owner}

@@ -1,7 +1,7 @@
 -- The comparison of two disks, before and after. It is an HTML page with the drawing of the second one, in which sectors
 -- that differ are marked, and a list of the files that changed. All of it is our own. Bytes of the disks stand in it as
 -- `show` shows them, and names also as `signs` does, and in no other way.
-use Rattle.std.specs.Prelude.{ℕ, ◌+◌, ◌||◌, Bool, false, List, [], ◌++◌, Option, Some, None, if◌then◌else◌, codes, decimal, length}
+use Rattle.std.specs.Prelude.{ℕ, ◌+◌, ◌||◌, Bool, List, [], ◌++◌, Option, Some, None, if◌then◌else◌, codes, decimal, length}
 use Rattle.d64_image.specs.Images.{Image}
 use Rattle.d64_image.specs.declared.place.Place.{Place}
 use Rattle.disk_layout.specs.Layout.{File}

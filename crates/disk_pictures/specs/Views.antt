@@ -1,9 +1,9 @@
 -- What is printed of a disk that isn't checked: its free blocks, and a sector with its owner. Our own.
-use Rattle.std.specs.Prelude.{◌≡◌, ◌≢◌, ◌⊎◌, Bool, IfErr, OnOk, Result, ℕ, ◌+◌, ◌*◌, ◌/◌, ◌%◌, List, [], ◌∷◌, ◌++◌, None, Option, Some, codes, decimal}
+use Rattle.std.specs.Prelude.{◌≡◌, ◌≢◌, ◌⊎◌, Bool, ℕ, ◌+◌, ◌*◌, ◌/◌, ◌%◌, List, [], ◌∷◌, ◌++◌, None, Option, Some, codes, decimal}
 use Rattle.std.specs.Prelude.{flat_map, if◌then◌else◌, length, nat_eq, slice_get, slice_index, slice_range}
 use Rattle.std.specs.Char.{encode_utf8}
 use Rattle.std.specs.Io.KnownBytes.{Appends}
-use Rattle.d64_image.specs.Images.{Image, Sector, sector}
+use Rattle.d64_image.specs.Images.{Sector, sector}
 use Rattle.d64_image.specs.Memory.{sectors_in}
 use Rattle.d64_image.specs.Places.{place_at}
 use Rattle.d64_image.specs.declared.place.Place.{Place}

@@ -1,6 +1,5 @@
 -- How a job ends that changes an image, from how the change did.
-use Rattle.std.proofs.Common.{◌≡◌, ◌⊎◌, List, Option, Result, Ok, Err, inl, inr, refl, subst, sym, ℕ}
-use Rattle.std.specs.Prelude.{IfErr, IsErr}
+use Rattle.std.proofs.Common.{◌≡◌, ◌⊎◌, List, Option, Result, Ok, Err, inl, inr, subst, ℕ}
 use Rattle.disk_changes.specs.declared.changes.Changed.{Changed}
 use Rattle.disk_changes.specs.declared.changes.Why.{Why}
 use Rattle.folder_changes.specs.FolderChanges.{IsToldAs}

@@ -1,6 +1,5 @@
 -- The lines and their sum are the text.
 use Rattle.std.proofs.Common.{ap, ◌∙◌}
-use Rattle.d64_image.specs.Images.{Sector}
 use Rattle.d64_image.proofs.Told.{at-ok}
 use Rattle.disk_layout.specs.View.{blocks_free}
 use Rattle.disk_pictures.proofs.Viewed.{free-written}

@@ -1,5 +1,5 @@
 -- Where the byte is in the file's blocks.
-use Rattle.std.proofs.Common.{ap, arith, length, refl, slice_index_or, subst, sym, ◌∙◌, ◌<◌, ◌≤◌, ◌/◌, ◌+◌, ◌%◌, ℕ, List}
+use Rattle.std.proofs.Common.{ap, arith, refl, slice_index_or, sym, ◌∙◌, ◌/◌, ◌+◌, ◌%◌, ℕ, List}
 use Rattle.std.specs.Prelude.{None, Some, slice_get}
 use Rattle.std.proofs.lemmas.Option.{slice_get-get_or, slice_get_past}
 use Rattle.d64_image.specs.declared.place.Place.{Place}
