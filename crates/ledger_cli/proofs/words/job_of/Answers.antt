@@ -77,7 +77,7 @@ returns-in-play c =
           (play-met found rows c.value_of-image.result c.value_of-script.result synced refl is c.value_of-image.ensures
           c.value_of-script.ensures);
       fit = subst IsFit (sym c.playing.ensures)
-          (play-fit c.value_of-image.result c.value_of-script.result _ synced);
+          (play-fit c.value_of-image.result c.value_of-script.result (loss_in rows) synced);
     }
 
 pub returns-in-dry : goal.returns-in-dry
