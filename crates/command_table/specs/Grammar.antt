@@ -55,17 +55,18 @@ list = may_be_text (over_images (codes "list"))
 abbrev pub check : App
 check = with_rule (with_rule (over_images (codes "check")) (flag (codes "json"))) (flag (codes "all"))
 
--- show IMAGE
-abbrev pub show : App
-show = over_image (codes "show")
-
--- play IMAGE SCRIPT [--sync]
-abbrev pub play : App
-play = with_rule (with_rule (over_image (codes "play")) (required (codes "SCRIPT"))) (flag (codes "sync"))
-
--- a subcommand that goes on where a disk has lost a part of a file, if --accept-loss is given
+-- a subcommand that goes on where a disk has lost a part of a file, or an image its log, if --accept-loss is given
 abbrev pub may_accept_loss : App → App
 may_accept_loss a = with_rule a (flag (codes "accept-loss"))
+
+-- show IMAGE [--accept-loss]
+abbrev pub show : App
+show = may_accept_loss (over_image (codes "show"))
+
+-- play IMAGE SCRIPT [--sync] [--accept-loss]
+abbrev pub play : App
+play = may_accept_loss (with_rule (with_rule (over_image (codes "play")) (required (codes "SCRIPT")))
+    (flag (codes "sync")))
 
 -- serve IMAGE [--accept-loss]
 abbrev pub serve : App
@@ -111,18 +112,19 @@ abbrev pub store : App
 store = may_run_dry (may_have_columns (may_accept_loss (with_rule (with_rule (over_image (codes "store"))
     (required (codes "NAME"))) (required (codes "RECORDS")))))
 
--- put IMAGE NAME FILE --type TYPE [--dry-run]
+-- put IMAGE NAME FILE --type TYPE [--accept-loss] [--dry-run]
 abbrev pub put : App
-put = may_run_dry (with_rule (with_rule (with_rule (over_image (codes "put")) (required (codes "NAME")))
-    (required (codes "FILE"))) (required_behind (codes "type") (codes "TYPE")))
+put = may_run_dry (may_accept_loss (with_rule (with_rule (with_rule (over_image (codes "put")) (required (codes "NAME")))
+    (required (codes "FILE"))) (required_behind (codes "type") (codes "TYPE"))))
 
--- rename IMAGE OLD NEW [--dry-run]
+-- rename IMAGE OLD NEW [--accept-loss] [--dry-run]
 abbrev pub rename : App
-rename = may_run_dry (with_rule (with_rule (over_image (codes "rename")) (required (codes "OLD"))) (required (codes "NEW")))
+rename = may_run_dry (may_accept_loss (with_rule (with_rule (over_image (codes "rename")) (required (codes "OLD")))
+    (required (codes "NEW"))))
 
--- delete IMAGE NAME [--dry-run]
+-- delete IMAGE NAME [--accept-loss] [--dry-run]
 abbrev pub delete : App
-delete = may_run_dry (with_rule (over_image (codes "delete")) (required (codes "NAME")))
+delete = may_run_dry (may_accept_loss (with_rule (over_image (codes "delete")) (required (codes "NAME"))))
 
 -- new IMAGE --name NAME --id ID
 abbrev pub new : App

@@ -1,6 +1,8 @@
 //! The subcommands that change the files of a disk: the words of each, and what help says of it, at most 80 columns wide.
 use crate::subcommands::Subcommand;
-use crate::values::{ACCEPT_LOSS, Count, DRY_RUN, FIELDS, IMAGE, NAME, POSITIONS, Value};
+use crate::values::{
+    ACCEPT_AWAY, ACCEPT_LOSS, Count, DRY_RUN, FIELDS, IMAGE, NAME, POSITIONS, Value,
+};
 
 /// The subcommands that change the files of a disk, in the order in which help lists them.
 pub(crate) const CHANGES: &[Subcommand] = &[NEW, MAKE, STORE, PUT, RENAME, DELETE];
@@ -120,7 +122,7 @@ const FILE_TYPE: Value = Value {
     help: "The file's type: prg, seq or usr",
 };
 
-/// `put IMAGE NAME FILE --type TYPE [--dry-run]`
+/// `put IMAGE NAME FILE --type TYPE [--accept-loss] [--dry-run]`
 const PUT: Subcommand = Subcommand {
     name: "put",
     about: "Put a file of the host on the disk",
@@ -136,7 +138,7 @@ Exit status:
   3  FILE, NO MEMORY, IN USE, DEVICE
 
 Example: ledger put new.d64 GAME game.prg --type prg",
-    values: &[IMAGE, NAME, FILE, FILE_TYPE, DRY_RUN],
+    values: &[IMAGE, NAME, FILE, FILE_TYPE, ACCEPT_AWAY, DRY_RUN],
 };
 
 /// The name of a file that gets another.
@@ -155,7 +157,7 @@ const NEW_NAME: Value = Value {
     help: "The name that it gets, which no other file may have",
 };
 
-/// `rename IMAGE OLD NEW [--dry-run]`
+/// `rename IMAGE OLD NEW [--accept-loss] [--dry-run]`
 const RENAME: Subcommand = Subcommand {
     name: "rename",
     about: "Give a file another name",
@@ -171,10 +173,10 @@ Exit status:
   3  FILE, NO MEMORY, IN USE, DEVICE
 
 Example: ledger rename old.d64 LETTER 'LETTER 1'",
-    values: &[IMAGE, OLD_NAME, NEW_NAME, DRY_RUN],
+    values: &[IMAGE, OLD_NAME, NEW_NAME, ACCEPT_AWAY, DRY_RUN],
 };
 
-/// `delete IMAGE NAME [--dry-run]`
+/// `delete IMAGE NAME [--accept-loss] [--dry-run]`
 const DELETE: Subcommand = Subcommand {
     name: "delete",
     about: "Delete a file, and free its sectors",
@@ -190,5 +192,5 @@ Exit status:
   3  FILE, NO MEMORY, IN USE, DEVICE
 
 Example: ledger delete old.d64 LETTER",
-    values: &[IMAGE, NAME, DRY_RUN],
+    values: &[IMAGE, NAME, ACCEPT_AWAY, DRY_RUN],
 };

@@ -1,6 +1,6 @@
 //! The subcommands that run a shop: the words of each, and what help says of it, at most 80 columns wide.
 use crate::subcommands::Subcommand;
-use crate::values::{ACCEPT_LOSS, Count, IMAGE, Value};
+use crate::values::{ACCEPT_AWAY, ACCEPT_LOSS, Count, IMAGE, Value};
 
 /// The subcommands that run a shop, in the order in which help lists them.
 pub(crate) const SHOPS: &[Subcommand] = &[FORMAT, SHOW, PLAY, DRY, SERVE, COPY];
@@ -39,7 +39,7 @@ Example: ledger format --new shop.d64 --tills 4",
     values: &[IMAGE, TILLS, ONLY_NEW],
 };
 
-/// `show IMAGE`
+/// `show IMAGE [--accept-loss]`
 const SHOW: Subcommand = Subcommand {
     name: "show",
     about: "Print the cards, and the last two requests of each till",
@@ -53,7 +53,7 @@ Exit status:
   3  FILE, NO MEMORY, IN USE
 
 Example: ledger show shop.d64",
-    values: &[IMAGE],
+    values: &[IMAGE, ACCEPT_AWAY],
 };
 
 /// The script of a subcommand.
@@ -72,7 +72,7 @@ const SYNC: Value = Value {
     help: "Play over a log beside the image, as `serve` does",
 };
 
-/// `play IMAGE SCRIPT [--sync]`
+/// `play IMAGE SCRIPT [--sync] [--accept-loss]`
 const PLAY: Subcommand = Subcommand {
     name: "play",
     about: "Play the messages of a script on the image, and print the replies",
@@ -89,7 +89,7 @@ Exit status:
      on there
 
 Example: ledger play --sync shop.d64 day.txt",
-    values: &[IMAGE, SCRIPT, SYNC],
+    values: &[IMAGE, SCRIPT, SYNC, ACCEPT_AWAY],
 };
 
 /// `dry SCRIPT`

@@ -1,5 +1,5 @@
 -- How a job ends that changes an image, from how the change did.
-use Rattle.std.proofs.Common.{◌≡◌, List, Option, Result, Ok, Err, inl, inr, refl, subst, sym, ℕ}
+use Rattle.std.proofs.Common.{◌≡◌, ◌⊎◌, List, Option, Result, Ok, Err, inl, inr, refl, subst, sym, ℕ}
 use Rattle.std.specs.Prelude.{IfErr, IsErr}
 use Rattle.disk_changes.specs.declared.changes.Changed.{Changed}
 use Rattle.disk_changes.specs.declared.changes.Why.{Why}
@@ -8,6 +8,8 @@ use Rattle.folder_changes.specs.declared.stops.Stop.{Stop}
 use Rattle.folder_changes.specs.declared.stops.Stop.TheVariants as stops
 use Rattle.opened_files.specs.Ends.{JobEnd}
 use Rattle.opened_files.specs.HostFiles.{IsUnbegun, RunEnds}
+use Rattle.opened_files.specs.Losses.{IsAwayFault}
+use Rattle.opened_files.specs.declared.losses.Loss.{Loss}
 use Rattle.opened_files.specs.declared.refusals.Refusal.{Refusal}
 
 -- what is known of a change and of its refusal may be weakened
@@ -25,8 +27,8 @@ pub run-weaker : {W : Type 0} (old new : W) (end : JobEnd) (P Q : Type 0) → (P
 run-weaker old new end P Q f (inl run) = inl (f run)
 run-weaker old new end P Q f (inr unbegun) = inr unbegun
 
--- a job that isn't begun
-pub not-begun : {W : Type 0} (w : W) (end : JobEnd) (P : Type 0) (refusal : Refusal) → end ≡ Err refusal → IsUnbegun refusal
-    → RunEnds w w end P
-not-begun w end P refusal is unbegun =
-    inr (refl, subst (λ (e : JobEnd). IsErr e) (sym is) refl, subst (λ (e : JobEnd). IfErr e IsUnbegun) (sym is) unbegun)
+-- why it isn't begun, in the terms of its change
+pub away-as : (Says : Type 0) (asked loss : Loss) (refusal : Refusal) → asked ≡ loss
+    → IsUnbegun refusal ⊎ IsAwayFault asked Says refusal → IsUnbegun refusal ⊎ IsAwayFault loss Says refusal
+away-as Says asked loss refusal same why =
+    subst (λ (l : Loss). IsUnbegun refusal ⊎ IsAwayFault l Says refusal) same why

@@ -15,6 +15,6 @@ module _ {H : Type 0} (rights : Rights H) (host : H) where
 
   -- the file whose bytes a change takes may be read
   abbrev pub MayReadSource : Edit → Type 0
-  MayReadSource (edits.Put file kind name) = MayReadText rights host file.now
+  MayReadSource (edits.Put file kind loss name) = MayReadText rights host file.now
   MayReadSource (edits.Store records columns loss name) = MayReadText rights host records.now
   MayReadSource _ = ⊤

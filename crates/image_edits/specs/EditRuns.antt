@@ -7,7 +7,7 @@ use Rattle.image_edits.specs.Copies.{IsCopyEnd}
 use Rattle.image_edits.specs.Edits.{IsEdited, IsTextFor, IsUnedited, loss_of}
 use Rattle.opened_files.specs.Ends.{JobEnd}
 use Rattle.opened_files.specs.HostFiles.{IsUnread, OfImage, OfWritten, RunEnds}
-use Rattle.opened_files.specs.Losses.{IsNear}
+use Rattle.opened_files.specs.Losses.{IsNear, NearRunEnds}
 use Rattle.image_edits.specs.Salvages.{IsSalvageEnd}
 use Rattle.image_edits.specs.declared.edit.Edit.{Edit}
 use Rattle.image_edits.specs.declared.edit.Effect.{Effect}
@@ -27,11 +27,13 @@ module _ {H W : Type 0} (rights : Rights H) (stands : H → List ℕ → Stands)
       (λ all. RunEnds old new end (IsCopyEnd contents (codes "COPIED\n") (take 174849 all) old new end))
 
   -- Its files were changed, all or nothing, or only what the change would print was printed. That isn't done to an image
-  -- whose log has the rest.
+  -- whose log has the rest, unless the loss of it is accepted.
   abbrev pub IsEditOver : Effect → List ℕ → Edit → W → W → JobEnd → Type 0
-  IsEditOver Written path edit old new end = RunEnds old new end ((image text : List ℕ)
+  IsEditOver Written path edit old new end = NearRunEnds (loss_of edit)
+      (OfWritten stands host path (λ all. SaysLogAway (take 174849 all))) old new end ((image text : List ℕ)
       × OfWritten stands host path (λ all. image ≡ take 174849 all) × (¬ (SaysLogAway image))
       × IsTextFor stands host edit text × IsChangeEnd contents (IsEdited edit text image) (IsUnedited edit text image) old new end)
-  IsEditOver Printed path edit old new end = RunEnds old new end ((image text : List ℕ)
+  IsEditOver Printed path edit old new end = NearRunEnds (loss_of edit)
+      (OfImage rights stands host path (λ all. SaysLogAway (take 174849 all))) old new end ((image text : List ℕ)
       × OfImage rights stands host path (λ all. image ≡ take 174849 all) × IsNear (loss_of edit) image
       × IsTextFor stands host edit text × IsShownEnd contents (IsEdited edit text image) (IsUnedited edit text image) old new end)

@@ -17,7 +17,6 @@ use Rattle.opened_files.specs.Names.{name_bytes}
 use Rattle.image_edits.specs.declared.edit.Edit.{Edit}
 use Rattle.image_edits.specs.declared.edit.Edit.TheVariants as edits
 use Rattle.opened_files.specs.declared.losses.Loss.{Loss}
-use Rattle.opened_files.specs.declared.losses.Loss.TheVariants as losses
 use Rattle.image_edits.specs.declared.edit.Unowned.{Unowned}
 use Rattle.image_edits.specs.declared.edit.Unowned.TheVariants.{Freed, Kept}
 use Rattle.rel_records.specs.File.{IsLength}
@@ -28,24 +27,26 @@ abbrev pub frees : Unowned → Bool
 frees Kept = false
 frees Freed = true
 
--- what is done if a disk has lost a part of a file, or the image its log; what doesn't ask leaves the image as it is
+-- what is done if a disk has lost a part of a file, or the image its log
 abbrev pub loss_of : Edit → Loss
 loss_of (edits.Repair loss unowned) = loss
 loss_of (edits.RepairSides loss unowned) = loss
 loss_of (edits.Make size loss name) = loss
 loss_of (edits.Store records columns loss name) = loss
-loss_of _ = losses.Refused
+loss_of (edits.Rename loss from to) = loss
+loss_of (edits.Delete loss name) = loss
+loss_of (edits.Put file kind loss name) = loss
 
 -- a new file can have the name that a file gets, and a record the bytes of one that is made
 abbrev pub IsFitEdit : Edit → Type 0
 IsFitEdit (edits.Make size loss name) = IsNewName (name_bytes name) × IsLength size
-IsFitEdit (edits.Rename from to) = IsNewName (name_bytes to)
-IsFitEdit (edits.Put file kind name) = IsNewName (name_bytes name)
+IsFitEdit (edits.Rename loss from to) = IsNewName (name_bytes to)
+IsFitEdit (edits.Put file kind loss name) = IsNewName (name_bytes name)
 IsFitEdit _ = ⊤
 
 -- the text that a change takes is that of the file that it names, if the host says its bytes: records in one column each
 abbrev pub IsTextFor : {H : Type 0} → (H → List ℕ → Stands) → H → Edit → (text : List ℕ) → Type 0
-IsTextFor stands host (edits.Put file kind name) text = OfText stands host file.now (λ all. text ≡ all)
+IsTextFor stands host (edits.Put file kind loss name) text = OfText stands host file.now (λ all. text ≡ all)
 IsTextFor stands host (edits.Store records columns loss name) text =
     OfText stands host records.now (λ all. text ≡ text_in columns all)
 IsTextFor stands host _ text = ⊤
@@ -55,9 +56,9 @@ abbrev pub IsEdited : Edit → (text image : List ℕ) → Changed → Type 0
 IsEdited (edits.Repair loss unowned) text image made = IsRepaired image (frees unowned) (shortened loss) made
 IsEdited (edits.RepairSides loss unowned) text image made = IsRebuilt image (frees unowned) (shortened loss) made
 IsEdited (edits.Make size loss name) text image made = IsMade image (name_bytes name) size (shortened loss) made
-IsEdited (edits.Rename from to) text image made = IsRenamed image (name_bytes from) (name_bytes to) made
-IsEdited (edits.Delete name) text image made = IsDeleted image (name_bytes name) made
-IsEdited (edits.Put file kind name) text image made = IsPut image (name_bytes name) kind text made
+IsEdited (edits.Rename loss from to) text image made = IsRenamed image (name_bytes from) (name_bytes to) made
+IsEdited (edits.Delete loss name) text image made = IsDeleted image (name_bytes name) made
+IsEdited (edits.Put file kind loss name) text image made = IsPut image (name_bytes name) kind text made
 IsEdited (edits.Store records columns loss name) text image made =
     IsStored image (name_bytes name) text (shortened loss) made
 
@@ -66,8 +67,8 @@ abbrev pub IsUnedited : Edit → (text image : List ℕ) → Why → Type 0
 IsUnedited (edits.Repair loss unowned) text image why = IsRepairRefusal image why
 IsUnedited (edits.RepairSides loss unowned) text image why = IsRebuildRefusal image why
 IsUnedited (edits.Make size loss name) text image why = IsMakeRefusal image (name_bytes name) (shortened loss) why
-IsUnedited (edits.Rename from to) text image why = IsRenameRefusal image (name_bytes from) (name_bytes to) why
-IsUnedited (edits.Delete name) text image why = IsDeleteRefusal image (name_bytes name) why
-IsUnedited (edits.Put file kind name) text image why = IsPutRefusal image (name_bytes name) kind text why
+IsUnedited (edits.Rename loss from to) text image why = IsRenameRefusal image (name_bytes from) (name_bytes to) why
+IsUnedited (edits.Delete loss name) text image why = IsDeleteRefusal image (name_bytes name) why
+IsUnedited (edits.Put file kind loss name) text image why = IsPutRefusal image (name_bytes name) kind text why
 IsUnedited (edits.Store records columns loss name) text image why =
     IsStoreRefusal image (name_bytes name) text (shortened loss) why

@@ -1,8 +1,9 @@
 //! The image at a path, changed all or nothing.
-ghost use Rattle.std.specs.Prelude.{◌≡◌, IfErr, IfOk, take, vec_items};
+ghost use Rattle.std.specs.Prelude.{◌≡◌, ◌⊎◌, IfErr, IfOk, take, vec_items};
 ghost use Rattle.disk_changes.specs.Changes.{IsChanged, IsFit, IsRefused};
 ghost use Rattle.image_edits.specs.Changes.{IsChangeEnd, as_change, stop_refusal as refusal_of};
 ghost use Rattle.opened_files.specs.HostFiles.{IsUnbegun, OfWritten, RunEnds};
+ghost use Rattle.opened_files.specs.Losses.{IsAwayFault};
 ghost use Rattle.opened_files.specs.Rights.{MayChangeImage};
 ghost use Rattle.shop_log.specs.life.Tags.{SaysLogAway};
 
@@ -11,7 +12,7 @@ use disk_changes::{Change, Why};
 use disk_layout::Fault;
 use folder_changes::{Stop, change_image};
 use image_file::{EndedFile, HostFiles, Locks};
-use opened_files::{Loss, Refusal, opened_and_landed, read_synced, see_log_away, told};
+use opened_files::{Loss, Refusal, opened_and_landed, read_synced, see_untagged, told};
 use shop_log::{ImageFolder, LogNames};
 use std::fs::OpenFile;
 use std::io::Write;
@@ -51,11 +52,12 @@ where
     ensures read { OfWritten R.stands rt.now path.now
         (λ all. IfOk result (λ taken. vec_items taken.0 ≡ take 174849 all)) }
     ensures whole { IfOk result (λ taken. ¬ (SaysLogAway (vec_items taken.0))) }
-    ensures err { IfErr result IsUnbegun }
+    ensures err { IfErr result (λ refusal. IsUnbegun refusal
+        ⊎ IsAwayFault loss (OfWritten R.stands rt.now path.now (λ all. SaysLogAway (take 174849 all))) refusal) }
 {
     let mut file = opened_and_landed(rt, path, loss)?;
     let image = read_synced(rt.alloc(), &mut file)?;
-    see_log_away(image.as_slice(), Loss::Refused)?;
+    see_untagged(image.as_slice(), loss)?;
     Ok((image, file))
 }
 

@@ -74,6 +74,8 @@ pub enum Edit<'a> {
     },
     /// The first file of a name gets another name.
     Rename {
+        /// What is done if the image has lost its log.
+        loss: Loss,
         /// The name that the file has.
         from: Name,
         /// The name that the file gets.
@@ -81,6 +83,8 @@ pub enum Edit<'a> {
     },
     /// The first file of a name is deleted.
     Delete {
+        /// What is done if the image has lost its log.
+        loss: Loss,
         /// The name of the file.
         name: Name,
     },
@@ -90,6 +94,8 @@ pub enum Edit<'a> {
         file: &'a str,
         /// The type of the new file.
         kind: FileType,
+        /// What is done if the image has lost its log.
+        loss: Loss,
         /// The name of the new file.
         name: Name,
     },

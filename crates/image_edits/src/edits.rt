@@ -1,5 +1,5 @@
 //! A change of an image's files, as the words ask for it, over its bytes and over those at a path.
-ghost use Rattle.std.specs.Prelude.{◌≡◌, IfErr, IfOk, List, ℕ, take, vec_items};
+ghost use Rattle.std.specs.Prelude.{◌≡◌, ◌⊎◌, IfErr, IfOk, List, ℕ, take, vec_items};
 ghost use Rattle.command_faults.specs.declared.faults.CommandFault.TheVariants.{NoMemory};
 ghost use Rattle.disk_changes.specs.Changes.{IsChanged, IsFit, IsRefused};
 ghost use Rattle.disk_changes.specs.declared.changes.Changed.{Changed};
@@ -8,11 +8,12 @@ ghost use Rattle.image_edits.specs.Columns.{text_in};
 ghost use Rattle.image_edits.specs.Edits.{IsEdited, IsFitEdit, IsTextFor, IsUnedited, loss_of};
 ghost use Rattle.opened_files.specs.HostFiles.{IsUnbegun, IsUnread, OfImage, OfText};
 ghost use Rattle.image_edits.specs.EditRuns.{IsEditOver};
-ghost use Rattle.opened_files.specs.Losses.{IsNear};
+ghost use Rattle.opened_files.specs.Losses.{IsAwayFault, IsNear};
 ghost use Rattle.opened_files.specs.Rights.{MayChangeImage, MayReadImage, MayReadText};
 ghost use Rattle.image_edits.specs.EditRights.{MayEdit, MayReadSource};
 ghost use Rattle.image_edits.specs.declared.edit.Effect.TheVariants.{Printed, Written};
 ghost use Rattle.opened_files.specs.declared.refusals.Refusal.TheVariants as refusals;
+ghost use Rattle.shop_log.specs.life.Tags.{SaysLogAway};
 
 use crate::changing::{change_end, change_taken, image_to_change};
 use crate::edit::{Columns, Edit, Effect};
@@ -34,8 +35,8 @@ impl Edit<'_> {
     {
         match *self {
             Edit::Repair { loss, .. } | Edit::RepairSides { loss, .. } => loss,
-            Edit::Make { loss, .. } | Edit::Store { loss, .. } => loss,
-            Edit::Rename { .. } | Edit::Delete { .. } | Edit::Put { .. } => Loss::Refused,
+            Edit::Make { loss, .. } | Edit::Store { loss, .. } | Edit::Put { loss, .. } => loss,
+            Edit::Rename { loss, .. } | Edit::Delete { loss, .. } => loss,
         }
     }
 
@@ -65,11 +66,15 @@ impl Edit<'_> {
                 length,
                 cut: loss.shortened(),
             },
-            Edit::Rename { ref from, ref to } => Change::Rename {
+            Edit::Rename {
+                ref from,
+                ref to,
+                ..
+            } => Change::Rename {
                 from: from.as_bytes(),
                 to: to.as_bytes(),
             },
-            Edit::Delete { ref name } => Change::Delete {
+            Edit::Delete { ref name, .. } => Change::Delete {
                 name: name.as_bytes(),
             },
             Edit::Put { kind, ref name, .. } => Change::Put {
@@ -166,7 +171,8 @@ where
     ensures read { OfImage R.rights R.stands rt.now path.now
         (λ all. IfOk result (λ image. vec_items image ≡ take 174849 all)) }
     ensures near { IfOk result (λ image. IsNear loss (vec_items image)) }
-    ensures err { IfErr result IsUnbegun }
+    ensures err { IfErr result (λ refusal. IsUnbegun refusal ⊎ IsAwayFault loss
+        (OfImage R.rights R.stands rt.now path.now (λ all. SaysLogAway (take 174849 all))) refusal) }
 {
     let image = image_at(rt, path)?;
     see_log_away(image.as_slice(), loss)?;

@@ -44,12 +44,14 @@ module _ {F : Type 0} (choice : Choice) (image : List ℕ) (folder left : F) whe
   made-said (Err faults.File) (size, part) = (size, part-said part)
   made-said (Err _) none = none
 
-  pub extract-said : {W : Type 0} (contents : W → Option (List ℕ)) (old new : W) (end : JobEnd)
-      → IsExtractEnd unknown contents choice image folder left old new end
+  pub extract-said : {W : Type 0} (has_failed : F → Type 0) (contents : W → Option (List ℕ)) (old new : W) (end : JobEnd)
+      → IsExtractEnd unknown has_failed contents choice image folder left old new end
       → IsExtractSaid contents choice image old new end
-  extract-said contents old new end (inl (memory, same, quiet)) = inl (memory, refl, quiet)
-  extract-said contents old new end (inr (ended, cut, made, seen, told)) =
-      inr (ended, cut, made-said ended made, seen, told)
+  extract-said has_failed contents old new end (inl (memory, same, quiet)) = inl (memory, refl, quiet)
+  extract-said has_failed contents old new end (inr (ended, cut, made, seen, inl told)) =
+      inr (ended, cut, made-said ended made, seen, inl told)
+  extract-said has_failed contents old new end (inr (ended, cut, made, seen, inr (ok, failed, is, quiet))) =
+      inr (ended, cut, made-said ended made, seen, inr (ok, tt, is, quiet))
 
 -- what was made in a folder is there once it is kept
 pub kept-so : {F : Type 0} (files : F → Option (List NewFile)) (choice : Choice) (image : List ℕ) (folder left kept : F)

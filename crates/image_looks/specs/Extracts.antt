@@ -1,5 +1,5 @@
 -- What comes of taking all files out of an image. All of it is our own.
-use Rattle.std.specs.Prelude.{◌≡◌, ◌⊎◌, List, ℕ, IsOk, MatchResult, None, Ok, Err, Option, Result, Some, codes}
+use Rattle.std.specs.Prelude.{◌≡◌, ◌⊎◌, ⊤, List, ℕ, IsOk, MatchResult, None, Ok, Err, Option, Result, Some, codes}
 use Rattle.std.specs.Io.KnownBytes.{Appends}
 use Rattle.d64_image.specs.declared.place.Place.{Place}
 use Rattle.disk_layout.specs.declared.faults.Fault.{Fault}
@@ -33,20 +33,21 @@ IsExtractTold contents None old new end =
     ⊎ ((end ≡ Err (refusals.Fault faults.File)) × AppendsPart (contents old) (contents new) (codes "EXTRACTED\n"))
 
 -- The chosen files of the image were made in the folder, or not all for a fault. That was reported, with what is seen of files
--- that are cut short; or all were made, and the folder wasn't kept. Or there was no memory to see that, and nothing was done.
-abbrev pub IsExtractEnd : {F W : Type 0} → (F → Option (List NewFile)) → (W → Option (List ℕ)) → Choice → (image : List ℕ)
-    → F → F → W → W → JobEnd → Type 0
-IsExtractEnd files contents choice image folder left old new end =
+-- that are cut short; or all were made, and the folder failed as it was kept. Or there was no memory to see that, and nothing
+-- was done.
+abbrev pub IsExtractEnd : {F W : Type 0} → (F → Option (List NewFile)) → (has_failed : F → Type 0) → (W → Option (List ℕ))
+    → Choice → (image : List ℕ) → F → F → W → W → JobEnd → Type 0
+IsExtractEnd files has_failed contents choice image folder left old new end =
     ((end ≡ Err (refusals.Fault faults.NoMemory)) × (left ≡ folder) × (new ≡ old))
     ⊎ ((ended : Result (Option Fault) CommandFault) × (cut : Option Place)
     × MatchResult ended (IsExtracted files choice image folder left) (IsExtractFault files choice image folder left)
     × IsSeen image cut × (IsExtractTold contents (refusal_of ended cut) old new end
-    ⊎ (IsOk ended × (end ≡ Err (refusals.Fault faults.File)) × (new ≡ old))))
+    ⊎ (IsOk ended × has_failed left × (end ≡ Err (refusals.Fault faults.File)) × (new ≡ old))))
 
 -- the same, if nothing is known of the folder
 abbrev pub IsExtractSaid : {W : Type 0} → (W → Option (List ℕ)) → Choice → (image : List ℕ) → W → W → JobEnd → Type 0
 IsExtractSaid contents choice image old new end =
-    IsExtractEnd {F = Unit} (λ _. None) contents choice image tt tt old new end
+    IsExtractEnd {F = Unit} (λ _. None) (λ _. ⊤) contents choice image tt tt old new end
 
 -- a run that fills a folder ended so, and its job with it; a folder that was there is refused
 abbrev pub IsFolderEnd : JobEnd → JobEnd → Type 0

@@ -19,7 +19,9 @@ use Rattle.shop_commands.specs.Shops.{IsShowFault, IsShown}
 use Rattle.shop_log.specs.life.Tags.{SaysLogAway}
 use Rattle.command_faults.specs.declared.faults.CommandFault.{CommandFault}
 use Rattle.opened_files.specs.Ends.{JobEnd, IsPrintEnd, IsQuietPrint}
+use Rattle.opened_files.specs.Losses.{IsAwayEnd, IsNear}
 use Rattle.opened_files.specs.Names.{name_bytes}
+use Rattle.opened_files.specs.declared.losses.Loss.{Loss}
 use Rattle.image_looks.specs.declared.kinds.Look.{Look}
 use Rattle.image_looks.specs.declared.kinds.Look.TheVariants as looks
 use Rattle.opened_files.specs.declared.refusals.Refusal.TheVariants as refusals
@@ -62,17 +64,17 @@ module _ {W : Type 0} (contents : W → Option (List ℕ)) where
   IsChecked image old new found = (length image ≡ 174848) × IsVerdict (sectors_in image) found
       × Appends (contents old) (contents new) (verdict_text found)
 
-  -- what it holds of a shop was printed, unless it says that its log has the rest: then nothing was
-  abbrev pub IsShowEnd : (image : List ℕ) → W → W → JobEnd → Type 0
-  IsShowEnd image old new end = (SaysLogAway image × (end ≡ Err refusals.LogAway) × (new ≡ old))
-      ⊎ ((¬ (SaysLogAway image)) × IsQuietPrint (IsShown contents image) (IsShowFault image) old new end)
+  -- what it holds of a shop was printed, unless its log has the rest and that loss isn't accepted
+  abbrev pub IsShowEnd : Loss → (image : List ℕ) → W → W → JobEnd → Type 0
+  IsShowEnd loss image old new end = IsAwayEnd loss (SaysLogAway image) old new end
+      ⊎ (IsNear loss image × IsQuietPrint (IsShown contents image) (IsShowFault image) old new end)
 
   -- a look at an image ended so
   abbrev pub IsLook : Look → (image : List ℕ) → W → W → JobEnd → Type 0
   IsLook (looks.List form) image old new end = IsQuietPrint (IsListed contents form image) (IsListFault image) old new end
   IsLook looks.Check image old new end = IsPrintEnd (IsChecked image) (IsCheckFault image) old new end
   IsLook looks.Faults image old new end = IsPrintEnd (AreListed contents image) (IsDescribeFault image) old new end
-  IsLook looks.Show image old new end = IsShowEnd image old new end
+  IsLook (looks.Show loss) image old new end = IsShowEnd loss image old new end
   IsLook looks.Map image old new end = IsPrintEnd (IsMapPrinted contents image) (IsPictureFault image) old new end
   IsLook looks.Picture image old new end = IsPrintEnd (IsPicturePrinted contents image) (IsPictureFault image) old new end
   IsLook looks.Poster image old new end = IsPrintEnd (IsPosterPrinted contents image) (IsPictureFault image) old new end

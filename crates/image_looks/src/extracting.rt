@@ -63,7 +63,7 @@ fn keep_made<N: KeptFolder>(
     ensures same { N.files folder.new ≡ N.files folder.old }
     ensures unmade { IsErr ended.now → folder.new ≡ folder.old }
     ensures kept { OnOk result (IsOk ended.now → N.IsKept folder.new) }
-    ensures err { IfErr result (λ fault. (fault ≡ faults.File) × IsOk ended.now) }
+    ensures err { IfErr result (λ fault. (fault ≡ faults.File) × IsOk ended.now × N.HasFailed folder.new) }
 {
     match ended {
         Ok(_) => match folder.keep() {
@@ -76,7 +76,7 @@ fn keep_made<N: KeptFolder>(
 
 /// Makes the chosen files of an image in a folder, as `extract_image` does, keeps it, and prints `EXTRACTED` if all are whole.
 /// Otherwise nothing is printed. `Keep` has the first fault of a file or of the directory, or why the files aren't made. `Short`: a
-/// file of a sound disk is cut short. `File` if the folder can't be kept, or the output failed; `NoMemory`.
+/// file of a sound disk is cut short. `File` if the folder failed as it was kept, or the output failed; `NoMemory`.
 pub fn extract_run<N: KeptFolder, W: Write>(
     alloc: Global,
     choice: Choice,
@@ -84,7 +84,7 @@ pub fn extract_run<N: KeptFolder, W: Write>(
     folder: &mut N,
     out: &mut W,
 ) -> Result<Option<Fault>, Refusal>
-    ensures run { IsExtractEnd N.files W.contents choice image.now folder.old folder.new out.old out.new result }
+    ensures run { IsExtractEnd N.files N.HasFailed W.contents choice image.now folder.old folder.new out.old out.new result }
     ensures kept { OnOk result (N.IsKept folder.new) }
 {
     let cut = cut_in(alloc, image)?;

@@ -3,7 +3,7 @@
 use d64_image::Place;
 use disk_reports::NameForm;
 use keeper_commands::{ByteForm, Candidates, RecordForm};
-use opened_files::Name;
+use opened_files::{Loss, Name};
 
 /// What is printed of one image, which isn't written.
 #[derive(Drop)]
@@ -14,8 +14,9 @@ pub enum Look {
     Check,
     /// All faults that hold, that one first, each with the files that it concerns.
     Faults,
-    /// What it holds of a shop: how far new cards may go, the cards, and the last two requests of each till.
-    Show,
+    /// What it holds of a shop: how far new cards may go, the cards, and the last two requests of each till. `Loss` says
+    /// what is done if its log has the rest and isn't there.
+    Show(Loss),
     /// Which sector is whose, and what a check reports: a line for each track, for a terminal.
     Map,
     /// The same as an HTML page with a drawing of the disk.

@@ -48,10 +48,15 @@ fn taken_end(ended: Result<Option<Place>, CommandFault>) -> Result<Option<Fault>
 }
 
 /// Prints what an image holds of a shop.
-fn print_shop<W: Write>(alloc: Global, image: &[u8], out: &mut W) -> Result<Option<Fault>, Refusal>
-    ensures { IsShowEnd W.contents image.now out.old out.new result }
+fn print_shop<W: Write>(
+    alloc: Global,
+    image: &[u8],
+    loss: Loss,
+    out: &mut W,
+) -> Result<Option<Fault>, Refusal>
+    ensures { IsShowEnd W.contents loss image.now out.old out.new result }
 {
-    see_log_away(image, Loss::Refused)?;
+    see_log_away(image, loss)?;
     run_end(show_image(alloc, image, out))
 }
 
@@ -78,7 +83,8 @@ fn take_records<W: Write>(
 ///
 /// `ImageSize`, `NoMemory`, and what the command of this look finds wrong with the image: nothing was printed then, unless
 /// the records or bytes of a damaged file are. `File` if the output failed, which may then have a part. `Short` if the file
-/// that was printed is cut short. `LogAway` if a shop is to be shown whose log has the rest: nothing was printed.
+/// that was printed is cut short. `LogAway` if a shop is to be shown whose log has the rest, and that loss isn't accepted:
+/// nothing was printed.
 pub fn look<W: Write>(
     alloc: Global,
     what: &Look,
@@ -91,7 +97,7 @@ pub fn look<W: Write>(
         Look::List(form) => run_end(list_image(alloc, image, form, out)),
         Look::Check => job_end(check_image(alloc, image, out)),
         Look::Faults => job_end(faults_image(alloc, image, out)),
-        Look::Show => print_shop(alloc, image, out),
+        Look::Show(loss) => print_shop(alloc, image, loss, out),
         Look::Map => job_end(map_image(alloc, image, out)),
         Look::Picture => job_end(picture_image(alloc, image, out)),
         Look::Poster => job_end(poster_image(alloc, image, out)),

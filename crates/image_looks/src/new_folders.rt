@@ -13,15 +13,19 @@ use std::io;
 
 /// A folder that is new, and that is kept when it is whole.
 pub trait KeptFolder: NewFolder {
-    ghost use Rattle.std.specs.Prelude.{◌≡◌, OnOk, ⊤};
+    ghost use Rattle.std.specs.Prelude.{◌≡◌, OnErr, OnOk, ⊤};
 
     // it has its name, and that and its files stay if power fails
     ghost IsKept: { Self → Type 0 } = { λ _. ⊤ };
 
+    // its name or a sync was refused
+    ghost HasFailed: { Self → Type 0 } = { λ _. ⊤ };
+
     /// Keeps the folder: its files are synced, and it gets its name. At an error it may not be kept.
     fn keep(&mut self) -> io::Result<()>
         ensures same { Self.files self.new ≡ Self.files self.old }
-        ensures kept { OnOk result (IsKept self.new) };
+        ensures kept { OnOk result (IsKept self.new) }
+        ensures cause { OnErr result (HasFailed self.new) };
 }
 
 /// The path of the file of this name in a folder.

@@ -89,7 +89,7 @@ pub renaming-met : (found : Option (Text × List Row)) (rows : List Row) (image 
     → IsRenamingJob rows image r → MatchResult r (IsJob found) (IsNoJob [] found) × IfOk r IsFit
 renaming-met found rows image r is by-image (inl (from, to, same, old, new, fit)) =
     let P : Result Job JobFault → Type 0 = λ j. MatchResult j (IsJob found) (IsNoJob [] found) × IfOk j IsFit in
-    subst P (sym same) (record { rows = rows; is = is; holds = (by-image, (old, new), refl) }, fit)
+    subst P (sym same) (record { rows = rows; is = is; holds = (by-image, (old, new, refl), refl) }, fit)
 renaming-met found rows image r is by-image (inr (same, missing)) =
     let P : Result Job JobFault → Type 0 = λ j. MatchResult j (IsJob found) (IsNoJob [] found) × IfOk j IsFit in
     subst P (sym same) ((refl, inr (inr (inr (inr (inl (record { rows = rows; is = is; holds = missing })))))), tt)
@@ -114,7 +114,7 @@ pub putting-met : (found : Option (Text × List Row)) (rows : List Row) (image :
     → IsPuttingJob rows image r → MatchResult r (IsJob found) (IsNoJob [] found) × IfOk r IsFit
 putting-met found rows image r is by-image (inl (name, file, kind, same, at, new, by-file, by-type)) =
     let P : Result Job JobFault → Type 0 = λ j. MatchResult j (IsJob found) (IsNoJob [] found) × IfOk j IsFit in
-    subst P (sym same) (record { rows = rows; is = is; holds = (by-image, (at, by-file, by-type), refl) }, new)
+    subst P (sym same) (record { rows = rows; is = is; holds = (by-image, (at, by-file, by-type, refl), refl) }, new)
 putting-met found rows image r is by-image (inr (inl (same, missing))) =
     let P : Result Job JobFault → Type 0 = λ j. MatchResult j (IsJob found) (IsNoJob [] found) × IfOk j IsFit in
     subst P (sym same) ((refl, inr (inr (inr (inr (inr (inr (record { rows = rows; is = is; holds = missing }))))))), tt)

@@ -14,6 +14,7 @@ use Rattle.ledger_cli.specs.Numbers.{tills_in}
 use Rattle.ledger_jobs.specs.Jobs.{IsFit}
 use Rattle.image_edits.specs.declared.edit.Edit.TheVariants as edits
 use Rattle.ledger_jobs.specs.declared.jobs.Job.{Job}
+use Rattle.opened_files.specs.declared.losses.Loss.{Loss}
 use Rattle.ledger_jobs.specs.declared.jobs.Job.TheVariants as jobs
 use Rattle.ledger_cli.specs.declared.faults.JobFault.{JobFault}
 use Rattle.ledger_cli.specs.declared.faults.JobFault.TheVariants as faults
@@ -114,16 +115,16 @@ repair-fit rows image false = tt
 pub play-met : (found : Option (Text × List Row)) (rows : List Row) (image script : Bor Text) (synced : Bool)
     → is_given (codes "sync") rows ≡ synced → found ≡ Some (codes "play", rows) → image.now ≡ value (codes "IMAGE") rows
     → script.now ≡ value (codes "SCRIPT") rows
-    → IsJob found (if synced then jobs.PlayLogged image script else jobs.Play image script)
+    → IsJob found (if synced then jobs.PlayLogged image script (loss_in rows) else jobs.Play image script (loss_in rows))
 play-met found rows image script true sync is by-image by-script =
-    record { rows = rows; is = is; holds = (by-image, by-script, sync) }
+    record { rows = rows; is = is; holds = (by-image, by-script, refl, sync) }
 play-met found rows image script false sync is by-image by-script =
-    record { rows = rows; is = is; holds = (by-image, by-script, sync) }
+    record { rows = rows; is = is; holds = (by-image, by-script, refl, sync) }
 
-pub play-fit : (image script : Bor Text) (synced : Bool)
-    → IsFit (if synced then jobs.PlayLogged image script else jobs.Play image script)
-play-fit image script true = tt
-play-fit image script false = tt
+pub play-fit : (image script : Bor Text) (loss : Loss) (synced : Bool)
+    → IsFit (if synced then jobs.PlayLogged image script loss else jobs.Play image script loss)
+play-fit image script loss true = tt
+play-fit image script loss false = tt
 
 pub copy-met : (found : Option (Text × List Row)) (rows : List Row) (image copy : Bor Text) (logged : Bool)
     → is_given (codes "log") rows ≡ logged → found ≡ Some (codes "copy", rows) → image.now ≡ value (codes "IMAGE") rows

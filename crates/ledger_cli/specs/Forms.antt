@@ -85,7 +85,7 @@ choice_in rows = record { scanned = is_given (codes "scan") rows; deleted = is_g
 abbrev pub name_form_in : List Row → NameForm
 name_form_in rows = name_form (set_in rows)
 
--- what is done if a disk has lost a part of a file: the job is refused, but with --accept-loss it goes on
+-- what is done if a disk has lost a part of a file, or an image its log: the job is refused, but with --accept-loss it goes on
 abbrev pub loss_in : List Row → Loss
 loss_in rows = if is_given (codes "accept-loss") rows then losses.Accepted else losses.Refused
 

@@ -39,9 +39,9 @@ abbrev pub word_of_edit : Edit → Text
 word_of_edit (edits.Repair loss unowned) = codes "repair"
 word_of_edit (edits.RepairSides loss unowned) = codes "repair"
 word_of_edit (edits.Make length loss name) = codes "make"
-word_of_edit (edits.Rename from to) = codes "rename"
-word_of_edit (edits.Delete name) = codes "delete"
-word_of_edit (edits.Put file kind name) = codes "put"
+word_of_edit (edits.Rename loss from to) = codes "rename"
+word_of_edit (edits.Delete loss name) = codes "delete"
+word_of_edit (edits.Put file kind loss name) = codes "put"
 word_of_edit (edits.Store records columns loss name) = codes "store"
 
 -- the values and the flags ask for this change
@@ -52,11 +52,11 @@ IsEditIn (edits.RepairSides loss unowned) rows = (loss ≡ loss_in rows) × (uno
     × (is_given (codes "sides") rows ≡ true)
 IsEditIn (edits.Make length loss name) rows = IsNameOf (value (codes "NAME") rows) (name_bytes name)
     × (length_in rows ≡ Some length) × (loss ≡ loss_in rows)
-IsEditIn (edits.Rename from to) rows = IsNameOf (value (codes "OLD") rows) (name_bytes from)
-    × IsNameOf (value (codes "NEW") rows) (name_bytes to)
-IsEditIn (edits.Delete name) rows = IsNameOf (value (codes "NAME") rows) (name_bytes name)
-IsEditIn (edits.Put file kind name) rows = IsNameOf (value (codes "NAME") rows) (name_bytes name)
-    × (file.now ≡ value (codes "FILE") rows) × (type_in rows ≡ Some kind)
+IsEditIn (edits.Rename loss from to) rows = IsNameOf (value (codes "OLD") rows) (name_bytes from)
+    × IsNameOf (value (codes "NEW") rows) (name_bytes to) × (loss ≡ loss_in rows)
+IsEditIn (edits.Delete loss name) rows = IsNameOf (value (codes "NAME") rows) (name_bytes name) × (loss ≡ loss_in rows)
+IsEditIn (edits.Put file kind loss name) rows = IsNameOf (value (codes "NAME") rows) (name_bytes name)
+    × (file.now ≡ value (codes "FILE") rows) × (type_in rows ≡ Some kind) × (loss ≡ loss_in rows)
 IsEditIn (edits.Store records columns loss name) rows = IsNameOf (value (codes "NAME") rows) (name_bytes name)
     × (records.now ≡ value (codes "RECORDS") rows) × AreColumns rows columns × (loss ≡ loss_in rows)
 
@@ -86,12 +86,12 @@ IsJob found (jobs.Compare before after) = Has found (codes "picture") (λ rows. 
 IsJob found (jobs.Trim image) = Has found (codes "trim") (λ rows. image.now ≡ value (codes "IMAGE") rows)
 IsJob found (jobs.Several what images) = Has found (word_of what)
     (λ rows. AreImages rows (vec_items images) × IsAskedBy what rows)
-IsJob found (jobs.Play image script) = Has found (codes "play")
+IsJob found (jobs.Play image script loss) = Has found (codes "play")
     (λ rows. (image.now ≡ value (codes "IMAGE") rows) × (script.now ≡ value (codes "SCRIPT") rows)
-    × (is_given (codes "sync") rows ≡ false))
-IsJob found (jobs.PlayLogged image script) = Has found (codes "play")
+    × (loss ≡ loss_in rows) × (is_given (codes "sync") rows ≡ false))
+IsJob found (jobs.PlayLogged image script loss) = Has found (codes "play")
     (λ rows. (image.now ≡ value (codes "IMAGE") rows) × (script.now ≡ value (codes "SCRIPT") rows)
-    × (is_given (codes "sync") rows ≡ true))
+    × (loss ≡ loss_in rows) × (is_given (codes "sync") rows ≡ true))
 IsJob found (jobs.Dry script) = Has found (codes "dry") (λ rows. script.now ≡ value (codes "SCRIPT") rows)
 IsJob found (jobs.Serve image loss) = Has found (codes "serve")
     (λ rows. (image.now ≡ value (codes "IMAGE") rows) × (loss ≡ loss_in rows))

@@ -6,7 +6,7 @@ use Rattle.opened_files.specs.Names.{IsNameOf, name_bytes}
 use Rattle.image_looks.specs.declared.kinds.Look.{Look}
 use Rattle.image_looks.specs.declared.kinds.Look.TheVariants as looks
 use Rattle.ledger_cli.specs.Flags.{is_given}
-use Rattle.ledger_cli.specs.Forms.{IsRecordForm, byte_form_in, candidates_in, name_form_in}
+use Rattle.ledger_cli.specs.Forms.{IsRecordForm, byte_form_in, candidates_in, loss_in, name_form_in}
 use Rattle.ledger_cli.specs.Numbers.{place_in}
 
 -- the subcommand that prints this
@@ -14,7 +14,7 @@ abbrev pub word_of : Look → Text
 word_of (looks.List form) = codes "list"
 word_of looks.Check = codes "check"
 word_of looks.Faults = codes "check"
-word_of looks.Show = codes "show"
+word_of (looks.Show loss) = codes "show"
 word_of looks.Map = codes "map"
 word_of looks.Picture = codes "picture"
 word_of looks.Poster = codes "picture"
@@ -32,6 +32,7 @@ abbrev pub IsAskedBy : Look → List Row → Type 0
 IsAskedBy (looks.List form) rows = form ≡ name_form_in rows
 IsAskedBy looks.Check rows = (is_given (codes "json") rows ≡ false) × (is_given (codes "all") rows ≡ false)
 IsAskedBy looks.Faults rows = (is_given (codes "json") rows ≡ false) × (is_given (codes "all") rows ≡ true)
+IsAskedBy (looks.Show loss) rows = loss ≡ loss_in rows
 IsAskedBy looks.Picture rows = is_given (codes "svg") rows ≡ false
 IsAskedBy looks.Poster rows = is_given (codes "svg") rows ≡ true
 IsAskedBy (looks.Sector place) rows = place_in rows ≡ Some place

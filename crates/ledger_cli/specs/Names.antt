@@ -86,7 +86,7 @@ HasNoRenaming rows = HasNoName (codes "OLD") rows ⊎ HasNoNewName (codes "NEW")
 -- the job that gives a file another name; or one of the two is none
 abbrev pub IsRenamingJob : List Row → Bor Text → Result Job JobFault → Type 0
 IsRenamingJob rows image result =
-    ((from : Name) × (to : Name) × (result ≡ Ok (jobs.Change image (effect_in rows) (edits.Rename from to)))
+    ((from : Name) × (to : Name) × (result ≡ Ok (jobs.Change image (effect_in rows) (edits.Rename (loss_in rows) from to)))
     × IsNameOf (value (codes "OLD") rows) (name_bytes from) × IsNameOf (value (codes "NEW") rows) (name_bytes to)
     × IsNewName (name_bytes to))
     ⊎ ((result ≡ Err faults.Name) × HasNoRenaming rows)
@@ -111,7 +111,7 @@ type_in rows = type_named (value (codes "TYPE") rows)
 -- the job that puts a file on the disk; or there is no name for it, or no type
 abbrev pub IsPuttingJob : List Row → Bor Text → Result Job JobFault → Type 0
 IsPuttingJob rows image result =
-    ((name : Name) × (file : Bor Text) × (kind : FileType) × (result ≡ Ok (jobs.Change image (effect_in rows) (edits.Put file kind name)))
+    ((name : Name) × (file : Bor Text) × (kind : FileType) × (result ≡ Ok (jobs.Change image (effect_in rows) (edits.Put file kind (loss_in rows) name)))
     × IsNameOf (value (codes "NAME") rows) (name_bytes name) × IsNewName (name_bytes name)
     × (file.now ≡ value (codes "FILE") rows) × (type_in rows ≡ Some kind))
     ⊎ (((result ≡ Err faults.Name) × HasNoNewName (codes "NAME") rows)

@@ -83,9 +83,9 @@ module _ {F : Type 0} (position : F → Option ℕ) (bytes contents : F → Opti
       IsNewMade told (name_bytes name) id file after old new end
   IsJobRun told (jobs.Look path what) image script file after old new end = (after ≡ file) × IsLook told what image old new end
   IsJobRun told (jobs.Dry path) image script file after old new end = (after ≡ file) × IsDryRun told script old new end
-  IsJobRun told (jobs.Play path text) image script file after old new end =
+  IsJobRun told (jobs.Play path text loss) image script file after old new end =
       IsPlayed told image script file after old new end
-  IsJobRun told (jobs.PlayLogged path text) image script file after old new end =
+  IsJobRun told (jobs.PlayLogged path text loss) image script file after old new end =
       IsPlayed told image script file after old new end
   IsJobRun told (jobs.Serve path loss) image script file after old new end =
       (after ≡ file) × (new ≡ old) × (end ≡ Err (refusals.Fault faults.File))

@@ -19,7 +19,7 @@ use ledger_jobs::Job;
 use line_text::CharacterSet;
 use opened_files::Loss;
 
-/// What is done if the disk has lost a part of a file.
+/// What is done if the disk has lost a part of a file, or the image its log.
 pub(crate) fn loss<'a>(matches: &ArgMatches<'a>) -> Loss
     ensures { result ≡ loss_in (rows_of (found_of matches.now)) }
 {

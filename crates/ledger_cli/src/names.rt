@@ -157,10 +157,13 @@ pub(crate) fn storing<'a>(matches: &ArgMatches<'a>, image: &'a str) -> Result<Jo
 /// The job that deletes a file of an image.
 pub(crate) fn deleting<'a>(matches: &ArgMatches<'a>, image: &'a str) -> Result<Job<'a>, JobFault>
     ensures { let rows = rows_of (found_of matches.now) in
-        IsNamedJob rows (λ name. jobs.Change image.entry (effect_in rows) (edits.Delete name)) result }
+        IsNamedJob rows (λ name. jobs.Change image.entry (effect_in rows) (edits.Delete (loss_in rows) name)) result }
 {
     match Name::read(value_of(matches, "NAME")) {
-        Some(name) => Ok(edited(matches, image, Edit::Delete { name })),
+        Some(name) => {
+            let loss = loss(matches);
+            Ok(edited(matches, image, Edit::Delete { loss, name }))
+        }
         None => Err(JobFault::Name),
     }
 }
@@ -173,7 +176,10 @@ pub(crate) fn renaming<'a>(matches: &ArgMatches<'a>, image: &'a str) -> Result<J
         return Err(JobFault::Name);
     };
     match new_name(value_of(matches, "NEW")) {
-        Some(to) => Ok(edited(matches, image, Edit::Rename { from, to })),
+        Some(to) => {
+            let loss = loss(matches);
+            Ok(edited(matches, image, Edit::Rename { loss, from, to }))
+        }
         None => Err(JobFault::Name),
     }
 }
@@ -203,7 +209,15 @@ pub(crate) fn putting<'a>(matches: &ArgMatches<'a>, image: &'a str) -> Result<Jo
         return Err(JobFault::Name);
     };
     match type_named(value_of(matches, "TYPE")) {
-        Some(kind) => Ok(edited(matches, image, Edit::Put { file, kind, name })),
+        Some(kind) => {
+            let edit = Edit::Put {
+                file,
+                kind,
+                loss: loss(matches),
+                name,
+            };
+            Ok(edited(matches, image, edit))
+        }
         None => Err(JobFault::Kind),
     }
 }

@@ -3,6 +3,7 @@ ghost use Rattle.std.specs.Prelude.{◌≡◌};
 ghost use Rattle.clap.specs.Words.{found_of, rows_of};
 ghost use Rattle.ledger_cli.specs.Shops.{copy_job, format_job, play_job};
 
+use crate::forms::loss;
 use crate::values::is_given;
 use clap::ArgMatches;
 use ledger_jobs::Job;
@@ -22,10 +23,19 @@ pub(crate) fn formatting<'a>(matches: &ArgMatches<'a>, image: &'a str, tills: u8
 pub(crate) fn playing<'a>(matches: &ArgMatches<'a>, image: &'a str, script: &'a str) -> Job<'a>
     ensures { result ≡ play_job (rows_of (found_of matches.now)) image.entry script.entry }
 {
+    let loss = loss(matches);
     if is_given(matches, "sync") {
-        Job::PlayLogged { image, script }
+        Job::PlayLogged {
+            image,
+            script,
+            loss,
+        }
     } else {
-        Job::Play { image, script }
+        Job::Play {
+            image,
+            script,
+            loss,
+        }
     }
 }
 

@@ -40,7 +40,7 @@ fn job_of<'a>(alloc: Global, matches: &ArgMatches<'a>) -> Result<Job<'a>, JobFau
         "list" => viewing(alloc, found, Look::List(name_form(found))),
         "check" => checking(alloc, found),
         "show" => Ok(Job::Look {
-            what: Look::Show,
+            what: Look::Show(loss(found)),
             image,
         }),
         "play" => Ok(playing(found, image, script)),

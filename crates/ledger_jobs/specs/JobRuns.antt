@@ -13,6 +13,7 @@ use Rattle.ledger_jobs.specs.declared.jobs.Job.TheVariants as jobs
 use Rattle.opened_files.specs.declared.refusals.Refusal.TheVariants as refusals
 use Rattle.image_looks.specs.LookRuns.{IsLookedAt, IsComparedOver, IsExtractedFrom, AreDrawnOnSheet, AreDescribed, AreOverviewed}
 use Rattle.image_edits.specs.EditRuns.{IsSalvagedFrom, IsCopiedFrom, IsEditOver}
+use Rattle.shop_jobs.specs.ServiceEnds.{IsNearEnd}
 use Rattle.shop_jobs.specs.ShopRuns.{IsDryOver, IsPlayedOverFile, IsPlayedOverLog}
 
 -- the paths of several words
@@ -32,11 +33,12 @@ module _ {H W : Type 0} (rights : Rights H) (stands : H → List ℕ → Stands)
   IsJobOver (jobs.Format image tills) old new end = IsMakingEnd contents (codes "FORMATTED\n") old new end
   IsJobOver (jobs.FormatNew image tills) old new end = IsMakingEnd contents (codes "FORMATTED\n") old new end
   IsJobOver (jobs.New image name id) old new end = IsMakingEnd contents (codes "FORMATTED\n") old new end
-  IsJobOver (jobs.Play image script) old new end = IsPlayedOverFile rights stands contents host image.now script.now old new end
+  IsJobOver (jobs.Play image script loss) old new end = IsNearEnd stands host image.now loss old new end
+      × IsPlayedOverFile rights stands contents host image.now script.now old new end
   IsJobOver (jobs.Sheet images) old new end = AreDrawnOnSheet rights stands contents host (paths_of images) old new end
   IsJobOver (jobs.Describe images) old new end = AreDescribed rights stands contents host (paths_of images) old new end
   IsJobOver (jobs.Several what images) old new end = AreOverviewed rights stands contents host what (paths_of images) old new end
-  IsJobOver (jobs.PlayLogged image script) old new end = IsPlayedOverLog rights stands contents host image.now script.now old new end
+  IsJobOver (jobs.PlayLogged image script loss) old new end = IsPlayedOverLog rights stands contents host image.now script.now old new end
   IsJobOver (jobs.Serve image loss) old new end = IsLoggedService contents (IsShopAt stands host image.now) old new end
   -- `do_trim` does that job
   IsJobOver (jobs.Trim image) old new end = (new ≡ old) × (end ≡ Err (refusals.Fault faults.File))

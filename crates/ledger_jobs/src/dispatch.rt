@@ -19,13 +19,16 @@ use std::io::{Read, Write};
 /// locked before anything of it is read or changed; if it is written, this program has it alone. If a log stands beside
 /// it, the log is landed before the image is written; otherwise it is read in the place of the image.
 ///
-/// It touches the files that the job's words name, and the log beside its image, in the ways for which it asks rights.
+/// It touches the files that the job's words name, and the log beside its image, in the ways for which `MayDo` asks rights.
+/// What `format --new`, `new`, `copy` and `extract` make at a path is made under its `NAME.new` (up to `.new9`) first; `MayDo`
+/// asks for those names too.
 ///
-/// `InUse` if another program has the image; `Log` if its log gives no image; `LogAway` if that has the rest of a shop, and
-/// isn't there; `File` if a file couldn't be opened or
-/// read. The other faults are those of `look`, `dry_run`, `format_image`, `new_run`, `play_durably`, `play_logged`,
-/// `serve_logged_guarded`, `copy_run`, `salvage_run`, `change_image`, `show_change`, `extract_run` and `comparing_run`. `Trim` ends with `File`, since it reports on standard error: call `do_trim`. What is
-/// wrong with one of several images is printed; only a failed output ends the job before the last of them.
+/// `InUse` if another program has the image; `Log` if its log gives no image; `LogAway` if that has the rest of a shop and
+/// isn't there, and the job shows, plays, serves or changes an image and accepts no loss; `File` if a file couldn't be opened
+/// or read. The other faults are those of `look`, `dry_run`, `format_image`, `new_run`, `play_durably`, `play_logged`,
+/// `serve_logged_guarded`, `copy_run`, `salvage_run`, `change_image`, `show_change`, `extract_run` and `comparing_run`.
+/// `Trim` ends with `File`, since it reports on standard error: call `do_trim`. What is wrong with one of several images is
+/// printed; only a failed output ends the job before the last of them.
 pub fn do_job<F, R, W>(rt: &R, job: &Job<'_>, out: &mut W) -> Result<Option<Fault>, Refusal>
 where
     F: EndedFile + Read + Locks + OpenFile + Drop,
@@ -45,8 +48,16 @@ where
         } => do_new(rt, image, name, id, out),
         Job::Look { ref what, image } => do_look(rt, what, image, out),
         Job::Dry { script } => do_dry(rt, script, out),
-        Job::Play { image, script } => do_playing(rt, image, script, out),
-        Job::PlayLogged { image, script } => do_logged_playing(rt, image, script, out),
+        Job::Play {
+            image,
+            script,
+            loss,
+        } => do_playing(rt, image, script, loss, out),
+        Job::PlayLogged {
+            image,
+            script,
+            loss,
+        } => do_logged_playing(rt, image, script, loss, out),
         Job::Serve { image, loss } => do_logged_serving(rt, image, loss, out),
         Job::Copy { image, copy } => do_copying(rt, image, copy, out),
         Job::Salvage { log, copy } => do_salvaging(rt, log, copy, out),

@@ -44,6 +44,8 @@ pub enum Job<'a> {
         image: &'a str,
         /// The script's path.
         script: &'a str,
+        /// What is done if the image has lost its log.
+        loss: Loss,
     },
     /// The messages of a script, played as `Play` does; but each goes to a log beside the image, whose image is copied
     /// into IMAGE at the end.
@@ -52,6 +54,8 @@ pub enum Job<'a> {
         image: &'a str,
         /// The script's path.
         script: &'a str,
+        /// What is done if the image has lost its log.
+        loss: Loss,
     },
     /// The replies to the messages of a script, from no cards on and without a disk.
     Dry {

@@ -22,7 +22,7 @@ fn name_of<'j>(job: &'j Job<'_>) -> Option<&'j Name> {
         } => Some(name),
         Job::Change {
             edit: Edit::Store { name, .. }
-            | Edit::Delete { name }
+            | Edit::Delete { name, .. }
             | Edit::Rename { from: name, .. },
             ..
         } => Some(name),

@@ -46,10 +46,9 @@ IsUntaken refusal = IsUnread refusal ⊎ (refusal ≡ refusals.TwoNames)
 abbrev pub IsUnopened : Refusal → Type 0
 IsUnopened refusal = IsUntaken refusal ⊎ (refusal ≡ refusals.Fault faults.ImageSize)
 
--- or what it held couldn't be synced, or a log beside it gives no image, or its log isn't there
+-- or what it held couldn't be synced, or a log beside it gives no image
 abbrev pub IsUnbegun : Refusal → Type 0
-IsUnbegun refusal = IsUntaken refusal
-    ⊎ ((refusal ≡ refusals.Fault faults.Device) ⊎ ((refusal ≡ refusals.Log) ⊎ (refusal ≡ refusals.LogAway)))
+IsUnbegun refusal = IsUntaken refusal ⊎ ((refusal ≡ refusals.Fault faults.Device) ⊎ (refusal ≡ refusals.Log))
 
 -- the run over the bytes of a job's files ended so, and the job with it; or the run wasn't begun, and nothing was printed
 abbrev pub RunEnds : {W : Type 0} → W → W → JobEnd → Type 0 → Type 0

@@ -1,5 +1,5 @@
 -- What becomes of a disk that has lost a part of a file. All of it is our own.
-use Rattle.std.specs.Prelude.{◌≡◌, ℕ, List, ◌⊎◌, Option, Some, None, Result, Err, length}
+use Rattle.std.specs.Prelude.{◌≡◌, ℕ, IfErr, IsErr, List, ◌⊎◌, Option, Some, None, Result, Err, length}
 use Rattle.damaged_files.specs.declared.sides.planning.Shortened.{Shortened}
 use Rattle.damaged_files.specs.declared.sides.planning.Shortened.TheVariants as cuts
 use Rattle.opened_files.specs.declared.losses.Loss.{Loss}
@@ -9,6 +9,7 @@ use Rattle.command_faults.specs.declared.faults.CommandFault.{CommandFault}
 use Rattle.damaged_files.specs.cut.Told.{IsCutShort, IsToldOfImage}
 use Rattle.command_faults.specs.declared.faults.CommandFault.TheVariants as faults
 use Rattle.opened_files.specs.Ends.{JobEnd, as_run}
+use Rattle.opened_files.specs.HostFiles.{RunEnds}
 use Rattle.opened_files.specs.declared.refusals.Refusal.{Refusal}
 use Rattle.opened_files.specs.declared.refusals.Refusal.TheVariants as refusals
 use Rattle.shop_log.specs.life.Tags.{SaysLogAway}
@@ -27,6 +28,23 @@ IsLossFault image refusal = ((p : Place) × (refusal ≡ refusals.Short p) × Is
 -- no log has the rest of the image, or what it has may be lost
 abbrev pub IsNear : Loss → (image : List ℕ) → Type 0
 IsNear loss image = (loss ≡ losses.Accepted) ⊎ (¬ (SaysLogAway image))
+
+-- a job is refused since the log of its image is away: the image says so, and that loss isn't accepted
+abbrev pub IsAwayFault : Loss → (Says : Type 0) → Refusal → Type 0
+IsAwayFault loss Says refusal = (refusal ≡ refusals.LogAway) × (loss ≡ losses.Refused) × Says
+
+-- the same of an image that has no tag any more if that loss is accepted
+abbrev pub IsTagFault : Loss → (image : List ℕ) → Refusal → Type 0
+IsTagFault loss image refusal = IsAwayFault loss (SaysLogAway image) refusal
+    ⊎ ((refusal ≡ refusals.Fault faults.Device) × (loss ≡ losses.Accepted) × SaysLogAway image)
+
+-- a job ended so for that, and nothing was printed
+abbrev pub IsAwayEnd : {W : Type 0} → Loss → (Says : Type 0) → W → W → JobEnd → Type 0
+IsAwayEnd loss Says old new end = (new ≡ old) × IsErr end × IfErr end (IsAwayFault loss Says)
+
+-- a run ended so, and the job with it; or the run wasn't begun, perhaps for that
+abbrev pub NearRunEnds : {W : Type 0} → Loss → (Says : Type 0) → W → W → JobEnd → Type 0 → Type 0
+NearRunEnds loss Says old new end run = RunEnds old new end run ⊎ IsAwayEnd loss Says old new end
 
 -- no file of the image is cut short, or what is lost may be lost
 abbrev pub MayBeLost : (image : List ℕ) → Loss → Type 0

@@ -20,7 +20,7 @@ pub use image_logs::{
     see_no_lost_log, see_size,
 };
 pub use locks::{read_owned, read_shared, read_synced};
-pub use losses::{Loss, cut_in, loss_refusal, see_log_away};
+pub use losses::{Loss, cut_in, loss_refusal, see_log_away, see_untagged};
 pub use names::Name;
 pub use outcomes::{job_end, made_end, over_end, run_end, told};
 pub use readings::{image_at, image_of_file};

@@ -1,8 +1,7 @@
 //! What a disk has lost of its files.
 ghost use Rattle.std.specs.Prelude.{◌≡◌, IfErr, IfOk, OnOk};
-ghost use Rattle.opened_files.specs.Losses.{shortened as shortened_of, IsJudged, IsNear, IsSeen};
+ghost use Rattle.opened_files.specs.Losses.{shortened as shortened_of, IsAwayFault, IsJudged, IsNear, IsSeen, IsTagFault};
 ghost use Rattle.command_faults.specs.declared.faults.CommandFault.TheVariants.{NoMemory};
-ghost use Rattle.opened_files.specs.declared.losses.Loss.TheVariants as losses;
 ghost use Rattle.opened_files.specs.declared.refusals.Refusal.TheVariants as refusals;
 ghost use Rattle.shop_log.specs.life.Tags.{SaysLogAway};
 
@@ -38,12 +37,27 @@ impl Loss {
 /// Refuses an image that says that its log has the rest of it, unless that loss is accepted: `LogAway`.
 pub fn see_log_away(image: &[u8], loss: Loss) -> Result<(), Refusal>
     ensures ok { OnOk result (IsNear loss image.now) }
-    ensures err { IfErr result (λ refusal. (refusal ≡ refusals.LogAway) × (loss ≡ losses.Refused) × SaysLogAway image.now) }
+    ensures err { IfErr result (IsAwayFault loss (SaysLogAway image.now)) }
 {
     if loss == Loss::Refused && is_log_away(image) {
         return Err(Refusal::LogAway);
     }
     Ok(())
+}
+
+/// Refuses an image that says that its log has the rest of it, and that is going to be changed: `LogAway`. `Device` if that
+/// loss is accepted: the tag was to be taken off.
+pub fn see_untagged(image: &[u8], loss: Loss) -> Result<(), Refusal>
+    ensures ok { OnOk result (¬ (SaysLogAway image.now)) }
+    ensures err { IfErr result (IsTagFault loss image.now) }
+{
+    if !is_log_away(image) {
+        return Ok(());
+    }
+    match loss {
+        Loss::Refused => Err(Refusal::LogAway),
+        Loss::Accepted => Err(Refusal::Fault(CommandFault::Device)),
+    }
 }
 
 /// The place where the first file of an image is cut short. None also if the image has another size, or its disk isn't

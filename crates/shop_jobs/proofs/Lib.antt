@@ -3,6 +3,7 @@ pub mod Durables
 pub mod FormatTold
 pub mod Logged
 pub mod LoggedTold
+pub mod NearEnds
 pub mod PlayTold
 pub mod PlayedOver
 pub mod ReplyTold

@@ -1,10 +1,14 @@
 -- How a job ends that plays a script or serves. Our own.
-use Rattle.std.specs.Prelude.{◌≡◌, ◌≢◌, ◌⊎◌, IfErr, IfOk, ℕ, None}
+use Rattle.std.specs.Prelude.{◌≡◌, ◌≢◌, ◌⊎◌, IfErr, IfOk, IsErr, List, ℕ, None, take}
 use Rattle.command_faults.specs.declared.faults.CommandFault.TheVariants as faults
 use Rattle.opened_files.specs.Ends.{JobEnd}
 use Rattle.opened_files.specs.declared.refusals.Refusal.{Refusal}
 use Rattle.opened_files.specs.declared.refusals.Refusal.TheVariants as refusals
-use Rattle.opened_files.specs.HostFiles.{IsUnopened}
+use Rattle.opened_files.specs.HostFiles.{IsUnopened, OfWritten}
+use Rattle.opened_files.specs.declared.losses.Loss.{Loss}
+use Rattle.opened_files.specs.declared.losses.Loss.TheVariants as losses
+use Rattle.image_file.specs.paths.Standing.{Stands}
+use Rattle.shop_log.specs.life.Tags.{SaysLogAway}
 
 -- a job that isn't done printed nothing, unless the output or the file failed
 abbrev pub IsQuietEnd : {W : Type 0} → W → W → JobEnd → Type 0
@@ -17,6 +21,17 @@ abbrev pub IsLoggedEnd : {W : Type 0} → W → W → JobEnd → Type 0
 IsLoggedEnd old new end = IfOk end (λ found. found ≡ None)
     × IfErr end (λ refusal. refusal ≢ refusals.Fault faults.NoMemory → refusal ≢ refusals.Fault faults.File
     → refusal ≢ refusals.Fault faults.Device → new ≡ old)
+
+-- why a job over the image at a path isn't done: if that its log is away, the image says so, and that loss isn't accepted
+abbrev pub IsNearFault : {H : Type 0} → (H → List ℕ → Stands) → H → List ℕ → Loss → Refusal → Type 0
+IsNearFault stands host path loss refusal = refusal ≡ refusals.LogAway
+    → (loss ≡ losses.Refused) × OfWritten stands host path (λ all. SaysLogAway (take 174849 all))
+
+-- A job over the image at a path ended so. An image whose log is away is refused unless that loss is accepted, and nothing is
+-- printed; no other image is refused for that.
+abbrev pub IsNearEnd : {H W : Type 0} → (H → List ℕ → Stands) → H → List ℕ → Loss → W → W → JobEnd → Type 0
+IsNearEnd stands host path loss old new end = IfErr end (IsNearFault stands host path loss) × (loss ≡ losses.Refused
+    → OfWritten stands host path (λ all. SaysLogAway (take 174849 all) → IsErr end × (new ≡ old)))
 
 -- a job was refused for this line of its script, once its files were open
 abbrev pub IsRefusedAt : ℕ → Refusal → Type 0

@@ -1,4 +1,5 @@
 //! Playing the script at a path, on an image or without a disk.
+ghost use Rattle.shop_jobs.specs.ServiceEnds.{IsNearEnd};
 ghost use Rattle.shop_jobs.specs.ShopRuns.{IsDryOver, IsPlayedOverFile};
 ghost use Rattle.opened_files.specs.Rights.{MayChangeImage, MayReadText};
 
@@ -8,16 +9,18 @@ use crate::shop_runs::dry_run;
 use disk_layout::Fault;
 use image_file::{EndedFile, HostFiles, Locks};
 use opened_files::{
-    Loss, Refusal, job_end, opened_and_landed, read_owned, script_to_play, see_log_away,
+    Loss, Refusal, job_end, opened_and_landed, read_owned, script_to_play, see_untagged,
 };
 use std::fs::OpenFile;
 use std::io::Write;
 
-/// Plays the script at a path on the image at another, over its file.
+/// Plays the script at a path on the image at another, over its file. `LogAway` if the image's log has the rest, isn't there,
+/// and no loss is accepted.
 pub fn do_playing<F, R, W>(
     rt: &R,
     path: &str,
     script: &str,
+    loss: Loss,
     out: &mut W,
 ) -> Result<Option<Fault>, Refusal>
 where
@@ -26,11 +29,12 @@ where
     W: Write,
     requires image { MayChangeImage R.rights rt.now path.now }
     requires script { MayReadText R.rights rt.now script.now }
-    ensures { IsPlayedOverFile R.rights R.stands W.contents rt.now path.now script.now out.old out.new result }
+    ensures near { IsNearEnd R.stands rt.now path.now loss out.old out.new result }
+    ensures played { IsPlayedOverFile R.rights R.stands W.contents rt.now path.now script.now out.old out.new result }
 {
-    let mut file = opened_and_landed(rt, path, Loss::Refused)?;
+    let mut file = opened_and_landed(rt, path, loss)?;
     let image = read_owned(rt.alloc(), &mut file)?;
-    see_log_away(image.as_slice(), Loss::Refused)?;
+    see_untagged(image.as_slice(), loss)?;
     let script = script_to_play(rt, script)?;
     let mut printer = ReplyLines::new(out);
     let (_, ended) = play_durably(

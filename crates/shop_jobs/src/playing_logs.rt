@@ -110,6 +110,7 @@ fn play_beside<F, R, W>(
     path: &str,
     mut image: F,
     script: &[u8],
+    loss: Loss,
     out: &mut W,
 ) -> Result<Option<Fault>, Refusal>
 where
@@ -129,7 +130,7 @@ where
     let alloc = rt.alloc();
     let name = name_of(rt, path, &image)?;
     let names = told(LogNames::of(rt, alloc, path))?;
-    let (bytes, log) = begun_beside(rt, path, &names, &mut image, Loss::Accepted)?;
+    let (bytes, log) = begun_beside(rt, path, &names, &mut image, loss, Loss::Accepted)?;
     let ended = play_printed(alloc, bytes.as_slice(), script, log, &name, out);
     cleared_end(rt, path, &image, &names, ended)
 }
@@ -137,11 +138,13 @@ where
 /// Plays the script at a path on the shop of the image at another, over a log beside the image. Other programs may read
 /// the image meanwhile, by its log, and none may write it. At the end the log is landed: the image is the shop then. If
 /// the path doesn't lead to the image's file then, or the file has another length, it ends with `Device`, and the log
-/// stays. A script with a line that begins with `@` is refused before anything is written.
+/// stays. A script with a line that begins with `@` is refused before anything is written; so is an image whose log is
+/// away, unless that loss is accepted (`LogAway`).
 pub fn do_logged_playing<F, R, W>(
     rt: &R,
     path: &str,
     script: &str,
+    loss: Loss,
     out: &mut W,
 ) -> Result<Option<Fault>, Refusal>
 where
@@ -154,5 +157,5 @@ where
 {
     let image = opened_alone(rt, path)?;
     let script = plain_script(rt, script, &image)?;
-    play_beside(rt, path, image, script.as_slice(), out)
+    play_beside(rt, path, image, script.as_slice(), loss, out)
 }

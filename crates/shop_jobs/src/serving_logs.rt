@@ -25,8 +25,8 @@ use host_session::ReplySink;
 use image_file::{EndedFile, HostFiles, Locks, Stays, opened_to_change};
 use line_server::BatchSource;
 use opened_files::{
-    Loss, Refusal, accept_loss, log_refusal, loss_refusal, opened_alone, read_shared, see_log_away,
-    see_no_lost_log, see_size, told,
+    Loss, Refusal, accept_loss, log_refusal, loss_refusal, opened_alone, read_shared,
+    see_no_lost_log, see_size, see_untagged, told,
 };
 use shop_log::{
     ImageFolder, LiveLog, LogFault, LogFile, LogFolder, LogNames, LogRoom, SystemLog, TouchedDisk,
@@ -207,12 +207,13 @@ pub(crate) fn cleared_end<F: OpenFile, R: HostFiles<File = F>, T>(
 }
 
 /// The bytes of the image in this file, which nobody else writes and of which nothing was read. `LogAway` if a log that
-/// isn't there has the rest. `Device` if they aren't those of this shop, which was landed: then the image's path leads to
-/// another file.
+/// isn't there has the rest, and that loss isn't accepted. `Device` if they aren't those of this shop, which was landed: then
+/// the image's path leads to another file.
 fn landed_bytes<F: Locks>(
     alloc: Global,
     image: &mut F,
     shop: &[[u8; 256]],
+    away: Loss,
 ) -> Result<Vec<u8>, Refusal>
     requires shared { F.IsShared image.old }
     ensures shop { IfOk result (λ bytes. vec_items bytes ≡ flat_map (λ sector. sector) shop.now) }
@@ -220,7 +221,7 @@ fn landed_bytes<F: Locks>(
     ensures whole { IfOk result (λ bytes. ¬ (SaysLogAway (vec_items bytes))) }
 {
     let bytes = told(read_shared(alloc, image))?;
-    see_log_away(bytes.as_slice(), Loss::Refused)?;
+    see_untagged(bytes.as_slice(), away)?;
     if bytes.as_slice() != shop.as_flattened() {
         return Err(Refusal::Fault(CommandFault::Device));
     }
@@ -229,13 +230,14 @@ fn landed_bytes<F: Locks>(
 
 /// The bytes of the shop of the image at a path, and a log beside it that was begun with them. A log that stood there was
 /// landed: the image has these bytes then. Other programs may read it from then on. `Short` if a file of the image is cut
-/// short and no loss is accepted.
+/// short and `cut` accepts no loss, `LogAway` if its log is away and `away` accepts none.
 pub(crate) fn begun_beside<'a, F, R>(
     rt: &'a R,
     path: &str,
     names: &'a LogNames,
     image: &mut F,
-    loss: Loss,
+    away: Loss,
+    cut: Loss,
 ) -> Result<(Vec<u8>, LiveLog<SystemLog<'a, R>, ImageFolder<'a, R>>), Refusal>
 where
     F: EndedFile + Locks + OpenFile + Drop,
@@ -248,11 +250,12 @@ where
     ensures { IfOk result (λ begun. OfWritten R.stands rt.now path.now (λ all. vec_items begun.0 ≡ take 174849 all)) }
 {
     let alloc = rt.alloc();
+    accept_loss(rt, names, path, away)?;
     let mut folder = folder_of(rt, names, path)?;
     let shop = shop_of(rt, &mut folder)?;
     let room = told(LogRoom::new(alloc).map_err(From::from))?;
-    let bytes = landed_bytes(alloc, image, shop.as_slice())?;
-    if let Some(refusal) = loss_refusal(alloc, bytes.as_slice(), loss) {
+    let bytes = landed_bytes(alloc, image, shop.as_slice(), away)?;
+    if let Some(refusal) = loss_refusal(alloc, bytes.as_slice(), cut) {
         return Err(refusal);
     }
     let log = match LiveLog::begin(alloc, folder, room, shop) {
@@ -289,8 +292,7 @@ where
     let mut input = told(BufReader::new(alloc, rt.reader()))?;
     let name = name_of(rt, path, &image)?;
     let names = told(LogNames::of(rt, alloc, path))?;
-    accept_loss(rt, &names, path, loss)?;
-    let (bytes, log) = begun_beside(rt, path, &names, &mut image, loss)?;
+    let (bytes, log) = begun_beside(rt, path, &names, &mut image, loss, loss)?;
     let ended = serve_printed(alloc, bytes.as_slice(), log, loss, &mut input, name, out);
     cleared_end(rt, path, &image, &names, ended)
 }

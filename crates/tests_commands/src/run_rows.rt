@@ -1,7 +1,7 @@
 //! Jobs run over bytes, as another program calls them, with outputs that note how they are called, or that fail.
 use crate::comparing::same_at;
 use crate::images::formatted;
-use ledger_cli::{DryFault, dry, job, run, run_over};
+use ledger_cli::{DryFault, Loss, dry, job, run, run_over};
 use std::io::{self, Cursor, ErrorKind, Write};
 use std::process::Abort;
 
@@ -210,6 +210,7 @@ fn a_file_that_fails_leaves_the_replies(rt: HostRuntime) {
     let job = ledger_cli::Job::Play {
         image: "a",
         script: "s",
+        loss: Loss::Refused,
     };
     let (status, _) = run_over(
         rt.alloc(),

@@ -1,27 +1,32 @@
 -- What is printed is of the bytes that the host says.
 use Rattle.std.proofs.Common.{◌∙◌, Err, List, ap, inl, subst, sym, ℕ}
-use Rattle.std.specs.Prelude.{vec_items}
+use Rattle.std.specs.Prelude.{take, vec_items}
 use Rattle.std.proofs.lemmas.Result.{err_from_is_err_and}
-use Rattle.image_edits.proofs.ChangedOver.{not-begun, told-weaker}
+use Rattle.image_edits.proofs.ChangedOver.{away-as, told-weaker}
 use Rattle.image_edits.specs.Edits.{IsTextFor, loss_of}
+use Rattle.opened_files.proofs.Near.{not-near}
+use Rattle.opened_files.specs.HostFiles.{OfImage}
 use Rattle.opened_files.specs.Losses.{IsNear}
+use Rattle.shop_log.specs.life.Tags.{SaysLogAway}
 use Rattle.opened_files.specs.declared.losses.Loss.{Loss}
 use Rattle.image_edits.proofs.edits.edit_shown.Goals as goal
 
 pub returns-in_err-image : goal.returns-in_err-image
 returns-in_err-image g c =
     let p = err_from_is_err_and c.from_residual.result c.from_residual.ensures.1 in
-    not-begun c.args.out.now c.from_residual.result _ _ (p.1 ∙ ap Err p.2) c.in_err-image.ensures.err
+    let Says = OfImage g.R.HostFiles.rights g.R.HostFiles.stands c.args.rt.now c.args.path.now (λ all. SaysLogAway (take 174849 all)) in
+    not-near c.args.out.now c.from_residual.result _ Says (loss_of c.args.edit.now) _ (p.1 ∙ ap Err p.2)
+    (away-as Says c.loss.result (loss_of c.args.edit.now) _ c.loss.ensures c.in_err-image.ensures.err)
 
 pub returns-in_err-text : goal.returns-in_err-text
 returns-in_err-text g c =
     let p = err_from_is_err_and c.from_residual-in_err-text.result c.from_residual-in_err-text.ensures.1 in
-    not-begun c.args.out.now c.from_residual-in_err-text.result _ _ (p.1 ∙ ap Err p.2) (inl (inl c.in_err-text.ensures.err))
+    not-near c.args.out.now c.from_residual-in_err-text.result _ _ _ _ (p.1 ∙ ap Err p.2) (inl (inl (inl c.in_err-text.ensures.err)))
 
 pub returns : goal.returns
 returns g c =
     let image = c.as_slice-2.result.now in
-    inl (
+    inl (inl (
       image,
       c.as_slice.result.now,
       (λ other alone all is. c.as_slice-2.ensures.value ∙ c.in_ok-image.ensures.read other alone all is),
@@ -38,4 +43,4 @@ returns g c =
           c.show_change.ensures.1,
         ),
       ),
-    )
+    ))

@@ -1,27 +1,32 @@
 -- The change is of the bytes that the host says.
 use Rattle.std.proofs.Common.{◌∙◌, Err, List, ap, inl, subst, sym, ℕ}
+use Rattle.std.specs.Prelude.{take}
 use Rattle.std.proofs.lemmas.Result.{err_from_is_err_and}
-use Rattle.image_edits.proofs.ChangedOver.{not-begun, run-weaker, told-weaker}
-use Rattle.image_edits.specs.Edits.{IsTextFor}
+use Rattle.image_edits.proofs.ChangedOver.{away-as, run-weaker, told-weaker}
+use Rattle.image_edits.specs.Edits.{IsTextFor, loss_of}
+use Rattle.opened_files.proofs.Near.{not-near}
+use Rattle.opened_files.specs.HostFiles.{OfWritten}
 use Rattle.shop_log.specs.life.Tags.{SaysLogAway}
 use Rattle.image_edits.proofs.edits.edit_written.Goals as goal
 
 pub returns-in_err-image : goal.returns-in_err-image
 returns-in_err-image g c =
     let p = err_from_is_err_and c.from_residual.result c.from_residual.ensures.1 in
-    not-begun c.args.out.now c.from_residual.result _ _ (p.1 ∙ ap Err p.2) c.in_err-image.ensures.err
+    let Says = OfWritten g.R.HostFiles.stands c.args.rt.now c.args.path.now (λ all. SaysLogAway (take 174849 all)) in
+    not-near c.args.out.now c.from_residual.result _ Says (loss_of c.args.edit.now) _ (p.1 ∙ ap Err p.2)
+    (away-as Says c.loss.result (loss_of c.args.edit.now) _ c.loss.ensures c.in_err-image.ensures.err)
 
 pub returns-in_err-text : goal.returns-in_err-text
 returns-in_err-text g c =
     let p = err_from_is_err_and c.from_residual-in_err-text.result c.from_residual-in_err-text.ensures.1 in
-    not-begun c.args.out.now c.from_residual-in_err-text.result _ _ (p.1 ∙ ap Err p.2) (inl (inl c.in_err-text.ensures.err))
+    not-near c.args.out.now c.from_residual-in_err-text.result _ _ _ _ (p.1 ∙ ap Err p.2) (inl (inl (inl c.in_err-text.ensures.err)))
 
 pub returns : goal.returns
 returns g c =
     let image = c.as_slice-2.result.now in
     let old = c.args.out.now in
     let new = c.change_taken.new.out in
-    run-weaker old new c.change_taken.result _ _
+    inl (run-weaker old new c.change_taken.result _ _
     (λ run. (
       image,
       c.as_slice.result.now,
@@ -35,4 +40,4 @@ returns g c =
         told-weaker g.W.Write.contents _ _ _ _ old new (c.change-what.ensures.made image)
             (c.change-what.ensures.refused image) run.0 run.2,
       ),
-    )) c.change_taken.ensures
+    )) c.change_taken.ensures)

@@ -35,7 +35,7 @@ returns-in-Err-clause-run g c = inr (
       (either _ _ c.extract_image-ended.result c.extract_image-ended.ensures.ok c.extract_image-ended.ensures.err)
       c.keep_made.ensures.same c.keep_made.ensures.unmade,
   c.in_ok-cut.ensures.ok,
-  inr (c.in-Err.ensures.err.1, rw (c.in-Err.ensures.err.0) refl, refl),
+  inr (c.in-Err.ensures.err.1, c.in-Err.ensures.err.2, rw (c.in-Err.ensures.err.0) refl, refl),
 )
 
 pub returns-in-Ok-clause-kept : goal.returns-in-Ok-clause-kept

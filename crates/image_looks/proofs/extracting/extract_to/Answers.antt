@@ -1,5 +1,5 @@
 -- The files that were made are those of the bytes that the host says.
-use Rattle.std.specs.Prelude.{vec_items}
+use Rattle.std.specs.Prelude.{vec_items, ⊤}
 use Rattle.image_looks.specs.Extracts.{IsExtractedTo}
 use Rattle.image_looks.proofs.ExtractSaid.{extract-said}
 use Rattle.opened_files.proofs.HostFiles.{over-image}
@@ -13,7 +13,7 @@ returns g c =
     c.folder_end.result)
     c.in_ok-image.ensures.read c.as_slice.ensures.value (
       c.extract_run-ended.result,
-      extract-said c.args.choice c.as_slice.result.now _ _ g.W.Write.contents c.args.out.now
+      extract-said c.args.choice c.as_slice.result.now _ _ (λ _. ⊤) g.W.Write.contents c.args.out.now
           c.extract_run-ended.new.out c.extract_run-ended.result c.extract_run-ended.ensures.run,
       c.folder_end.ensures,
     )

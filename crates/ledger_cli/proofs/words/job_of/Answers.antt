@@ -9,7 +9,7 @@ use Rattle.image_looks.specs.declared.kinds.Look.TheVariants as looks
 use Rattle.ledger_jobs.specs.Jobs.{IsFit}
 use Rattle.ledger_cli.specs.Jobs.{IsJob}
 use Rattle.ledger_cli.specs.Flags.{is_given}
-use Rattle.ledger_cli.specs.Forms.{byte_form_in, candidates_in, effect_in}
+use Rattle.ledger_cli.specs.Forms.{byte_form_in, candidates_in, effect_in, loss_in}
 use Rattle.ledger_cli.specs.Numbers.{spelled_place}
 use Rattle.ledger_cli.proofs.Pictures.{picturing-met}
 use Rattle.ledger_cli.proofs.Named.{making-met, named-met, new-met, putting-met, records-met, renaming-met}
@@ -62,7 +62,7 @@ returns-in-check c =
 pub returns-in-show : goal.returns-in-show
 returns-in-show c = record {
   job = met-has c.parsed_subcommand.result _ c.in-Some.name c.in-Some.found _ _ c.parsed_subcommand.ensures c.in-Some.is c.in-show.is
-      (c.value_of-image.ensures, tt, tt);
+      (c.value_of-image.ensures, tt, c.loss.ensures);
   fit = tt;
 }
 
@@ -77,7 +77,7 @@ returns-in-play c =
           (play-met found rows c.value_of-image.result c.value_of-script.result synced refl is c.value_of-image.ensures
           c.value_of-script.ensures);
       fit = subst IsFit (sym c.playing.ensures)
-          (play-fit c.value_of-image.result c.value_of-script.result synced);
+          (play-fit c.value_of-image.result c.value_of-script.result (loss_in rows) synced);
     }
 
 pub returns-in-dry : goal.returns-in-dry
@@ -90,7 +90,7 @@ returns-in-dry c = record {
 pub returns-in-serve : goal.returns-in-serve
 returns-in-serve c = record {
   job = met-has c.parsed_subcommand.result _ c.in-Some.name c.in-Some.found _ _ c.parsed_subcommand.ensures c.in-Some.is c.in-serve.is
-      (c.value_of-image.ensures, c.loss.ensures);
+      (c.value_of-image.ensures, c.loss-in-serve.ensures);
   fit = tt;
 }
 
@@ -175,8 +175,8 @@ pub returns-in-delete : goal.returns-in-delete
 returns-in-delete c =
     let rows = rows_of (found_of c.in-Some.found.now) in
     let is = met-is c.parsed_subcommand.result _ c.in-Some.name c.in-Some.found _ c.parsed_subcommand.ensures c.in-Some.is c.in-delete.is in
-    let met = named-met _ rows (λ name. jobs.Change c.value_of-image.result (effect_in rows) (edits.Delete name)) c.deleting.result
-    (λ name at. record { rows = rows; is = is; holds = (c.value_of-image.ensures, at, refl) }) (λ name. tt)
+    let met = named-met _ rows (λ name. jobs.Change c.value_of-image.result (effect_in rows) (edits.Delete (loss_in rows) name)) c.deleting.result
+    (λ name at. record { rows = rows; is = is; holds = (c.value_of-image.ensures, (at, refl), refl) }) (λ name. tt)
     (λ missing. inr (inr (inr (inl (record { rows = rows; is = is; holds = missing }))))) c.deleting.ensures in
     record { job = met.0; fit = met.1 }
 

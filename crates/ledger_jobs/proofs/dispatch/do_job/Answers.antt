@@ -21,6 +21,12 @@ returns-in-New g c =
     subst (λ (job : Job). IsJobOver g.R.HostFiles.rights g.R.HostFiles.stands g.W.Write.contents c.args.rt.now job
     c.args.out.now c.do_new.new.out c.do_new.result) (sym c.in-New.is) c.do_new.ensures
 
+pub returns-in-Play : goal.returns-in-Play
+returns-in-Play g c =
+    subst (λ (job : Job). IsJobOver g.R.HostFiles.rights g.R.HostFiles.stands g.W.Write.contents c.args.rt.now job
+    c.args.out.now c.do_playing.new.out c.do_playing.result) (sym c.in-Play.is)
+    (c.do_playing.ensures.near, c.do_playing.ensures.played)
+
 pub returns-in-PlayLogged : goal.returns-in-PlayLogged
 returns-in-PlayLogged g c =
     subst (λ (job : Job). IsJobOver g.R.HostFiles.rights g.R.HostFiles.stands g.W.Write.contents c.args.rt.now job

@@ -1,14 +1,54 @@
 -- What was printed, by how the play ended, is of the shop of the image that the host says.
-use Rattle.std.proofs.Common.{rules, ◌∙◌}
+use Rattle.std.proofs.Common.{Err, List, ap, inl, rules, subst, ℕ, ◌∙◌}
+use Rattle.std.proofs.lemmas.Result.{err_from_is_err_and}
 use Rattle.std.specs.Prelude.{◌≡◌, take, vec_items}
 use Rattle.opened_files.proofs.HostFiles.{of-file}
+use Rattle.opened_files.proofs.Near.{tag-fault}
+use Rattle.shop_jobs.proofs.NearEnds.{away-at, job-other, near-begun, near-fault, near-unbegun, says-of}
+use Rattle.shop_log.specs.life.Tags.{SaysLogAway}
 use Rattle.shop_jobs.proofs.PlayTold.{play-lines, play-plain, play-quiet, played-at, shop-at}
 use Rattle.shop_jobs.specs.Replies.{IsShopAt}
 use Rattle.shop_jobs.specs.Replies.{IsShopOf}
 use Rattle.shop_jobs.proofs.playing.do_playing.Goals as goal
 
-pub returns : goal.returns
-returns g c =
+pub returns-in_err-file-clause-near : goal.returns-in_err-file-clause-near
+returns-in_err-file-clause-near g c =
+    let p = err_from_is_err_and c.from_residual.result c.from_residual.ensures.1 in
+    near-unbegun g.R.HostFiles.stands c.args.rt.now c.args.path.now c.args.loss c.args.out.now _ _ (p.1 ∙ ap Err p.2)
+    (near-fault g.R.HostFiles.stands c.args.rt.now c.args.path.now c.args.loss _ (inl c.in_err-file.ensures.err))
+
+pub returns-in_err-image-clause-near : goal.returns-in_err-image-clause-near
+returns-in_err-image-clause-near g c =
+    let p = err_from_is_err_and c.from_residual-in_err-image.result c.from_residual-in_err-image.ensures.1 in
+    near-unbegun g.R.HostFiles.stands c.args.rt.now c.args.path.now c.args.loss c.args.out.now _ _ (p.1 ∙ ap Err p.2)
+    (near-fault g.R.HostFiles.stands c.args.rt.now c.args.path.now c.args.loss _ (inl c.in_err-image.ensures.err))
+
+pub returns-in_err-script-clause-near : goal.returns-in_err-script-clause-near
+returns-in_err-script-clause-near g c =
+    let p = err_from_is_err_and c.from_residual-in_err-script.result c.from_residual-in_err-script.ensures.1 in
+    near-unbegun g.R.HostFiles.stands c.args.rt.now c.args.path.now c.args.loss c.args.out.now _ _ (p.1 ∙ ap Err p.2)
+    (near-fault g.R.HostFiles.stands c.args.rt.now c.args.path.now c.args.loss _ (inl (inl (inl c.in_err-script.ensures.err))))
+
+pub returns-in_err-see_untagged-clause-near : goal.returns-in_err-see_untagged-clause-near
+returns-in_err-see_untagged-clause-near g c =
+    let p = err_from_is_err_and c.from_residual-in_err-see_untagged.result c.from_residual-in_err-see_untagged.ensures.1 in
+    near-unbegun g.R.HostFiles.stands c.args.rt.now c.args.path.now c.args.loss c.args.out.now _ _ (p.1 ∙ ap Err p.2)
+    (away-at g.R.HostFiles.stands c.args.rt.now c.args.path.now _ c.args.loss _ c.in_ok-file.ensures.bytes
+    (tag-fault c.args.loss c.as_slice.result.now _ _
+    (λ says. says-of _ (vec_items c.in_ok-image.image) c.as_slice.result.now c.in_ok-image.ensures.read
+    c.as_slice.ensures.value says) c.in_err-see_untagged.ensures.err))
+
+pub returns-clause-near : goal.returns-clause-near
+returns-clause-near g c =
+    near-begun g.R.HostFiles.stands c.args.rt.now c.args.path.now c.args.loss c.args.out.now _ c.job_end.result
+    (vec_items c.in_ok-image.image)
+    (of-file g.R.HostFiles.stands c.args.rt.now c.args.path.now _ (λ all. vec_items c.in_ok-image.image ≡ take 174849 all)
+    c.in_ok-file.ensures.bytes c.in_ok-image.ensures.read)
+    (subst (λ (bytes : List ℕ). ¬ (SaysLogAway bytes)) c.as_slice.ensures.value c.in_ok-see_untagged.ensures.ok)
+    (job-other _ c.job_end.result c.job_end.ensures)
+
+pub returns-clause-played : goal.returns-clause-played
+returns-clause-played g c =
     let before = c.new-printer.result in
     let behind = c.play_durably-ended.new.out in
     let told = g.W.Write.contents in

@@ -1,10 +1,8 @@
 -- The bytes that are passed on were looked at.
 use Rattle.std.proofs.Common.{List, subst, ℕ}
-use Rattle.opened_files.proofs.Near.{near-refused}
 use Rattle.shop_log.specs.life.Tags.{SaysLogAway}
 use Rattle.shop_jobs.proofs.serving_logs.landed_bytes.Goals as goal
 
 pub returns-clause-whole : goal.returns-clause-whole
 returns-clause-whole g c =
-    subst (λ (bytes : List ℕ). ¬ (SaysLogAway bytes)) c.as_slice.ensures.value
-    (near-refused c.as_slice.result.now c.in_ok-see_log_away.ensures.ok)
+    subst (λ (bytes : List ℕ). ¬ (SaysLogAway bytes)) c.as_slice.ensures.value c.in_ok-see_untagged.ensures.ok
