@@ -58,12 +58,10 @@ fn said_of_size(bytes: u64) -> Option<&'static str> {
 
 /// Whether this word is among the bytes.
 fn has_word(bytes: &[u8], word: &[u8; 4]) -> bool {
-    let mut rest = bytes;
-    while rest.len() >= word.len() {
-        if rest.starts_with(word) {
+    for at in 0..bytes.len() {
+        if bytes[at..].starts_with(word) {
             return true;
         }
-        rest = &rest[1..];
     }
     false
 }

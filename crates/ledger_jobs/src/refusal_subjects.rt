@@ -2,6 +2,7 @@
 
 use crate::jobs::Job;
 use command_faults::CommandFault;
+use d64_image::Place;
 use disk_layout::{Fault, map_place};
 use opened_files::Refusal;
 
@@ -28,6 +29,24 @@ pub(crate) enum About {
 const JUDGED: &str =
     "\"man ledger-1541\" or docs/KEEPERS.md says what the word means, and what to do";
 
+/// What is said of a sector that two have: the BAM's own, or another one.
+fn said_of_shared(place: Place) -> &'static str {
+    if place == map_place() {
+        "an entry names the BAM's sector, as in drawn directories; `extract` takes the files out"
+    } else {
+        "two of the files, the directory and the BAM have it; `extract` takes out what can be read"
+    }
+}
+
+/// What is said of a wrong side sector, or of the directory sector of an entry that names none.
+fn said_of_side(place: Place) -> &'static str {
+    if place.track() == map_place().track() {
+        "a relative file's entry there names no side sector; `records` prints what it has"
+    } else {
+        "a side sector disagrees with its file; `repair --sides` builds those anew"
+    }
+}
+
 /// What a fault of a disk means, and what to do.
 pub(crate) fn said_of_fault(fault: Fault) -> &'static str {
     match fault {
@@ -36,21 +55,11 @@ pub(crate) fn said_of_fault(fault: Fault) -> &'static str {
         }
         Fault::Loop(_) =>
             "a chain of sectors comes back to it; `extract` takes out what can be read",
-        Fault::OwnedTwice(place) if place == map_place() => {
-            "an entry names the BAM's sector, as in drawn directories; `extract` takes the files out"
-        }
-        Fault::OwnedTwice(_) => {
-            "two of the files, the directory and the BAM have it; `extract` takes out what can be read"
-        }
+        Fault::OwnedTwice(place) => said_of_shared(place),
         Fault::BadType(_) =>
             "an entry there has a type that doesn't exist; `bytes` takes files out",
         Fault::Unclosed(_) => "a file there was never closed; `extract` takes it out",
-        Fault::BadSide(place) if place.track() == map_place().track() => {
-            "a relative file's entry there names no side sector; `records` prints what it has"
-        }
-        Fault::BadSide(_) => {
-            "a side sector disagrees with its file; `repair --sides` builds those anew"
-        }
+        Fault::BadSide(place) => said_of_side(place),
         Fault::BadLength(_) => {
             "a relative file there has a record length of 0 or 255; `bytes` takes files out"
         }
