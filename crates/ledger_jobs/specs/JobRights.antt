@@ -4,7 +4,7 @@ use Rattle.ledger_jobs.specs.declared.jobs.Job.{Job}
 use Rattle.ledger_jobs.specs.declared.jobs.Job.TheVariants as jobs
 use Rattle.image_file.specs.paths.Rights.{MayRead, Rights}
 use Rattle.image_edits.specs.EditRights.{MayEdit, MayReadSource}
-use Rattle.opened_files.specs.Rights.{MayReadImage, MayReadText, MayLook, MayChangeImage, MayMakeImage, MayOverwrite, MayFillAt}
+use Rattle.opened_files.specs.Rights.{MayReadImage, MayReadText, MayChangeImage, MayMakeImage, MayOverwrite, MayFillAt}
 
 -- the file that a job reads or writes first; none of a job over several images
 abbrev pub first_file : Job → Option (List ℕ)
