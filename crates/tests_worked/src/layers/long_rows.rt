@@ -14,8 +14,8 @@ static CHANGED: [Changed; 6] = [
     ("number", (14, 4), 2, (14, 4)),
     ("list of the second", (14, 4), 7, (14, 4)),
     ("list of the first", (17, 1), 7, (17, 1)),
-    // it leads to 14/7, which isn't a side sector: a fault of 14/7, and of the lists, which don't name it
-    ("link", (17, 1), 1, (14, 7)),
+    // it links to 14/7, and lists 14/4 as the next
+    ("link", (17, 1), 1, (17, 1)),
     ("pointer to the last block", (14, 4), 17, (14, 4)),
     ("pointer to the block before", (17, 1), 255, (17, 1)),
 ];
