@@ -41,7 +41,7 @@ module _ (host : Snapshot) where
   edit Printed path = read path
 
   source : (what : Edit) → MayReadSource snapshot_rights host what
-  source (edits.Put file kind name) = λ other. refl
+  source (edits.Put file kind loss name) = λ other. refl
   source (edits.Store records columns loss name) = λ other. refl
   source what = tt
 
@@ -51,8 +51,8 @@ module _ (host : Snapshot) where
   may-do (jobs.New image name id) = make image.now
   may-do (jobs.Look image what) = read image.now
   may-do (jobs.Change image effect what) = (edit effect image.now, source what)
-  may-do (jobs.Play image script) = (change image.now, λ other. refl)
-  may-do (jobs.PlayLogged image script) = (change image.now, λ other. refl)
+  may-do (jobs.Play image script loss) = (change image.now, λ other. refl)
+  may-do (jobs.PlayLogged image script loss) = (change image.now, λ other. refl)
   may-do (jobs.Dry script) = λ other. refl
   may-do (jobs.Serve image loss) = change image.now
   may-do (jobs.Copy image copy) = (read image.now, make copy.now)
