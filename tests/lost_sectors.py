@@ -141,7 +141,7 @@ class Tried:
         self.refused(image, place, "serve", self.path, given=b"1,1,S,15,7\n")
         self.put(image)
         status, out, told = self.run("--explain", "check", self.path)
-        want(told == f"SHORT {place[0]}/{place[1]}\n", f"check: {status} {out} {told}")
+        want(told.endswith(f"SHORT {place[0]}/{place[1]}\n"), f"check: {status} {out} {told}")
         for words in (["repair"], ["make"], ["store"]):
             more = {"make": ["NEW", "--length", 20], "store": ["ADDRESS", lines]}.get(words[0], [])
             self.goes_on(image, *words, self.path, *more)
