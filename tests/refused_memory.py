@@ -51,6 +51,7 @@ LINES = DAY.replace(b"@3 ", b"")
 # records of a file NOTES: one that is there, one behind three blocks of growth, and one as a spreadsheet writes it
 RECORDS = b"1,\"MILK\\0d\"\n30,\"\\ffx\"\n2,EGGS\r\n"
 MOST = 5000
+TAG = b"LOG AWAY"
 
 
 class Trial:
@@ -73,8 +74,10 @@ class Trial:
         return (done.returncode, done.stdout, done.stderr), self.mark.exists()
 
     def files(self):
-        """The images."""
-        return {path.name: path.read_bytes() for path in self.folder.glob("*.d64")}
+        """The images, each without the tag that says that its log stands beside it, if it does."""
+        found = {path.name: path.read_bytes() for path in self.folder.glob("*.d64")}
+        logged = {path.name.removesuffix("-log") for path in self.folder.glob("*.d64-log")}
+        return {name: held.replace(TAG, bytes(8)) if name in logged else held for name, held in found.items()}
 
     def each(self, words, begin, wanted, status=0, given=b""):
         """Runs the words with each request refused in turn, each time on the files that `begin` makes; with all memory they
