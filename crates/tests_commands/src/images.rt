@@ -23,15 +23,3 @@ pub(crate) fn formatted(rt: &(impl AllocGlobal + Abort)) -> Vec<u8> {
     assert!(rt; status == 0, "formatted");
     file.into_inner()
 }
-
-/// So many bytes of this value.
-pub(crate) fn filled(rt: &(impl AllocGlobal + Abort), byte: u8, size: usize) -> Vec<u8> {
-    vec![in rt.alloc(); byte; size].expect(rt, "there is memory")
-}
-
-/// Writes the bytes over the image from there on.
-pub(crate) fn put(image: &mut Vec<u8>, at: usize, bytes: &[u8]) {
-    for (place, byte) in image.as_mut_slice().iter_mut().skip(at).zip(bytes) {
-        *place = *byte;
-    }
-}

@@ -3,8 +3,8 @@ ghost use Rattle.std.specs.Prelude.{◌≡◌, ◌↔◌, ◌≤◌, ◌-◌, �
 ghost use Rattle.d64_image.specs.Images.{sector};
 ghost use Rattle.d64_image.specs.Memory.{disk_image};
 ghost use Rattle.d64_image.specs.declared.place.Place.{Place};
-ghost use Rattle.disk_layout.specs.Layout.{File, IsFile, count_field};
-ghost use Rattle.damaged_files.specs.cut.Cut.{IsCutIn, IsShort};
+ghost use Rattle.disk_layout.specs.Layout.{File, IsFile};
+ghost use Rattle.damaged_files.specs.cut.Cut.{CountsMore, IsCutIn, IsShort, IsVlir};
 
 use crate::cut::listed::is_listed_past;
 use crate::cut::names::{is_plain, never_grows};
@@ -49,11 +49,20 @@ fn tail_of(disk: &mut MemDisk, slot: &Slot) -> Option<Tail>
     })
 }
 
-/// Whether an entry's block count, as stored, is greater than this number.
-fn counts_more(slot: &Slot, blocks: usize) -> bool
-    ensures { IsTrue result ↔ (blocks < count_field slot.now) }
+/// Whether the entry is that of a GEOS document with several records, whose chain is an index alone.
+fn is_vlir(slot: &Slot) -> bool
+    ensures { IsTrue result ↔ IsVlir slot.now }
 {
-    blocks < EntryView::new(&slot.bytes).block_count() as usize
+    let entry = EntryView::new(&slot.bytes);
+    entry.first_side().is_some() && entry.record_length() == 1
+}
+
+/// Whether the entry of a SEQ, PRG or USR counts more blocks of a chain than this number.
+fn counts_more(slot: &Slot, blocks: usize) -> bool
+    ensures { IsTrue result ↔ CountsMore slot.now blocks }
+{
+    let entry = EntryView::new(&slot.bytes);
+    is_plain(slot) && !is_vlir(slot) && blocks < entry.block_count() as usize
 }
 
 /// Whether the sector holds nothing but zeros.
@@ -87,10 +96,9 @@ pub(crate) fn cut_of(disk: &mut MemDisk, slot: &Slot, facts: Facts) -> Option<Pl
         (IsCutIn (disk_image disk.old) (IsTrue facts.strays) (IsTrue facts.shop) f) }
     ensures same { disk_image disk.new ≡ disk_image disk.old }
 {
-    let tail = tail_of(disk, slot)?;
-    if is_short(disk, slot, tail, facts) {
-        Some(tail.place)
-    } else {
-        None
-    }
+    let (place, cut) = match tail_of(disk, slot) {
+        Some(tail) => (tail.place, is_short(disk, slot, tail, facts)),
+        None => (slot.sector, facts.strays && counts_more(slot, 0)),
+    };
+    if cut { Some(place) } else { None }
 }

@@ -42,7 +42,7 @@ module _ (img : Image) (strays shop never : Type 0) (f : File) (s : Slot) (p : P
       → IsShort img strays shop f p → sector img p ≡ replicate 256 0
   short-so listed off told (inl (_, past)) =
       absurd (false≢true (sym off ∙ told.1 (past-as img (NeverGrows shop f.slot) never f back past)))
-  short-so listed off told (inr (inl (plain, _, _))) = absurd (rel-not-plain f.slot rel plain)
+  short-so listed off told (inr (inl ((plain, _, _), _))) = absurd (rel-not-plain f.slot rel plain)
   short-so listed off told (inr (inr (_, zeros))) = zeros
 
 -- the slot is that of a relative file
@@ -54,10 +54,12 @@ rel-is f s bytes same view is =
 -- a file that is cut short by some facts of the disk is so by others that follow from them
 pub cut-as : (img : Image) (strays strays' shop shop' : Type 0) (f : File) (p : Place) → (strays → strays')
     → (shop → shop') → IsCutIn img strays shop f p → IsCutIn img strays' shop' f p
-cut-as img strays strays' shop shop' f p to up h = record { last = h.last; short = short h.short }
+cut-as img strays strays' shop shop' f p to up (inr h) =
+    inr (record { none = h.none; counts = h.counts; lost = to h.lost; entry = h.entry })
+cut-as img strays strays' shop shop' f p to up (inl h) = inl (record { last = h.last; short = short h.short })
   where
     short : IsShort img strays shop f p → IsShort img strays' shop' f p
     short (inl (rel, past)) =
         inl (rel, past-as img (NeverGrows shop f.slot) (NeverGrows shop' f.slot) f (λ (s, size, name). (up s, size, name)) past)
-    short (inr (inl (plain, counts, stray))) = inr (inl (plain, counts, to stray))
+    short (inr (inl (counts, stray))) = inr (inl (counts, to stray))
     short (inr (inr zeros)) = inr (inr zeros)
