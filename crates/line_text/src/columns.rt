@@ -1,5 +1,4 @@
 //! Records as columns of a spreadsheet, a column for each field or at fixed positions, read back as they were.
-pub(crate) mod joining;
 pub(crate) mod laws;
 pub(crate) mod pieces;
 pub(crate) mod placing;

@@ -24,16 +24,15 @@ pub use bytes::reading::{MOST_BYTES, read_text};
 pub use bytes::text::Text;
 pub use bytes::trimming::trim;
 pub use bytes::writing::write_text;
-pub use columns::joining::push_columns;
 pub use columns::laws::{
-    all_columns_come_back, columns_come_back, columns_have_fields, long_columns_are_refused,
-    more_columns_are_refused, positions_come_back,
+    columns_come_back, columns_have_fields, long_columns_are_refused, more_columns_are_refused,
+    positions_come_back,
 };
 pub use columns::pieces::write_pieces;
 pub use columns::placing::push_pieces;
 pub use columns::positions::{MOST_PIECES, Positions};
-pub use columns::reading::{Column, read_columns};
-pub use columns::writing::{ends_with_return, write_all_columns, write_columns};
+pub use columns::reading::{Column, push_columns};
+pub use columns::writing::write_columns;
 pub use digits::{number, number_before_comma};
 pub use handing::{Unfinished, hand_whole};
 pub use naming::put_named;

@@ -2,9 +2,8 @@
 pub mod Cut
 pub mod CutBack
 pub mod CutPieces
+pub mod Ends
 pub mod Fields
-pub mod Joined
-pub mod Open
 pub mod PiecesBack
 pub mod Places
 pub mod Refused

@@ -1,43 +1,33 @@
 -- Fields of records as columns, by RFC 4180. A BASIC program ends each field with a carriage return, $0D. The text of a
 -- byte is `byte_text`. Everything beyond that is our own.
-use Rattle.std.specs.Prelude.{◌≡◌, ◌≢◌, ◌-◌, ◌&&◌, ℕ, Bool, List, [], ◌∷◌, ◌++◌, codes, false, true, if◌then◌else◌}
-use Rattle.std.specs.Prelude.{length, nat_eq, slice_index, take}
-use Rattle.std.specs.List.{AllByRecursion}
+use Rattle.std.specs.Prelude.{◌≢◌, ◌-◌, ◌&&◌, ℕ, Bool, List, [], ◌∷◌, ◌++◌, codes, false, true, flat_map, if◌then◌else◌}
+use Rattle.std.specs.Prelude.{drop, length, nat_eq, not, slice_index, take}
+use Rattle.std.specs.List.{AllByRecursion, suffix_len}
 use Rattle.line_text.specs.bytes.Texts.{byte_text, text_of}
+use Rattle.line_text.specs.columns.Marks.{without_marks}
 use Rattle.line_text.specs.declared.columns.reading.Column.{Column}
 use Rattle.line_text.specs.declared.columns.reading.Column.TheVariants.{Start, Plain, Quoted, Closed}
 
 -- the record ends with a carriage return
-abbrev pub IsEnded : List ℕ → Type 0
-IsEnded bytes = slice_index bytes (length bytes - 1) ≡ 13
+abbrev pub is_ended : List ℕ → Bool
+is_ended bytes = nat_eq (slice_index bytes (length bytes - 1)) 13
 
--- there are no bytes
-abbrev pub is_empty : List ℕ → Bool
-is_empty [] = true
-is_empty (b ∷ bytes) = false
+-- a record's bytes without the carriage return that ends its last field
+abbrev pub fields_of : List ℕ → List ℕ
+fields_of bytes = if is_ended bytes then take (length bytes - 1) bytes else bytes
 
--- A byte of a record: a carriage return ends its column's quotation marks, and if it isn't the last byte begins the next
--- column; any other is its text
-abbrev pub piece : ℕ → Bool → List ℕ
-piece b last = if nat_eq b 13 then (if last then 34 ∷ [] else 34 ∷ 44 ∷ 34 ∷ []) else byte_text b
+-- a byte of the fields: a carriage return ends a column and begins the next; any other is its text
+abbrev pub piece : ℕ → List ℕ
+piece b = if nat_eq b 13 then codes "\",\"" else byte_text b
 
--- the columns after the first quotation mark
-unfoldable pub rest_of_columns : List ℕ → List ℕ
-rest_of_columns [] = []
-rest_of_columns (b ∷ bytes) = piece b (is_empty bytes) ++ rest_of_columns bytes
+-- the last column: whether a carriage return ends the last field. It is no text of bytes
+abbrev pub mark_of : Bool → List ℕ
+mark_of true = codes "\\."
+mark_of false = codes "\\-"
 
--- a record that ends with a carriage return as columns. KING, CR, LEEDS, CR is "KING","LEEDS"
+-- a record as columns: KING, CR, LEEDS, CR is "KING","LEEDS",\. and KING is "KING",\-
 abbrev pub columns_of : List ℕ → List ℕ
-columns_of bytes = 34 ∷ rest_of_columns bytes
-
--- a record that doesn't end with one: as if it did, and a last column that says that it doesn't. KING is "KING",\-
-abbrev pub open_columns : List ℕ → List ℕ
-open_columns bytes = columns_of (bytes ++ 13 ∷ []) ++ codes ",\\-"
-
--- any record as columns
-abbrev pub all_columns : List ℕ → List ℕ
-all_columns bytes =
-    if nat_eq (slice_index bytes (length bytes - 1)) 13 then columns_of bytes else open_columns bytes
+columns_of bytes = (34 ∷ flat_map piece (fields_of bytes)) ++ (codes "\"," ++ mark_of (is_ended bytes))
 
 -- fields as the record has them, and as columns
 abbrev pub ended : List ℕ → List ℕ
@@ -72,32 +62,43 @@ given Plain b = if nat_eq b 44 then 92 ∷ 48 ∷ 100 ∷ [] else b ∷ []
 given Quoted b = if nat_eq b 34 then [] else b ∷ []
 given Closed b = if nat_eq b 44 then 92 ∷ 48 ∷ 100 ∷ [] else 34 ∷ b ∷ []
 
--- the end of the line ends the last field; a column whose marks aren't closed has no bytes
+-- a column whose marks aren't closed has no bytes
 abbrev pub given_at_end : Column → List ℕ
 given_at_end Quoted = 34 ∷ []
-given_at_end _ = 92 ∷ 48 ∷ 100 ∷ []
+given_at_end _ = []
 
--- Columns as the text of one record. A,"B" is A\0dB\0d
-unfoldable pub one_text : Column → List ℕ → List ℕ
-one_text column [] = given_at_end column
-one_text column (b ∷ text) = given column b ++ one_text (next_column column b) text
+-- columns as the text of a record's fields. A,"B" is A\0dB
+unfoldable pub fields_text : Column → List ℕ → List ℕ
+fields_text column [] = given_at_end column
+fields_text column (b ∷ text) = given column b ++ fields_text (next_column column b) text
 
--- what the end of the line gives if no carriage return ends the last field
-abbrev pub open_at_end : Column → List ℕ
-open_at_end Quoted = 34 ∷ []
-open_at_end _ = []
+-- the byte is a comma, or is none
+abbrev pub is_one : Bool → ℕ → Bool
+is_one commas b = if commas then nat_eq b 44 else not (nat_eq b 44)
 
--- the text of these columns; the first argument says whether the last field is unended
-unfoldable pub text_by : Bool → Column → List ℕ → List ℕ
-text_by unended column [] = if unended then open_at_end column else given_at_end column
-text_by unended column (b ∷ text) = given column b ++ text_by unended (next_column column b) text
+-- how many bytes stand before the commas at the end of a line, or before those at its end that are none
+abbrev pub end_before : Bool → List ℕ → ℕ
+end_before commas line = length line - suffix_len (is_one commas) line
 
--- the line has a last column `\-`, which is no text of bytes
-abbrev pub is_marked : List ℕ → Bool
-is_marked line = nat_eq (slice_index line (length line - 3)) 44
-    && (nat_eq (slice_index line (length line - 2)) 92 && nat_eq (slice_index line (length line - 1)) 45)
+-- the line without the commas at its end, as of empty columns that a spreadsheet added
+abbrev pub unpadded : List ℕ → List ℕ
+unpadded line = take (end_before true line) line
 
--- any columns as the text of one record. A,B,\- is A\0dB
+-- a column is the mark of this end
+abbrev pub is_mark : ℕ → List ℕ → Bool
+is_mark sign column = nat_eq (length column) 2 && (nat_eq (slice_index column 0) 92 && nat_eq (slice_index column 1) sign)
+
+-- the text of a record with these columns before its last one. Without a mark no bytes have it
+abbrev pub marked_text : List ℕ → List ℕ → List ℕ
+marked_text columns mark =
+    if is_mark 46 mark then fields_text Start columns ++ codes "\\0d"
+    else (if is_mark 45 mark then fields_text Start columns else 34 ∷ [])
+
+-- a line whose last column begins at `start`
+abbrev pub text_from : List ℕ → ℕ → List ℕ
+text_from line start =
+    if nat_eq start 0 then 34 ∷ [] else marked_text (take (start - 1) line) (without_marks (drop start line))
+
+-- any columns as the text of one record. A,B,\. is A\0dB\0d, and so is A,B,"\.",,
 abbrev pub columns_text : List ℕ → List ℕ
-columns_text line =
-    if is_marked line then text_by true Start (take (length line - 3) line) else text_by false Start line
+columns_text line = text_from (unpadded line) (end_before false (unpadded line))

@@ -1,9 +1,10 @@
 -- Records cut at fixed positions as columns, and back. Positions count from 1. All of it is our own.
 use Rattle.std.specs.Prelude.{◌<◌, ◌≤◌, ◌-◌, ◌+◌, ◌&&◌, ℕ, zero, suc, Bool, List, [], ◌∷◌, ◌++◌, Option, Some, None, drop, false, get_or}
-use Rattle.std.specs.Prelude.{if◌then◌else◌, length, map, nat_eq, nat_le, nat_lt, not, replicate, slice_index, slice_range}
+use Rattle.std.specs.Prelude.{if◌then◌else◌, length, map, nat_eq, nat_lt, not, replicate, slice_range}
 use Rattle.std.specs.Borrow.{Bor}
 use Rattle.line_text.specs.bytes.Texts.{text_of, trimmed}
 use Rattle.line_text.specs.columns.Columns.{columns_of_fields}
+use Rattle.line_text.specs.columns.Marks.{without_marks}
 
 -- the pieces of a record that begin at these positions, each up to the next one
 unfoldable pub pieces : List ℕ → List ℕ → List (List ℕ)
@@ -38,15 +39,6 @@ cut marked (b ∷ line) = if ends_column marked b then [] ∷ cut false line els
 abbrev pub columns_after : Option (Bor (List ℕ)) → List (List ℕ)
 columns_after None = []
 columns_after (Some line) = cut false line.now
-
--- a column is between quotation marks
-abbrev pub has_marks : List ℕ → Bool
-has_marks column = nat_le 2 (length column)
-    && (nat_eq (slice_index column 0) 34 && nat_eq (slice_index column (length column - 1)) 34)
-
--- a column without them
-abbrev pub without_marks : List ℕ → List ℕ
-without_marks column = if has_marks column then slice_range column 1 (length column - 1) else column
 
 -- How many bytes a text stands for, of which so many digits are the first one's. One that ends within a byte counts as
 -- more than a record has

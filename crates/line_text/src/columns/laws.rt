@@ -1,36 +1,22 @@
 //! Laws of columns, each the contract of a function that does nothing: what is written is read back.
-ghost use Rattle.std.specs.Prelude.{◌≡◌, ◌≢◌, ◌<◌, ℕ, List, [], false, flat_map, length};
+ghost use Rattle.std.specs.Prelude.{◌≡◌, ◌≢◌, ◌<◌, ◌++◌, ◌∷◌, ℕ, List, [], false, true, flat_map, length, replicate};
 ghost use Rattle.std.specs.List.{AllByRecursion};
 ghost use Rattle.line_text.specs.bytes.Texts.{text_of, trimmed};
-ghost use Rattle.line_text.specs.columns.Columns.{
-  IsEnded,
-  IsField,
-  all_columns,
-  columns_of,
-  columns_of_fields,
-  columns_text,
-  ended,
-  one_text,
-};
+ghost use Rattle.line_text.specs.columns.Columns.{IsField, columns_of, columns_of_fields, columns_text, ended, mark_of};
 ghost use Rattle.line_text.specs.columns.Pieces.{IsTooLong, cut, piece_columns, pieces_text};
 ghost use Rattle.line_text.specs.columns.Positions.{ArePositions};
-ghost use Rattle.line_text.specs.declared.columns.reading.Column.TheVariants.{Start};
 
-/// The columns that are written of a record that ends with a carriage return are read as that record. They stand for its
-/// text, and no other record has that text (`texts_differ`).
+/// The columns that are written of a record stand for its text, also with any number of commas after them, as of empty
+/// columns that a spreadsheet adds. No other record has that text (`texts_differ`).
 pub fn columns_come_back()
-    ensures { (bytes : List ℕ) → IsEnded bytes → one_text Start (columns_of bytes) ≡ text_of bytes }
+    ensures { (bytes : List ℕ) (added : ℕ) → columns_text (columns_of bytes ++ replicate added 44) ≡ text_of bytes }
 {}
 
-/// The columns that are written of any record are read as that record, whether it ends with a carriage return or not.
-pub fn all_columns_come_back()
-    ensures { (bytes : List ℕ) → columns_text (all_columns bytes) ≡ text_of bytes }
-{}
-
-/// The columns of a record are its fields: what stands before each carriage return, a column for each.
+/// The columns of a record that ends with a carriage return are its fields: what stands before each carriage return, a
+/// column for each, and the last column says so.
 pub fn columns_have_fields()
     ensures { (fields : List (List ℕ)) → AllByRecursion IsField fields → fields ≢ []
-        → columns_of (flat_map ended fields) ≡ columns_of_fields fields }
+        → columns_of (flat_map ended fields) ≡ columns_of_fields fields ++ 44 ∷ mark_of true }
 {}
 
 /// The columns that are written of a record's pieces are read as that record, whatever positions these have and however

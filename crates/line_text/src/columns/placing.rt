@@ -2,6 +2,7 @@
 ghost use Rattle.std.specs.Prelude.{◌≡◌, ◌≤◌, ◌-◌, ◌+◌, ◌++◌, ◌∷◌, [], IfOk, OnOk, false, if◌then◌else◌, length};
 ghost use Rattle.std.specs.Prelude.{nat_eq, replicate, vec_items};
 ghost use Rattle.line_text.specs.bytes.Texts.{text_of};
+ghost use Rattle.line_text.specs.columns.Marks as marks;
 ghost use Rattle.line_text.specs.columns.Pieces as pieces;
 ghost use Rattle.line_text.specs.columns.Pieces.{byte_count, columns_after, cut, end_after, pieces_text, placed};
 
@@ -43,8 +44,8 @@ fn first_column(line: &[u8]) -> (&[u8], Option<&[u8]>)
 }
 
 /// A column without its quotation marks, if it has them at both ends.
-fn without_marks(column: &[u8]) -> &[u8]
-    ensures { result.now ≡ pieces.without_marks column.now }
+pub(crate) fn without_marks(column: &[u8]) -> &[u8]
+    ensures { result.now ≡ marks.without_marks column.now }
 {
     match column {
         [b'"', inner @ .., b'"'] => inner,

@@ -1,13 +1,16 @@
-//! Records read from columns.
-ghost use Rattle.std.specs.Prelude.{◌≡◌, ◌≢◌, ◌<◌, ◌≤◌, ◌+◌, ◌++◌, ℕ, List, IfSome, IsFalse, IsNone, IsTrue, length};
-ghost use Rattle.line_text.specs.bytes.Texts.{AreBytes, text_of};
-ghost use Rattle.line_text.specs.columns.Columns.{given, given_at_end, one_text};
+//! Columns read as the text of one record, however long it is.
+ghost use Rattle.std.specs.Prelude.{◌≡◌, ◌≤◌, ◌++◌, OnOk, length, vec_items};
+ghost use Rattle.line_text.specs.columns.Columns as columns;
+ghost use Rattle.line_text.specs.columns.Columns.{
+  columns_text,
+  fields_text,
+  given,
+  given_at_end,
+  marked_text,
+};
 
-use crate::bytes::reading::{MOST_BYTES, read_text};
-use arrayvec::ArrayVec;
-
-/// The room of the text of a record of 254 bytes.
-const TEXT_ROOM: usize = 762;
+use crate::columns::placing::without_marks;
+use std::alloc::AllocError;
 
 /// The state of a column.
 #[derive(Clone, Copy, Debug, PartialEq, Eq)]
@@ -26,7 +29,7 @@ impl Column {
     ghost use Rattle.line_text.specs.columns.Columns.{next_column};
 
     /// The state after this byte.
-    pub(crate) fn after(self, byte: u8) -> Column
+    fn after(self, byte: u8) -> Column
         ensures { result ≡ next_column self byte }
     {
         match (self, byte) {
@@ -39,75 +42,91 @@ impl Column {
     }
 }
 
-/// The text of a record.
-type Text = ArrayVec<u8, TEXT_ROOM>;
-
 /// The text of a carriage return.
-pub(crate) const RETURN: &[u8] = b"\\0d";
+const RETURN: &[u8] = b"\\0d";
 
-/// Appends these bytes, or returns that there is no room for them.
-fn add(text: &mut Text, bytes: &[u8]) -> bool
-    ensures done { IsTrue result → text.new.items ≡ text.old.items ++ bytes.now }
-    ensures full { IsFalse result → 762 < length text.old.items + length bytes.now }
-{
-    text.try_extend_from_slice(bytes).is_ok()
-}
-
-/// Appends what this byte of a column gives of the text, or returns that there is no room for it.
-fn add_given(text: &mut Text, column: Column, byte: u8) -> bool
-    ensures done { IsTrue result → text.new.items ≡ text.old.items ++ given column byte }
-    ensures full { IsFalse result → 762 < length text.old.items + length (given column byte) }
+/// Appends what this byte of a column gives of the text.
+fn push_given(text: &mut Vec<u8>, column: Column, byte: u8) -> Result<(), AllocError>
+    ensures { OnOk result (vec_items text.new ≡ vec_items text.old ++ given column byte) }
 {
     match (column, byte) {
-        (Column::Start | Column::Quoted, b'"') => true,
-        (Column::Quoted, _) => add(text, &[byte]),
-        (_, b',') => add(text, RETURN),
-        (Column::Closed, _) => add(text, &[b'"', byte]),
-        _ => add(text, &[byte]),
+        (Column::Start | Column::Quoted, b'"') => Ok(()),
+        (Column::Quoted, _) => text.extend_from_slice(&[byte]),
+        (_, b',') => text.extend_from_slice(RETURN),
+        (Column::Closed, _) => text.extend_from_slice(&[b'"', byte]),
+        _ => text.extend_from_slice(&[byte]),
     }
 }
 
-/// Appends what the end of the line gives of the text, or returns that there is no room for it.
-fn add_end(text: &mut Text, column: Column) -> bool
-    ensures done { IsTrue result → text.new.items ≡ text.old.items ++ given_at_end column }
-    ensures full { IsFalse result → 762 < length text.old.items + length (given_at_end column) }
+/// Appends what the end of the columns gives of the text.
+fn push_end(text: &mut Vec<u8>, column: Column) -> Result<(), AllocError>
+    ensures { OnOk result (vec_items text.new ≡ vec_items text.old ++ given_at_end column) }
 {
     match column {
-        Column::Quoted => add(text, b"\""),
-        _ => add(text, RETURN),
+        Column::Quoted => text.extend_from_slice(b"\""),
+        _ => Ok(()),
     }
 }
 
-/// Fills the room with the text of the record that these columns stand for, or returns that it is too long for one.
-fn join_columns(line: &[u8], text: &mut Text) -> bool
-    ensures done { IsTrue result → text.new.items ≡ one_text Column.Start line.now }
-    ensures full { IsFalse result → 762 < length (one_text Column.Start line.now) }
+/// Appends the text of the fields that these columns are.
+fn push_fields(line: &[u8], text: &mut Vec<u8>) -> Result<(), AllocError>
+    ensures { OnOk result (vec_items text.new ≡ vec_items text.old ++ fields_text Column.Start line.now) }
 {
-    text.clear();
     let mut column = Column::Start;
     for &byte in line {
-        if !add_given(text, column, byte) {
-            return false;
-        }
+        push_given(text, column, byte)?;
         column = column.after(byte);
     }
-    add_end(text, column)
+    push_end(text, column)
 }
 
-/// The record that these columns stand for: their fields, each with a carriage return at its end. The line is passed
-/// without its number, the comma after that, and its end. A column may stand between quotation marks or not, but one that
-/// has a comma stands between them; a mark within a column is never read.
-///
-/// None if a column's bytes aren't text as `read_text` reads it, if there is a quotation mark anywhere except at both
-/// ends of a column, or if the record has more than 254 bytes. So a line is read as it was meant or not at all.
-pub fn read_columns(line: &[u8]) -> Option<ArrayVec<u8, MOST_BYTES>>
-    ensures found { IfSome result (λ bytes. one_text Column.Start line.now ≡ text_of bytes.items) }
-    ensures none { IsNone result → (bytes : List ℕ) → AreBytes bytes → length bytes ≤ 254
-        → one_text Column.Start line.now ≢ text_of bytes }
+/// Whether the byte is a comma, or is none.
+fn is_one(commas: bool, byte: u8) -> bool
+    ensures { result ≡ columns.is_one commas byte }
 {
-    let mut text = ArrayVec::new();
-    if !join_columns(line, &mut text) {
-        return None;
+    if commas { byte == b',' } else { byte != b',' }
+}
+
+/// How many bytes stand before the commas at the end of a line, or before those at its end that are none.
+fn end_before(commas: bool, line: &[u8]) -> usize
+    ensures high { result ≤ length line.now }
+    ensures is { result ≡ columns.end_before commas line.now }
+{
+    let mut end = line.len();
+    while end > 0 && is_one(commas, line[end - 1]) {
+        end -= 1;
     }
-    read_text(text.as_slice())
+    end
+}
+
+/// Appends the text of the record with these columns before its last one.
+fn push_marked(columns: &[u8], mark: &[u8], text: &mut Vec<u8>) -> Result<(), AllocError>
+    ensures { OnOk result (vec_items text.new ≡ vec_items text.old ++ marked_text columns.now mark.now) }
+{
+    match mark {
+        [b'\\', b'.'] => {
+            push_fields(columns, text)?;
+            text.extend_from_slice(RETURN)
+        }
+        [b'\\', b'-'] => push_fields(columns, text),
+        _ => text.extend_from_slice(b"\""),
+    }
+}
+
+/// Appends the text, as `write_text` writes it, of the record that these columns stand for: its fields, each with a
+/// carriage return at its end, and a last column, `\.`, or `\-` if none ends the last field. The line is passed without
+/// its number, the comma after that, and its end. A column may stand between quotation marks or not, but one that has a
+/// comma stands between them. Commas at the end of the line, as of empty columns that a spreadsheet adds, change nothing.
+///
+/// For bytes that no columns give, and if the last column is missing, the text is one that no bytes have. An error leaves
+/// a part of the text.
+pub fn push_columns(line: &[u8], text: &mut Vec<u8>) -> Result<(), AllocError>
+    ensures { OnOk result (vec_items text.new ≡ vec_items text.old ++ columns_text line.now) }
+{
+    let line = &line[..end_before(true, line)];
+    let start = end_before(false, line);
+    if start == 0 {
+        return text.extend_from_slice(b"\"");
+    }
+    push_marked(&line[..start - 1], without_marks(&line[start..]), text)
 }

@@ -8,10 +8,10 @@ use Rattle.std.proofs.lemmas.Bool.{le-leb}
 use Rattle.std.proofs.lemmas.List.{append_assoc, append-nil}
 use Rattle.line_text.specs.bytes.Texts.{byte_text, is_plain, text_of}
 use Rattle.line_text.proofs.lemmas.columns.Cut.{ahead}
-use Rattle.line_text.proofs.lemmas.columns.Fields.{digit-no_mark, plain-no_mark}
-use Rattle.line_text.proofs.lemmas.columns.Joined.{chosen}
+use Rattle.line_text.proofs.lemmas.columns.Fields.{chosen, digit-no_mark, plain-no_mark}
 use Rattle.line_text.specs.columns.Columns.{columns_of_fields, quoted}
-use Rattle.line_text.specs.columns.Pieces.{cut, has_marks, onto, without_marks}
+use Rattle.line_text.specs.columns.Marks.{has_marks, without_marks}
+use Rattle.line_text.specs.columns.Pieces.{cut, onto}
 
 -- no byte is a quotation mark
 abbrev pub HasNoMark : List ℕ → Type 0

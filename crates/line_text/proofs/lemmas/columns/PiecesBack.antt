@@ -9,11 +9,12 @@ use Rattle.std.proofs.lemmas.List.{length-take, length-take-le, replicate-append
 use Rattle.std.proofs.lemmas.List.Folds.{drop_split}
 use Rattle.line_text.specs.bytes.Texts.{byte_text, is_plain, text_of, trimmed}
 use Rattle.line_text.proofs.lemmas.columns.CutBack.{texts-back}
-use Rattle.line_text.proofs.lemmas.columns.Joined.{chosen}
+use Rattle.line_text.proofs.lemmas.columns.Fields.{chosen}
 use Rattle.line_text.proofs.lemmas.columns.Places.{after-some, placed-some}
 use Rattle.line_text.proofs.lemmas.columns.Zeros.{tail-zeros, trimmed-ahead, trimmed-stays, zeros-none}
 use Rattle.line_text.specs.columns.Columns.{columns_of_fields}
-use Rattle.line_text.specs.columns.Pieces.{byte_count, cut, end_after, joined_at, piece_columns, pieces, pieces_text, placed, without_marks}
+use Rattle.line_text.specs.columns.Marks.{without_marks}
+use Rattle.line_text.specs.columns.Pieces.{byte_count, cut, end_after, joined_at, piece_columns, pieces, pieces_text, placed}
 use Rattle.line_text.specs.columns.Positions.{AreRising}
 
 -- a text stands for its bytes

@@ -7,7 +7,8 @@ use Rattle.std.proofs.lemmas.Bool.{le-ltb, lt-ltb}
 use Rattle.std.proofs.lemmas.List.{append_assoc, drop_all, drop_more}
 use Rattle.line_text.specs.bytes.Texts.{text_of}
 use Rattle.line_text.proofs.lemmas.columns.Cut.{cut-first}
-use Rattle.line_text.specs.columns.Pieces.{byte_count, columns_after, cut, end_after, joined_at, placed, without_marks}
+use Rattle.line_text.specs.columns.Marks.{without_marks}
+use Rattle.line_text.specs.columns.Pieces.{byte_count, columns_after, cut, end_after, joined_at, placed}
 
 -- one zero more
 pub zeros-more : (n : ℕ) → text_of (replicate n 0) ++ 92 ∷ 48 ∷ 48 ∷ [] ≡ text_of (replicate (n + 1) 0)

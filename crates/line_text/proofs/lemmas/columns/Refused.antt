@@ -7,7 +7,7 @@ use Rattle.line_text.specs.bytes.Texts.{text_of}
 use Rattle.line_text.proofs.lemmas.columns.CutBack.{HasNoMark, text-no_mark}
 use Rattle.line_text.proofs.lemmas.columns.Places.{after-some, too-far}
 use Rattle.line_text.specs.columns.Pieces.{IsTooLong, byte_count, cut, end_after, joined_at, pieces_text, placed, texts_of}
-use Rattle.line_text.specs.columns.Pieces.{without_marks}
+use Rattle.line_text.specs.columns.Marks.{without_marks}
 
 behind-no_mark : (xs ys : List ℕ) → HasNoMark (xs ++ ys) → HasNoMark ys
 behind-no_mark [] ys none = none

@@ -1,7 +1,8 @@
 -- What was appended, and what the columns that are left give, are what all give.
 use Rattle.std.proofs.Common.{◌≡◌, ◌++◌, length, map}
 use Rattle.std.specs.Prelude.{vec_items}
-use Rattle.line_text.specs.columns.Pieces.{columns_after, joined_at, pieces_text, without_marks}
+use Rattle.line_text.specs.columns.Marks.{without_marks}
+use Rattle.line_text.specs.columns.Pieces.{columns_after, joined_at, pieces_text}
 use Rattle.line_text.proofs.columns.placing.push_pieces.Given as goal
 
 abbrev pub invariant-loop-rest : goal.invariant-loop-rest

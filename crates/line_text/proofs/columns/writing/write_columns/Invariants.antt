@@ -1,13 +1,10 @@
--- What was written, and the columns of the bytes that are left, are those of all.
-use Rattle.std.proofs.Common.{◌≡◌, ◌++◌, List, length, ℕ}
+-- The first mark and the pieces of the bytes so far were written.
+use Rattle.std.proofs.Common.{◌∷◌, take}
+use Rattle.std.specs.Prelude.{flat_map}
 use Rattle.std.specs.Io.KnownBytes.{Appends}
-use Rattle.line_text.specs.columns.Columns.{columns_of, rest_of_columns}
+use Rattle.line_text.specs.columns.Columns.{piece}
 use Rattle.line_text.proofs.columns.writing.write_columns.Given as goal
 
-abbrev pub invariant-loop-rest : goal.invariant-loop-rest
-invariant-loop-rest g l = (written : List ℕ)
-    × Appends (g.W.Write.contents l.fn.out) (g.W.Write.contents l.out) written
-    × (written ++ rest_of_columns l.rest ≡ columns_of l.bytes)
-
-abbrev pub decreases-loop-rest : goal.decreases-loop-rest
-decreases-loop-rest g l = length l.rest
+abbrev pub invariant-loop-byte : goal.invariant-loop-byte
+invariant-loop-byte g l =
+    Appends (g.W.Write.contents l.fn.out) (g.W.Write.contents l.out) (34 ∷ flat_map piece (take l.byte-index l.fields))
