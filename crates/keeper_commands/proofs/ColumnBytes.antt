@@ -1,13 +1,13 @@
 -- The bytes of a record's columns: no LF, no CR at their end, and the record.
 use Rattle.std.proofs.Common.{◌≡◌, ◌≤◌, ◌-◌, ◌∙◌, ℕ, List, [], ◌∷◌, ◌++◌, Bool, true, false, ap, arith, length, map, refl, sym}
-use Rattle.std.specs.Prelude.{◌==◌, codes, if◌then◌else◌, nat_eq, slice_index}
+use Rattle.std.specs.Prelude.{◌==◌, codes, flat_map, if◌then◌else◌, nat_eq, slice_index}
 use Rattle.std.proofs.lemmas.Bool.{eqb-true}
-use Rattle.std.proofs.lemmas.List.{append_assoc}
+use Rattle.std.proofs.lemmas.List.{append_assoc, append-nil}
 use Rattle.line_text.specs.bytes.Texts.{byte_text, is_plain, text_of, trimmed}
-use Rattle.line_text.proofs.lemmas.columns.Open.{all-back, last-mark}
+use Rattle.line_text.proofs.lemmas.columns.Ends.{comes-back}
 use Rattle.line_text.proofs.lemmas.columns.PiecesBack.{pieces-back}
-use Rattle.line_text.specs.columns.Columns.{IsEnded, columns_of, columns_of_fields, is_empty, open_columns, piece}
-use Rattle.line_text.specs.columns.Columns.{quoted, rest_of_columns}
+use Rattle.line_text.specs.columns.Columns.{columns_of, columns_of_fields, columns_text, fields_of, is_ended, mark_of, piece}
+use Rattle.line_text.specs.columns.Columns.{quoted}
 use Rattle.line_text.specs.columns.Pieces.{piece_columns, pieces}
 use Rattle.line_text.specs.columns.Positions.{starts}
 use Rattle.line_text.proofs.lemmas.scripts.Lines.{Lacks}
@@ -17,25 +17,24 @@ use Rattle.keeper_commands.specs.Forms.{HasPositions, columns_as}
 use Rattle.keeper_commands.specs.declared.forms.ColumnForm.{ColumnForm}
 use Rattle.keeper_commands.specs.declared.forms.ColumnForm.TheVariants as forms
 
-piece-lacks : (p : Bool) (b : ℕ) (last : Bool)
-    → Lacks 10 (if p then (if last then 34 ∷ [] else 34 ∷ 44 ∷ 34 ∷ []) else byte_text b)
-piece-lacks true b true = ((λ is. omega (arith, is)), tt)
-piece-lacks true b false = ((λ is. omega (arith, is)), ((λ is. omega (arith, is)), ((λ is. omega (arith, is)), tt)))
-piece-lacks false b last = chosen-lacks (is_plain b) b refl
+piece-lacks : (p : Bool) (b : ℕ) → Lacks 10 (if p then codes "\",\"" else byte_text b)
+piece-lacks true b = ((λ is. omega (arith, is)), ((λ is. omega (arith, is)), ((λ is. omega (arith, is)), tt)))
+piece-lacks false b = chosen-lacks (is_plain b) b refl
 
-rest-lacks : (bytes : List ℕ) → Lacks 10 (rest_of_columns bytes)
-unfolding rest_of_columns
-rest-lacks [] = tt
-rest-lacks (b ∷ bytes) = lacks-both (piece b (is_empty bytes)) (rest_of_columns bytes)
-    (piece-lacks (nat_eq b 13) b (is_empty bytes)) (rest-lacks bytes)
+pieces-lack : (bytes : List ℕ) → Lacks 10 (flat_map piece bytes)
+pieces-lack [] = tt
+pieces-lack (b ∷ bytes) = lacks-both (piece b) (flat_map piece bytes) (piece-lacks (nat_eq b 13) b) (pieces-lack bytes)
 
-columns-lack : (bytes : List ℕ) → Lacks 10 (columns_of bytes)
-columns-lack bytes = ((λ is. omega (arith, is)), rest-lacks bytes)
+end-lacks : (p : Bool) → Lacks 10 (codes "\"," ++ mark_of p)
+end-lacks true =
+    ((λ is. omega (arith, is)), ((λ is. omega (arith, is)), ((λ is. omega (arith, is)), ((λ is. omega (arith, is)), tt))))
+end-lacks false =
+    ((λ is. omega (arith, is)), ((λ is. omega (arith, is)), ((λ is. omega (arith, is)), ((λ is. omega (arith, is)), tt))))
 
-all-lack : (p : Bool) (bytes : List ℕ) → Lacks 10 (if p then columns_of bytes else open_columns bytes)
-all-lack true bytes = columns-lack bytes
-all-lack false bytes = lacks-both (columns_of (bytes ++ 13 ∷ [])) (codes ",\\-") (columns-lack (bytes ++ 13 ∷ []))
-    ((λ is. omega (arith, is)), ((λ is. omega (arith, is)), ((λ is. omega (arith, is)), tt)))
+fields-lack : (bytes : List ℕ) → Lacks 10 (columns_of bytes)
+fields-lack bytes =
+    lacks-both (34 ∷ flat_map piece (fields_of bytes)) (codes "\"," ++ mark_of (is_ended bytes))
+    ((λ is. omega (arith, is)), pieces-lack (fields_of bytes)) (end-lacks (is_ended bytes))
 
 -- the columns of pieces likewise
 mark-lacks : (xs : List ℕ) → Lacks 10 xs → Lacks 10 (34 ∷ (xs ++ 34 ∷ []))
@@ -49,7 +48,7 @@ quoted-lacks (field ∷ (next ∷ fields)) = lacks-both (quoted field) (44 ∷ c
     (mark-lacks (text_of field) (text-lacks field)) ((λ is. omega (arith, is)), quoted-lacks (next ∷ fields))
 
 pub form-lacks : (form : ColumnForm) (r : List ℕ) → Lacks 10 (columns_as form r)
-form-lacks forms.Fields r = all-lack (nat_eq (slice_index (trimmed r) (length (trimmed r) - 1)) 13) (trimmed r)
+form-lacks forms.Fields r = fields-lack (trimmed r)
 form-lacks (forms.At positions) r = quoted-lacks (map trimmed (pieces (starts positions) r))
 
 -- what is the last byte of columns, and no CR
@@ -59,22 +58,17 @@ pub record Ends (line : List ℕ) : Type 0 where
   pub is : line ≡ front ++ last ∷ []
   pub other : (last == 13) ≡ false
 
-ended-ends : (bytes : List ℕ) → IsEnded bytes → Ends (columns_of bytes)
-ended-ends [] is = absurd (omega (arith, is))
-ended-ends (b ∷ bytes) is = let back = last-mark b bytes is in record {
-  front = 34 ∷ back.0;
-  last = 34;
-  is = ap (λ (t : List ℕ). 34 ∷ t) back.1;
+marked-end : (p : Bool) (front : List ℕ) → Ends (front ++ (codes "\"," ++ mark_of p))
+marked-end true front = record {
+  front = front ++ 34 ∷ 44 ∷ 92 ∷ [];
+  last = 46;
+  is = sym (append_assoc front (34 ∷ 44 ∷ 92 ∷ []) (46 ∷ []));
   other = refl;
 }
-
-all-end : (p : Bool) (bytes : List ℕ) → nat_eq (slice_index bytes (length bytes - 1)) 13 ≡ p
-    → Ends (if p then columns_of bytes else open_columns bytes)
-all-end true bytes is = ended-ends bytes (eqb-true (slice_index bytes (length bytes - 1)) 13 is)
-all-end false bytes is = record {
-  front = columns_of (bytes ++ 13 ∷ []) ++ 44 ∷ 92 ∷ [];
+marked-end false front = record {
+  front = front ++ 34 ∷ 44 ∷ 92 ∷ [];
   last = 45;
-  is = sym (append_assoc (columns_of (bytes ++ 13 ∷ [])) (44 ∷ 92 ∷ []) (45 ∷ []));
+  is = sym (append_assoc front (34 ∷ 44 ∷ 92 ∷ []) (45 ∷ []));
   other = refl;
 }
 
@@ -102,11 +96,12 @@ placed-end [] r first = absurd (omega (arith, first))
 placed-end (p ∷ ps) r first = some-end (map trimmed (pieces (p ∷ ps) r)) (some-piece p ps r)
 
 pub columns-end : (form : ColumnForm) (r : List ℕ) → HasPositions form → Ends (columns_as form r)
-columns-end forms.Fields r has = let t : List ℕ = trimmed r in all-end (nat_eq (slice_index t (length t - 1)) 13) t refl
+columns-end forms.Fields r has = marked-end (is_ended (trimmed r)) (34 ∷ flat_map piece (fields_of (trimmed r)))
 columns-end (forms.At positions) r has = placed-end (starts positions) r has.first
 
 -- they are read as the record
 pub columns-back : (form : ColumnForm) (r : List ℕ) → HasPositions form
     → record_text form (columns_as form r) ≡ text_of (trimmed r)
-columns-back forms.Fields r has = all-back (trimmed r)
+columns-back forms.Fields r has =
+    ap columns_text (sym (append-nil (columns_of (trimmed r)))) ∙ comes-back (trimmed r) 0
 columns-back (forms.At positions) r has = pieces-back (starts positions) r has.first has.rising

@@ -4,7 +4,7 @@ use Rattle.line_text.specs.bytes.Texts.{record_line, trimmed}
 use Rattle.line_text.specs.petscii.Characters.{readable}
 use Rattle.line_text.specs.declared.petscii.characters.CharacterSet.{CharacterSet}
 use Rattle.line_text.specs.petscii.Quoted.{quoted}
-use Rattle.line_text.specs.columns.Columns.{all_columns}
+use Rattle.line_text.specs.columns.Columns.{columns_of}
 use Rattle.line_text.specs.columns.Pieces.{piece_columns}
 use Rattle.line_text.specs.columns.Positions.{ArePositions, starts}
 use Rattle.keeper_commands.specs.Records.{records_text}
@@ -22,7 +22,7 @@ text_line set n r = decimal n ++ (codes "," ++ (quoted set (trimmed r) ++ codes 
 
 -- a record as columns: its fields, or its pieces at positions
 abbrev pub columns_as : ColumnForm → List ℕ → List ℕ
-columns_as columns.Fields r = all_columns (trimmed r)
+columns_as columns.Fields r = columns_of (trimmed r)
 columns_as (columns.At positions) r = piece_columns (starts positions) r
 
 -- the first column has a position, and so has each other one

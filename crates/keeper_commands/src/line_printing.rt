@@ -16,7 +16,7 @@ use arrayvec::ArrayVec;
 use command_faults::{CommandFault, put};
 use d64_image::MemDisk;
 use disk_layout::DATA;
-use line_text::{CharacterSet, Quoted, trim, write_all_columns, write_line, write_pieces};
+use line_text::{CharacterSet, Quoted, trim, write_fields, write_line, write_pieces};
 use rel_records::{LastBlock, RelFile, read_next, records};
 use std::io::{self, Write};
 
@@ -38,7 +38,7 @@ fn write_columns<W: Write>(out: &mut W, form: ColumnForm, bytes: &[u8]) -> io::R
     ensures { OnOk result (Appends (W.contents out.old) (W.contents out.new) (forms.columns_as form bytes.now)) }
 {
     match form {
-        ColumnForm::Fields => write_all_columns(out, trim(bytes)),
+        ColumnForm::Fields => write_fields(out, trim(bytes)),
         ColumnForm::At(positions) => write_pieces(out, positions.as_slice(), bytes),
     }
 }

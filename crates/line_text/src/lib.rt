@@ -32,7 +32,7 @@ pub use columns::pieces::write_pieces;
 pub use columns::placing::push_pieces;
 pub use columns::positions::{MOST_PIECES, Positions};
 pub use columns::reading::{Column, push_columns};
-pub use columns::writing::write_columns;
+pub use columns::writing::write_fields;
 pub use digits::{number, number_before_comma};
 pub use handing::{Unfinished, hand_whole};
 pub use naming::put_named;

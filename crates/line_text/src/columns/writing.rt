@@ -42,7 +42,7 @@ fn write_piece<W: Write>(out: &mut W, byte: u8) -> io::Result<()>
 ///
 /// `push_columns` gives the record's text back (`columns_come_back`). An error is the writer's, which may then have a
 /// part.
-pub fn write_columns<W: Write>(out: &mut W, bytes: &[u8]) -> io::Result<()>
+pub fn write_fields<W: Write>(out: &mut W, bytes: &[u8]) -> io::Result<()>
     ensures { OnOk result (Appends (W.contents out.old) (W.contents out.new) (columns_of bytes.now)) }
 {
     let (fields, ended) = split_end(bytes);

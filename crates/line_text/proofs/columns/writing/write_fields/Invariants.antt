@@ -3,7 +3,7 @@ use Rattle.std.proofs.Common.{◌∷◌, take}
 use Rattle.std.specs.Prelude.{flat_map}
 use Rattle.std.specs.Io.KnownBytes.{Appends}
 use Rattle.line_text.specs.columns.Columns.{piece}
-use Rattle.line_text.proofs.columns.writing.write_columns.Given as goal
+use Rattle.line_text.proofs.columns.writing.write_fields.Given as goal
 
 abbrev pub invariant-loop-byte : goal.invariant-loop-byte
 invariant-loop-byte g l =
