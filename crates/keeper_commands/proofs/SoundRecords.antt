@@ -92,6 +92,11 @@ records-all img f whole rel =
     ∙ pieces-same L (m / L) (take m all) all (omega (arith, inside, fits))
     (omega (arith, inside, fits, length-take m all)) (λ i low. get_or-take m all i 0 (omega (arith, low, inside)))
 
+records-same : (img : Image) (s : Slot) (f : File) (ps : List Place) (u : ℕ) → f.slot ≡ s → ps ≡ f.blocks → u ≡ f.last
+    → records_of (record_length f.slot) (file_bytes img f.blocks f.last) ≡ records img f
+    → records_of (record_length s) (file_bytes img ps u) ≡ records img f
+records-same img s f ps u slot blocks last all = rw (← slot, blocks, last) all
+
 module _ (img : Image) (l : Layout) (is : IsLayout img l) where
   -- a directory that is read as far as its links lead is all of it
   listed : (ps : List Place) (entries : List Slot) (ended : Option Fault) → IsReadSoFar img ps entries ended
@@ -182,10 +187,7 @@ module _ (img : Image) (l : Layout) (is : IsLayout img l) where
       let all = reached-all img s f blocks had.broken last here is_first.named.0 had.reached in (
         f,
         is_first,
-        ap (λ (t : Slot). records_of (record_length t) (file_bytes img blocks last)) (sym here.slot)
-            ∙ ap (λ (ps : List Place). records_of (record_length f.slot) (file_bytes img ps last)) all.0
-            ∙ ap (λ (u : ℕ). records_of (record_length f.slot) (file_bytes img f.blocks u)) all.1
-            ∙ records-all img f whole here.file,
+        records-same img s f blocks last here.slot all.0 all.1 (records-all img f whole here.file),
       )
 
   -- or there is none
