@@ -15,13 +15,13 @@ use crate::byte_printing::no_file;
 use crate::chains::read_file;
 use crate::finding::{Candidates, FoundFile, Kind, find_file};
 use crate::forms::RecordForm;
-use crate::loading::unsoundness;
 use crate::piece_printing::put_pieces;
 use arrayvec::ArrayVec;
 use command_faults::{CommandFault, flush, load};
 use d64_image::{MemDisk, Place};
 use damaged_files::sound_cut;
 use disk_layout::EntryView;
+use layout_check::unsoundness;
 use std::alloc::Global;
 use std::io::Write;
 
