@@ -7,8 +7,8 @@ use crate::bam::Bam;
 use crate::entries::padded_name;
 use d64_image::{Place, TRACKS};
 
-/// 18/0 with no sector free: the bytes before the map, 140 zeros, the name and the id.
-fn blank_header(name: &[u8], id: [u8; 2]) -> [u8; 256]
+/// 18/0 with no sector free: the bytes before the map, 140 zeros, the name, of at most sixteen bytes, and the id.
+pub fn blank_header(name: &[u8], id: [u8; 2]) -> [u8; 256]
     requires { length name.now ≤ 16 }
     ensures { result ≡ (18 ∷ 1 ∷ 65 ∷ 0 ∷ []) ++ (replicate 140 0 ++ names_of name.now id) }
 {

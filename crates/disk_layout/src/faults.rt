@@ -33,7 +33,7 @@ pub enum Fault {
 }
 
 impl Fault {
-    ghost use Rattle.disk_layout.specs.Number.{number_of};
+    ghost use Rattle.disk_layout.specs.Number.{number_of, place_of};
 
     /// The fault's number: 1 BadLink, 2 Loop, 3 OwnedTwice, 4 BadType, 5 Unclosed, 6 BadSide, 7 BadLength,
     /// 8 CountWrong, 9 MapWrong, 10 Device.
@@ -51,6 +51,24 @@ impl Fault {
             Fault::CountWrong(_) => 8,
             Fault::MapWrong(_) => 9,
             Fault::Device(_) => 10,
+        }
+    }
+
+    /// Where it is.
+    pub fn place(self) -> Place
+        ensures { result ≡ place_of self }
+    {
+        match self {
+            Fault::BadLink(place)
+            | Fault::Loop(place)
+            | Fault::OwnedTwice(place)
+            | Fault::BadType(place)
+            | Fault::Unclosed(place)
+            | Fault::BadSide(place)
+            | Fault::BadLength(place)
+            | Fault::CountWrong(place)
+            | Fault::MapWrong(place)
+            | Fault::Device(place) => place,
         }
     }
 

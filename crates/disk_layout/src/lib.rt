@@ -22,6 +22,7 @@ pub use access::{read_sector, write_other, write_sector};
 pub use bam::Bam;
 pub use blank::blank_image;
 pub use blank_laws::{blank_has_top, blank_is_clean, blank_is_whole};
+pub use blank_map::blank_header;
 pub use chain::{walk_as_far, walk_chain};
 pub use directory::{
     DIRECTORY_SECTORS, DIRECTORY_TRACK, add_used, directory_start, map_place,

@@ -11,7 +11,8 @@ use Rattle.disk_layout.specs.declared.faults.Fault.{Fault}
 use Rattle.disk_pictures.specs.Drawings.{owner_of}
 use Rattle.disk_pictures.specs.Maps.{cell_text, digit, entry_line, entry_mark, letter, mark_of, owner_mark}
 use Rattle.disk_pictures.specs.Maps.{owner_second, records_text, second_of}
-use Rattle.disk_pictures.specs.Texts.{is_fault_at, is_free, type_text}
+use Rattle.disk_rescue.specs.Types.{type_text}
+use Rattle.disk_pictures.specs.Texts.{is_fault_at, is_free}
 use Rattle.disk_rescue.specs.Names.{name_of}
 use Rattle.disk_pictures.proofs.Printing.{ascii}
 use Rattle.disk_pictures.specs.declared.owners.Owner.{Owner}

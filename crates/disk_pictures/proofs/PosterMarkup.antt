@@ -10,7 +10,7 @@ use Rattle.disk_rescue.specs.Names.{disk_name, name_of}
 use Rattle.disk_pictures.specs.Pictures.{dashes}
 use Rattle.disk_pictures.specs.Posters.{line_start, poster_head, poster_legend, poster_line, poster_style, poster_text}
 use Rattle.disk_pictures.specs.Posters.{poster_told}
-use Rattle.disk_pictures.specs.Texts.{type_text}
+use Rattle.disk_rescue.specs.Types.{type_text}
 use Rattle.disk_pictures.proofs.PageMarkup.{IsSameMarkup, before, behind, both, each, on-drawing, on-summary}
 
 module _ (f g : Show) (same : (bytes : List ℕ) → IsSameMarkup (f bytes) (g bytes)) (s u : Show)

@@ -11,7 +11,7 @@ use Rattle.disk_pictures.specs.Petscii.{petscii_of}
 use Rattle.disk_pictures.specs.Pictures.{look}
 use Rattle.disk_pictures.specs.Posters.{line_left, line_start, line_top, poster_line, poster_told}
 use Rattle.disk_pictures.specs.Sentences.{summary_text}
-use Rattle.disk_pictures.specs.Texts.{type_text}
+use Rattle.disk_rescue.specs.Types.{type_text}
 
 pub heading-written : (v : Option Fault) (map : Sector) (l : Layout) (id version name : List ℕ)
     → id ≡ slice_range map 162 164 → version ≡ slice_range map 165 167 → name ≡ disk_name map

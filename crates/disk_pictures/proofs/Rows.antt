@@ -7,7 +7,7 @@ use Rattle.disk_pictures.specs.Html.{html_of}
 use Rattle.disk_rescue.specs.Names.{name_of}
 use Rattle.disk_pictures.specs.Petscii.{petscii_of}
 use Rattle.disk_pictures.specs.Pictures.{cells_text, link_text, look, row_text}
-use Rattle.disk_pictures.specs.Texts.{type_text}
+use Rattle.disk_rescue.specs.Types.{type_text}
 
 pub row-written : (k : ℕ) (f : File) (count byte : ℕ) (name : List ℕ) → count ≡ count_field f.slot
     → byte ≡ type_byte f.slot

@@ -1,11 +1,11 @@
 -- What comes of drawing an image, and why it isn't drawn. Our own.
-use Rattle.std.specs.Prelude.{◌≡◌, ◌≢◌, ◌≤◌, List, ℕ, Option, Some, None, length}
+use Rattle.std.specs.Prelude.{◌≡◌, ◌≢◌, ◌≤◌, List, ℕ, Option, length}
 use Rattle.std.specs.Io.KnownBytes.{Appends}
-use Rattle.d64_image.specs.Images.{Image, Sector, sector}
+use Rattle.d64_image.specs.Images.{Sector, sector}
 use Rattle.d64_image.specs.Memory.{sectors_in}
-use Rattle.disk_layout.specs.Clean.{IsClean}
+use Rattle.disk_layout.specs.Clean.{IsVerdict}
 use Rattle.disk_layout.specs.Directory.{map_place}
-use Rattle.disk_layout.specs.Fault.{HoldsOfClean, HoldsOfDirectory, nowhere}
+use Rattle.disk_layout.specs.Fault.{HoldsOfDirectory, nowhere}
 use Rattle.disk_layout.specs.Layout.{Layout}
 use Rattle.disk_layout.specs.declared.faults.Fault.{Fault}
 use Rattle.disk_pictures.specs.Drawings.{IsDrawn}
@@ -16,11 +16,6 @@ use Rattle.disk_pictures.specs.Posters.{poster_of}
 use Rattle.disk_pictures.specs.declared.drawing.Drawing.{Drawing}
 use Rattle.command_faults.specs.declared.faults.CommandFault.{CommandFault}
 use Rattle.command_faults.specs.declared.faults.CommandFault.TheVariants as faults
-
--- what a check of the image reports: a fault that holds, or none if the image is clean
-abbrev pub IsVerdict : Image → Option Fault → Type 0
-IsVerdict img None = IsClean img
-IsVerdict img (Some fault) = HoldsOfClean nowhere img fault
 
 -- the 18/0 of an image
 abbrev pub map_in : List ℕ → Sector

@@ -16,9 +16,11 @@ use Rattle.disk_pictures.specs.Html.{Show, html_of}
 use Rattle.disk_rescue.specs.Names.{disk_name, name_of}
 use Rattle.disk_pictures.specs.Petscii.{petscii_of}
 use Rattle.disk_pictures.specs.Texts.{any_below, at_place, each_below, has_records, is_at_place, is_free, numbered}
-use Rattle.disk_pictures.specs.Texts.{place_of, records_in}
+use Rattle.disk_layout.specs.Number.{place_of}
+use Rattle.disk_pictures.specs.Texts.{records_in}
 use Rattle.disk_pictures.specs.Sentences.{summary_text}
-use Rattle.disk_pictures.specs.Texts.{type_text, verdict_text}
+use Rattle.disk_pictures.specs.Texts.{verdict_text}
+use Rattle.disk_rescue.specs.Types.{type_text}
 use Rattle.disk_pictures.specs.declared.owners.Owner.{Owner}
 use Rattle.disk_pictures.specs.declared.owners.Owner.TheVariants as owner
 

@@ -11,7 +11,8 @@ use Rattle.disk_rescue.specs.Names.{disk_name, name_of}
 use Rattle.disk_pictures.specs.Petscii.{petscii_of}
 use Rattle.disk_pictures.specs.Pictures.{dashes, drawing_text, look}
 use Rattle.disk_pictures.specs.Sentences.{summary_text}
-use Rattle.disk_pictures.specs.Texts.{numbered, type_text}
+use Rattle.disk_rescue.specs.Types.{type_text}
+use Rattle.disk_pictures.specs.Texts.{numbered}
 
 -- the poster's style
 unfoldable pub poster_style : List ℕ

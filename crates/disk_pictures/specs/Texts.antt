@@ -1,15 +1,14 @@
 -- What is printed of a disk beside its sectors. All of it is our own but the types (1541 User's Guide, directory
 -- format).
-use Rattle.std.specs.Prelude.{ℕ, zero, suc, ◌+◌, ◌*◌, ◌-◌, ◌/◌, ◌%◌, ◌&&◌, ◌||◌, Bool, false, not, List, [], ◌∷◌, ◌++◌}
-use Rattle.std.specs.Prelude.{Option, Some, None, if◌then◌else◌, codes, length, max, nat_eq, nat_lt}
-use Rattle.std.specs.Int.{bit_at}
+use Rattle.std.specs.Prelude.{ℕ, zero, suc, ◌+◌, ◌*◌, ◌-◌, ◌/◌, ◌&&◌, ◌||◌, Bool, false, not, List, [], ◌∷◌, ◌++◌}
+use Rattle.std.specs.Prelude.{Option, Some, None, codes, length, max, nat_eq}
 use Rattle.d64_image.specs.Images.{Sector}
 use Rattle.d64_image.specs.declared.place.Place.{Place}
 use Rattle.disk_layout.specs.Layout.{File, is_rel, record_length}
 use Rattle.disk_layout.specs.Map.{map_bit}
+use Rattle.disk_layout.specs.Number.{place_of}
 use Rattle.disk_layout.specs.Texts.{fault_text}
 use Rattle.disk_layout.specs.declared.faults.Fault.{Fault}
-use Rattle.disk_layout.specs.declared.faults.Fault.TheVariants as fault
 use Rattle.disk_pictures.specs.Drawings.{is_place}
 
 -- the lines of 0, 1 and so on below n
@@ -41,19 +40,6 @@ is_at_place test (Some p) = test p
 abbrev pub is_free : Sector → Place → Bool
 is_free map p = nat_eq (map_bit map p.track p.sector) 1
 
--- where a fault is
-abbrev pub place_of : Fault → Place
-place_of (fault.BadLink p) = p
-place_of (fault.Loop p) = p
-place_of (fault.OwnedTwice p) = p
-place_of (fault.BadType p) = p
-place_of (fault.Unclosed p) = p
-place_of (fault.BadSide p) = p
-place_of (fault.BadLength p) = p
-place_of (fault.CountWrong p) = p
-place_of (fault.MapWrong p) = p
-place_of (fault.Device p) = p
-
 -- the fault that was found is at this place
 abbrev pub is_fault_at : Option Fault → Place → Bool
 is_fault_at None p = false
@@ -63,23 +49,6 @@ is_fault_at (Some f) p = is_place (place_of f) p
 abbrev pub verdict_text : Option Fault → List ℕ
 verdict_text None = codes "OK"
 verdict_text (Some f) = fault_text f
-
--- the types by their numbers, the low six bits of a type byte
-abbrev pub type_name : ℕ → List ℕ
-type_name kind =
-    if nat_eq kind 0 then codes "DEL"
-    else (if nat_eq kind 1 then codes "SEQ"
-    else (if nat_eq kind 2 then codes "PRG"
-    else (if nat_eq kind 3 then codes "USR"
-    else (if nat_eq kind 4 then codes "REL"
-    else codes "???"))))
-
--- a type: a star stands before it if the file isn't closed, and this mark after it if it is locked
-abbrev pub type_text : List ℕ → ℕ → List ℕ
-type_text mark byte =
-    (if nat_lt byte 128 then codes "*" else [])
-    ++ (type_name (byte % 64)
-    ++ (if nat_eq (bit_at byte 6) 1 then mark else []))
 
 -- record length and records are printed: the entry is relative and has both a length and a block
 abbrev pub has_records : File → Bool

@@ -9,7 +9,6 @@ ghost use Rattle.disk_pictures.specs.Pictures.{fault_sector, dash_text, radius a
 ghost use Rattle.disk_pictures.specs.Pictures.{ring_of, ring_text, side_arc};
 
 use crate::html::Html;
-use crate::texts::fault_place;
 use d64_image::{Place, sectors_on};
 use disk_layout::Fault;
 use std::fmt::{self, Display, Formatter};
@@ -222,7 +221,7 @@ impl Display for FaultGroup {
 
     fn fmt<W: fmt::Write>(&self, f: &mut Formatter<W>) -> fmt::Result {
         let told = self.0;
-        let place = fault_place(told);
+        let place = told.place();
         let ring = Ring::of(place);
         writeln!(
             f,

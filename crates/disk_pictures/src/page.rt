@@ -12,9 +12,9 @@ use crate::drawn_file::DrawnFile;
 use crate::html::Html;
 use crate::petscii::Petscii;
 use crate::sentences::Summary;
-use crate::texts::{TypeText, VerdictText};
+use crate::texts::VerdictText;
 use disk_layout::{BamView, EntryView, Fault};
-use disk_rescue::{disk_name, entry_name};
+use disk_rescue::{TypeText, disk_name, entry_name};
 use std::fmt::{self, Display, Formatter};
 
 /// The page's style: light and dark, for wide and narrow screens, and for paper. A file has one of twelve colours, which

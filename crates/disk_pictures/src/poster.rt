@@ -13,9 +13,8 @@ use crate::html::Html;
 use crate::page::DASHES;
 use crate::petscii::Petscii;
 use crate::sentences::Summary;
-use crate::texts::TypeText;
 use disk_layout::{BamView, EntryView, Fault};
-use disk_rescue::{disk_name, entry_name};
+use disk_rescue::{TypeText, disk_name, entry_name};
 use std::fmt::{self, Display, Formatter};
 
 /// The poster's style: that of a light page, without rules that readers of SVG don't know.

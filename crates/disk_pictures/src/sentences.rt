@@ -10,7 +10,6 @@ use crate::drawing::Drawing;
 use crate::html::Html;
 use crate::owners::Owner;
 use crate::sharing::{Two, two_owners};
-use crate::texts::fault_place;
 use d64_image::Place;
 use disk_layout::{BamView, Fault};
 use disk_rescue::entry_name;
@@ -138,7 +137,7 @@ impl Display for Sentence<'_> {
             }
             Some(fault) => {
                 let (begin, end) = words_about(fault);
-                write!(f, "{begin}{}{end}", PlaceText(fault_place(fault)))
+                write!(f, "{begin}{}{end}", PlaceText(fault.place()))
             }
         }
     }

@@ -2,31 +2,13 @@
 ghost use Rattle.std.specs.Prelude.{◌≡◌, ◌≤◌, IfSome, None, Some, if◌then◌else◌};
 ghost use Rattle.disk_layout.specs.Layout.{record_length};
 ghost use Rattle.disk_pictures.specs.Drawings.{file_in};
-ghost use Rattle.disk_pictures.specs.Texts.{has_records, records_in, type_text, verdict_text};
-ghost use Rattle.disk_pictures.specs.Texts.{is_fault_at as fault_at, place_of, type_name as name_of_type};
+ghost use Rattle.disk_pictures.specs.Texts.{has_records, records_in, verdict_text};
+ghost use Rattle.disk_pictures.specs.Texts.{is_fault_at as fault_at};
 
 use crate::drawn_file::DrawnFile;
 use d64_image::Place;
 use disk_layout::{DATA, EntryView, Fault};
 use std::fmt::{self, Display, Formatter};
-
-/// Where a fault is.
-pub(crate) fn fault_place(fault: Fault) -> Place
-    ensures { result ≡ place_of fault }
-{
-    match fault {
-        Fault::BadLink(place)
-        | Fault::Loop(place)
-        | Fault::OwnedTwice(place)
-        | Fault::BadType(place)
-        | Fault::Unclosed(place)
-        | Fault::BadSide(place)
-        | Fault::BadLength(place)
-        | Fault::CountWrong(place)
-        | Fault::MapWrong(place)
-        | Fault::Device(place) => place,
-    }
-}
 
 /// Whether the fault that was found is at this place.
 pub(crate) fn is_fault_at(found: Option<Fault>, place: Place) -> bool
@@ -34,7 +16,7 @@ pub(crate) fn is_fault_at(found: Option<Fault>, place: Place) -> bool
 {
     match found {
         None => false,
-        Some(fault) => place == fault_place(fault),
+        Some(fault) => place == fault.place(),
     }
 }
 
@@ -50,44 +32,6 @@ impl Display for VerdictText {
             None => f.write_str("OK"),
             Some(fault) => write!(f, "{fault}"),
         }
-    }
-}
-
-/// The name of a type, by its number: the low six bits of its byte.
-fn type_name(kind: u8) -> &'static str
-    ensures { result.now ≡ name_of_type kind }
-{
-    match kind {
-        0 => "DEL",
-        1 => "SEQ",
-        2 => "PRG",
-        3 => "USR",
-        4 => "REL",
-        _ => "???",
-    }
-}
-
-/// A type byte as it is printed. A star stands before the type's name if the file isn't closed (bit 7 is 0). A mark
-/// stands after it if the file is locked (bit 6 is 1).
-#[derive(Clone, Copy)]
-pub(crate) struct TypeText {
-    /// The type byte.
-    pub byte: u8,
-    /// The mark of a locked file.
-    pub locked: &'static str,
-}
-
-impl Display for TypeText {
-    ghost output = { λ text. Some (type_text text.locked.now text.byte) };
-
-    fn fmt<W: fmt::Write>(&self, f: &mut Formatter<W>) -> fmt::Result {
-        let open = if self.byte < 0x80 { "*" } else { "" };
-        let locked = if (self.byte >> 6) & 1 == 1 {
-            self.locked
-        } else {
-            ""
-        };
-        write!(f, "{open}{}{locked}", type_name(self.byte % 64))
     }
 }
 

@@ -5,9 +5,8 @@ use Rattle.std.specs.Io.KnownBytes.{Appends}
 use Rattle.std.proofs.KnownBytes.{Appends-nil, Appends-trans}
 use Rattle.std.proofs.lemmas.List.{take_more}
 use Rattle.disk_layout.specs.declared.faults.Fault.{Fault}
-use Rattle.disk_layout.specs.declared.slot.Slot.{Slot}
 use Rattle.d64_image.specs.Images.{Image}
-use Rattle.disk_reports.specs.AllFaults.{AreLines, AreLinks, AreOthers, ArePrinted, AreShown, IsLine, IsListed, fault_line}
+use Rattle.disk_reports.specs.AllFaults.{AreLines, AreLinks, AreOthers, ArePrinted, IsLine, IsListed, fault_line}
 use Rattle.disk_reports.specs.declared.links.Links.{Links}
 
 lines-append : (l : Links) (fs gs : List Fault) (x y : List ℕ) → AreLines l fs x → AreLines l gs y

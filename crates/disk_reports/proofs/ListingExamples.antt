@@ -10,7 +10,8 @@ use Rattle.disk_layout.specs.View.{blocks_free}
 use Rattle.disk_layout.specs.declared.faults.Fault.TheVariants.{Loop, MapWrong}
 use Rattle.disk_layout.specs.declared.slot.Slot.{Slot}
 use Rattle.command_faults.specs.Faults.{command_text}
-use Rattle.disk_reports.specs.Texts.{disk_text, entry_text, listing, quoted, type_text}
+use Rattle.disk_rescue.specs.Types.{type_text}
+use Rattle.disk_reports.specs.Texts.{disk_text, entry_text, listing, quoted}
 use Rattle.disk_reports.specs.Texts.{verdict_text}
 use Rattle.command_faults.specs.declared.faults.CommandFault.TheVariants as faults
 use Rattle.disk_reports.specs.declared.texts.NameForm.TheVariants as names
@@ -29,7 +30,7 @@ fault_of_the_directory_is_told_with_its_place = refl
 
 -- byte 41 (hexadecimal) is a sequential file that isn't closed, and locked; 84 a closed relative one; 85 no type
 pub types_as_they_are_printed :
-    (type_text 65 ++ codes " " ++ type_text 132 ++ codes " " ++ type_text 133 ≡ codes "*SEQ< REL ???")
+    (type_text (codes "<") 65 ++ codes " " ++ type_text (codes "<") 132 ++ codes " " ++ type_text (codes "<") 133 ≡ codes "*SEQ< REL ???")
 types_as_they_are_printed = refl
 
 -- 1F, a space, 7E, 7F and C1 (hexadecimal), then padding and what isn't printed

@@ -14,11 +14,11 @@ use Rattle.disk_layout.specs.Layout.{count_field}
 use Rattle.disk_layout.specs.View.{IsUnpadded, blocks_free}
 use Rattle.disk_layout.specs.declared.slot.Slot.{Slot}
 use Rattle.command_faults.specs.Faults.{IsLoadFault}
+use Rattle.disk_rescue.specs.Types.{type_text}
 use Rattle.disk_reports.specs.Listings.{HasDirectory, IsListFault, IsListed}
 use Rattle.command_faults.specs.declared.faults.CommandFault.{CommandFault}
-use Rattle.command_faults.specs.declared.faults.CommandFault.TheVariants as faults
 use Rattle.disk_reports.specs.declared.texts.NameForm.{NameForm}
-use Rattle.disk_reports.specs.Texts.{disk_text, entry_line, entry_text, free_text, listing, name_text, quoted, type_text}
+use Rattle.disk_reports.specs.Texts.{disk_text, entry_line, entry_text, free_text, listing, name_text, quoted}
 use Rattle.command_faults.proofs.Loads.{by-load}
 
 -- a byte that pads nothing
@@ -47,12 +47,12 @@ quoted-written form padded name rest is =
 
 -- an entry's parts, as they are written one after another
 pub entry-written : (form : NameForm) (s : Slot) (name : List ℕ) → IsUnpadded (slice_range s.bytes 5 21) name
-    → decimal (count_field s) ++ (codes " \"" ++ (name_text form name ++ (codes "\" " ++ type_text (type_byte s)))) ≡
+    → decimal (count_field s) ++ (codes " \"" ++ (name_text form name ++ (codes "\" " ++ type_text (codes "<") (type_byte s)))) ≡
     entry_text form s
 unfolding entry_text
 entry-written form s name is =
     ap (λ t. decimal (count_field s) ++ (codes " " ++ t)) (quoted-written form (slice_range s.bytes 5 21) name
-    (codes " " ++ type_text (type_byte s)) is)
+    (codes " " ++ type_text (codes "<") (type_byte s)) is)
 
 -- the same of a disk's name, id and version
 pub disk-written : (form : NameForm) (bytes : Sector) (name : List ℕ) → IsUnpadded (slice_range bytes 144 160) name

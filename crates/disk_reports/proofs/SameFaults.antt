@@ -5,7 +5,7 @@ use Rattle.d64_image.specs.declared.place.Place.{Place}
 use Rattle.disk_layout.specs.Number.{number_of}
 use Rattle.disk_layout.specs.declared.faults.Fault.{Fault}
 use Rattle.disk_layout.specs.declared.faults.Fault.TheVariants as faults
-use Rattle.disk_reports.specs.Objects.{place_of}
+use Rattle.disk_layout.specs.Number.{place_of}
 
 -- the fault of this number at this sector
 abbrev fault_with : ℕ → Place → Fault

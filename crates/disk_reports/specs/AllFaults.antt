@@ -10,6 +10,7 @@ use Rattle.d64_image.specs.Places.{index_of, places}
 use Rattle.d64_image.specs.declared.place.Place.{Place}
 use Rattle.disk_rescue.specs.Directories.{IsReadSoFar}
 use Rattle.disk_rescue.specs.Names.{name_of}
+use Rattle.disk_layout.specs.Clean.{IsVerdict}
 use Rattle.disk_layout.specs.Directory.{map_place}
 use Rattle.disk_layout.specs.Layout.{IsSound}
 use Rattle.disk_layout.specs.Map.{IsFree, map_count}
@@ -18,7 +19,6 @@ use Rattle.disk_layout.specs.declared.faults.Fault.{Fault}
 use Rattle.disk_layout.specs.declared.faults.Fault.TheVariants as faults
 use Rattle.disk_layout.specs.declared.slot.Slot.{Slot}
 use Rattle.layout_check.specs.Marked.{ones_on}
-use Rattle.disk_reports.specs.Outcomes.{IsVerdict}
 use Rattle.disk_reports.specs.Trails.{IsTrail, Shows}
 use Rattle.disk_reports.specs.declared.links.Links.{Links}
 use Rattle.disk_reports.specs.declared.trail.Trail.{Trail}

@@ -1,13 +1,11 @@
 -- What `list` and `check` find of an image.
-use Rattle.std.specs.Prelude.{◌≡◌, ◌≢◌, ℕ, List, None, Option, Some, length}
+use Rattle.std.specs.Prelude.{◌≡◌, ◌≢◌, ℕ, List, Option, length}
 use Rattle.std.specs.Io.KnownBytes.{Appends}
-use Rattle.d64_image.specs.Images.{Image, sector}
+use Rattle.d64_image.specs.Images.{sector}
 use Rattle.d64_image.specs.Memory.{sectors_in}
 use Rattle.d64_image.specs.declared.place.Place.{Place}
 use Rattle.disk_layout.specs.Directory.{IsDirectory, map_place}
-use Rattle.disk_layout.specs.Clean.{IsClean}
-use Rattle.disk_layout.specs.Fault.{HoldsOfClean, HoldsOfDirectory, nowhere}
-use Rattle.disk_layout.specs.declared.faults.Fault.{Fault}
+use Rattle.disk_layout.specs.Fault.{HoldsOfDirectory, nowhere}
 use Rattle.disk_layout.specs.declared.slot.Slot.{Slot}
 use Rattle.disk_reports.specs.Texts.{listing}
 use Rattle.command_faults.specs.Faults.{IsLoadFault}
@@ -38,11 +36,6 @@ IsListFault image (faults.Layout fault) = (length image ≡ 174848) × HoldsOfDi
 IsListFault image faults.File = HasDirectory image
 IsListFault image faults.NoMemory = length image ≡ 174848
 IsListFault image _ = ⊥
-
--- what is said of an image: that it is clean, or a fault that holds of it
-abbrev pub IsVerdict : Image → Option Fault → Type 0
-IsVerdict img None = IsClean img
-IsVerdict img (Some fault) = HoldsOfClean nowhere img fault
 
 -- why an image isn't checked: its size, the output, or memory
 abbrev pub IsCheckFault : List ℕ → CommandFault → Type 0

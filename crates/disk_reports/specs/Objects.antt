@@ -1,28 +1,14 @@
 -- What is printed of an image as an object of JSON, in one line. Our own.
 use Rattle.std.specs.Prelude.{ℕ, List, [], ◌∷◌, ◌++◌, None, Option, Some, codes, decimal, flat_map, slice_range}
 use Rattle.d64_image.specs.Images.{Sector}
-use Rattle.d64_image.specs.declared.place.Place.{Place}
 use Rattle.line_text.specs.bytes.Texts.{text_of}
+use Rattle.disk_layout.specs.Number.{place_of}
 use Rattle.disk_layout.specs.Texts.{fault_text}
 use Rattle.disk_layout.specs.View.{blocks_free}
 use Rattle.disk_layout.specs.declared.faults.Fault.{Fault}
-use Rattle.disk_layout.specs.declared.faults.Fault.TheVariants as faults
 use Rattle.disk_layout.specs.declared.slot.Slot.{Slot}
 use Rattle.disk_reports.specs.Json.{json_string}
 use Rattle.disk_rescue.specs.Names.{disk_name, name_of}
-
--- where a fault is
-abbrev pub place_of : Fault → Place
-place_of (faults.BadLink p) = p
-place_of (faults.Loop p) = p
-place_of (faults.OwnedTwice p) = p
-place_of (faults.BadType p) = p
-place_of (faults.Unclosed p) = p
-place_of (faults.BadSide p) = p
-place_of (faults.BadLength p) = p
-place_of (faults.CountWrong p) = p
-place_of (faults.MapWrong p) = p
-place_of (faults.Device p) = p
 
 -- bytes of the disk as a string: the text that can be typed for them
 abbrev pub typed : List ℕ → List ℕ

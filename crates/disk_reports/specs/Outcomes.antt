@@ -4,9 +4,9 @@ use Rattle.std.specs.Io.KnownBytes.{Appends}
 use Rattle.d64_image.specs.Images.{Image, sector}
 use Rattle.d64_image.specs.Memory.{sectors_in}
 use Rattle.d64_image.specs.declared.place.Place.{Place}
-use Rattle.disk_layout.specs.Clean.{IsClean}
+use Rattle.disk_layout.specs.Clean.{IsVerdict}
 use Rattle.disk_layout.specs.Directory.{IsDirectory, map_place}
-use Rattle.disk_layout.specs.Fault.{HoldsOfClean, HoldsOfDirectory, nowhere}
+use Rattle.disk_layout.specs.Fault.{HoldsOfDirectory, nowhere}
 use Rattle.disk_layout.specs.declared.faults.Fault.{Fault}
 use Rattle.disk_layout.specs.declared.slot.Slot.{Slot}
 use Rattle.disk_reports.specs.Objects.{object_text}
@@ -14,11 +14,6 @@ use Rattle.disk_reports.specs.Trails.{IsTrail, Shows}
 use Rattle.command_faults.specs.declared.faults.CommandFault.{CommandFault}
 use Rattle.command_faults.specs.declared.faults.CommandFault.TheVariants as faults
 use Rattle.disk_reports.specs.declared.trail.Trail.{Trail}
-
--- what a check of the image finds: a fault that holds, or none of a clean image
-abbrev pub IsVerdict : Image → Option Fault → Type 0
-IsVerdict img None = IsClean img
-IsVerdict img (Some fault) = HoldsOfClean nowhere img fault
 
 -- what the links of the entry come to shows the fault, or has the sector at which it is
 abbrev pub IsConcerned : Image → Fault → Slot → Type 0

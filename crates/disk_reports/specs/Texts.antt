@@ -1,8 +1,7 @@
 -- What is printed of an image, byte by byte. A listing has the form of a drive's directory (1541 User's Guide,
 -- directory); the form of a fault is our own.
-use Rattle.std.specs.Prelude.{ℕ, ◌%◌, ◌++◌, [], not, ◌&&◌, List, Option, Some, None, if◌then◌else◌, codes, decimal}
-use Rattle.std.specs.Prelude.{flat_map, map, nat_eq, nat_le, nat_lt, slice_range, take_while}
-use Rattle.std.specs.Int.{bit_at}
+use Rattle.std.specs.Prelude.{ℕ, ◌++◌, not, ◌&&◌, List, Option, Some, None, if◌then◌else◌, codes, decimal}
+use Rattle.std.specs.Prelude.{flat_map, map, nat_eq, nat_le, slice_range, take_while}
 use Rattle.d64_image.specs.Images.{Sector}
 use Rattle.disk_layout.specs.Directory.{type_byte}
 use Rattle.disk_layout.specs.Layout.{count_field}
@@ -10,6 +9,7 @@ use Rattle.disk_layout.specs.Texts.{fault_text}
 use Rattle.disk_layout.specs.View.{blocks_free}
 use Rattle.disk_layout.specs.declared.faults.Fault.{Fault}
 use Rattle.disk_layout.specs.declared.slot.Slot.{Slot}
+use Rattle.disk_rescue.specs.Types.{type_text}
 use Rattle.line_text.specs.petscii.Quoted.{one_line}
 use Rattle.disk_reports.specs.declared.texts.NameForm.{NameForm}
 use Rattle.disk_reports.specs.declared.texts.NameForm.TheVariants as names
@@ -32,28 +32,11 @@ name_text (names.Text set) bytes = one_line set bytes
 unfoldable pub quoted : NameForm → List ℕ → List ℕ
 quoted form padded = codes "\"" ++ (name_text form (take_while (λ b. not (nat_eq b 160)) padded) ++ codes "\"")
 
--- the types by their numbers, the low six bits of a type byte
-abbrev pub type_name : ℕ → List ℕ
-type_name kind =
-    if nat_eq kind 0 then codes "DEL"
-    else if nat_eq kind 1 then codes "SEQ"
-    else if nat_eq kind 2 then codes "PRG"
-    else if nat_eq kind 3 then codes "USR"
-    else if nat_eq kind 4 then codes "REL"
-    else codes "???"
-
--- a type: a star stands before it if the file isn't closed, and < after it if it is locked
-abbrev pub type_text : ℕ → List ℕ
-type_text byte =
-    (if nat_lt byte 128 then codes "*" else [])
-    ++ type_name (byte % 64)
-    ++ (if nat_eq (bit_at byte 6) 1 then codes "<" else [])
-
 -- an entry: its block count as stored, its name, its type
 unfoldable pub entry_text : NameForm → Slot → List ℕ
 entry_text form s =
     decimal (count_field s)
-    ++ (codes " " ++ (quoted form (slice_range s.bytes 5 21) ++ (codes " " ++ type_text (type_byte s))))
+    ++ (codes " " ++ (quoted form (slice_range s.bytes 5 21) ++ (codes " " ++ type_text (codes "<") (type_byte s))))
 
 -- the line of an entry
 abbrev pub entry_line : NameForm → Slot → List ℕ

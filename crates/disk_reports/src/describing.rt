@@ -1,31 +1,18 @@
 //! An image described as an object of JSON.
 ghost use Rattle.std.specs.Prelude.{◌≡◌, ◌≢◌, IfErr, IfOk, OnOk};
 ghost use Rattle.std.specs.Io.KnownBytes.{Appends};
-ghost use Rattle.d64_image.specs.Memory.{disk_image};
 ghost use Rattle.disk_reports.specs.Objects.{refused_text};
-ghost use Rattle.disk_reports.specs.Outcomes.{IsDescribeFault, IsDescribed, IsVerdict};
+ghost use Rattle.disk_reports.specs.Outcomes.{IsDescribeFault, IsDescribed};
 ghost use Rattle.command_faults.specs.declared.faults.CommandFault.TheVariants as faults;
 
 use crate::concerned::list_files;
 use crate::objects::{put_object, put_refused};
 use arrayvec::ArrayVec;
 use command_faults::{CommandFault, load};
-use d64_image::MemDisk;
 use disk_layout::{Fault, map_place};
-use layout_check::check;
+use layout_check::verdict;
 use std::alloc::Global;
 use std::io::Write;
-
-/// What a check of the disk finds; None if it is clean. Its survey isn't kept.
-pub(crate) fn verdict(disk: &mut MemDisk) -> Option<Fault>
-    ensures verdict { IsVerdict (disk_image disk.old) result }
-    ensures same { disk_image disk.new ≡ disk_image disk.old }
-{
-    match check(disk) {
-        Ok(_) => None,
-        Err(fault) => Some(fault),
-    }
-}
 
 /// Prints an object of JSON, in a line of its own, that describes the image: its name and size, and what a check finds,
 /// as `check` prints it. Then follow the track and the sector of a fault, as numbers, and the names of the files that the

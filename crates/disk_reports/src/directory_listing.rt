@@ -1,9 +1,6 @@
 //! The directory of an image, as it is printed.
 ghost use Rattle.std.specs.Prelude.{◌≡◌, ◌≢◌, IfErr, IfOk, OnOk, flat_map};
 ghost use Rattle.std.specs.Io.KnownBytes.{Appends};
-ghost use Rattle.d64_image.specs.Images.{sector};
-ghost use Rattle.d64_image.specs.Memory.{disk_image};
-ghost use Rattle.disk_layout.specs.Directory.{map_place as directory_map};
 ghost use Rattle.disk_reports.specs.Listings.{IsListFault, IsListed};
 ghost use Rattle.disk_reports.specs.Texts.{entry_line, listing};
 ghost use Rattle.command_faults.specs.declared.faults.CommandFault.TheVariants as faults;
@@ -11,22 +8,9 @@ ghost use Rattle.command_faults.specs.declared.faults.CommandFault.TheVariants a
 use crate::texts::{DiskText, EntryText, FreeText, NameForm};
 use arrayvec::ArrayVec;
 use command_faults::{CommandFault, flush, load, put_line};
-use d64_image::{MemDisk, Sectors};
 use disk_layout::{BamView, Slot, map_place, read_directory};
 use std::alloc::Global;
 use std::io::Write;
-
-/// The bytes of 18/0. A disk in memory gives them always.
-fn map_of(disk: &mut MemDisk) -> Result<[u8; 256], CommandFault>
-    ensures ok { IfOk result (λ bytes. bytes ≡ sector (disk_image disk.old) directory_map) }
-    ensures err { IfErr result (λ _. ⊥) }
-{
-    let mut map = [0; 256];
-    if disk.read(map_place(), &mut map).is_err() {
-        return Err(CommandFault::Device);
-    }
-    Ok(map)
-}
 
 /// Prints a line for each of these entries.
 fn put_entries<W: Write>(out: &mut W, form: NameForm, slots: &[Slot]) -> Result<(), CommandFault>
@@ -80,6 +64,6 @@ pub fn list_image<W: Write>(
     if let Err(fault) = read_directory(&mut disk, &mut slots) {
         return Err(CommandFault::Layout(fault));
     }
-    let map = map_of(&mut disk)?;
-    put_directory(out, form, &BamView::new(&map), slots.as_slice())
+    let map = BamView::new(disk.sector(map_place()));
+    put_directory(out, form, &map, slots.as_slice())
 }

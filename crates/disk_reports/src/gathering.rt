@@ -1,13 +1,11 @@
 //! The faults of a disk that hold, in the order of the disk.
 ghost use Rattle.std.specs.Prelude.{◌≡◌, ◌≤◌, ◌↔◌, ◌∷◌, [], IfErr, IfOk, IsTrue, OnOk, length};
 ghost use Rattle.disk_reports.specs.AllFaults.{AreOthers, HoldsToo, IsGathered, faults_at};
-ghost use Rattle.disk_reports.specs.Objects.{place_of};
-ghost use Rattle.disk_layout.specs.Number.{number_of};
+ghost use Rattle.disk_layout.specs.Number.{number_of, place_of};
 ghost use Rattle.command_faults.specs.declared.faults.CommandFault.TheVariants as faults;
 
 use crate::holding::holds;
 use crate::links::Links;
-use crate::objects::fault_place;
 use crate::showing;
 use command_faults::CommandFault;
 use d64_image::{Place, SECTORS};
@@ -42,7 +40,7 @@ fn same_number(one: Fault, other: Fault) -> bool
 fn same_place(one: Fault, other: Fault) -> bool
     ensures { IsTrue result ↔ (place_of one ≡ place_of other) }
 {
-    showing::is_same(fault_place(one), fault_place(other))
+    showing::is_same(one.place(), other.place())
 }
 
 /// Whether two faults are the same.

@@ -1,28 +1,18 @@
 //! What is wrong with the layout of an image, as it is printed.
 ghost use Rattle.std.specs.Prelude.{◌≡◌, ◌≢◌, IfErr, IfOk, OnOk, length};
 ghost use Rattle.std.specs.Io.KnownBytes.{Appends};
-ghost use Rattle.d64_image.specs.Memory.{disk_image, sectors_in};
+ghost use Rattle.d64_image.specs.Memory.{sectors_in};
 ghost use Rattle.disk_layout.specs.declared.faults.Fault.{Fault};
-ghost use Rattle.disk_reports.specs.Listings.{IsCheckFault, IsVerdict};
+ghost use Rattle.disk_layout.specs.Clean.{IsVerdict};
+ghost use Rattle.disk_reports.specs.Listings.{IsCheckFault};
 ghost use Rattle.disk_reports.specs.Texts.{verdict_text};
 ghost use Rattle.command_faults.specs.declared.faults.CommandFault.TheVariants as faults;
 
 use command_faults::{CommandFault, flush, load, put_line};
-use d64_image::MemDisk;
 use disk_layout::Fault;
-use layout_check::check;
+use layout_check::verdict;
 use std::alloc::Global;
 use std::io::Write;
-
-/// The fault that a check of the disk finds; None if it is clean. Its survey isn't kept.
-fn verdict(disk: &mut MemDisk) -> Option<Fault>
-    ensures { IsVerdict (disk_image disk.old) result }
-{
-    match check(disk) {
-        Ok(_) => None,
-        Err(fault) => Some(fault),
-    }
-}
 
 /// Prints what a check found on a line of its own.
 fn put_verdict<W: Write>(out: &mut W, found: Option<Fault>) -> Result<(), CommandFault>

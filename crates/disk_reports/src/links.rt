@@ -1,7 +1,6 @@
 //! What the links of a disk come to, of one that is damaged too.
-ghost use Rattle.std.specs.Prelude.{◌≡◌, ◌↔◌, IfErr, IfOk, IsTrue, length};
+ghost use Rattle.std.specs.Prelude.{◌≡◌, IfErr, IfOk, length};
 ghost use Rattle.d64_image.specs.Memory.{disk_image};
-ghost use Rattle.disk_layout.specs.Layout.{IsSound};
 ghost use Rattle.disk_reports.specs.AllFaults.{AreFollowed, AreLinks};
 ghost use Rattle.command_faults.specs.declared.faults.CommandFault.TheVariants as faults;
 
@@ -12,7 +11,7 @@ use command_faults::CommandFault;
 use d64_image::MemDisk;
 use disk_layout::{Fault, Slot, map_place};
 use disk_rescue::{DirectorySectors, read_so_far};
-use layout_check::survey;
+use layout_check::unsoundness;
 use std::alloc::Global;
 
 /// What the links of a disk come to.
@@ -28,14 +27,6 @@ pub(crate) struct Links {
     pub(crate) header: [u8; 256],
     /// Whether the disk is sound, so that it is known who owns which sector.
     pub(crate) is_sound: bool,
-}
-
-/// Whether the disk is sound.
-fn is_sound(disk: &mut MemDisk) -> bool
-    ensures sound { IsTrue result ↔ IsSound (disk_image disk.old) }
-    ensures same { disk_image disk.new ≡ disk_image disk.old }
-{
-    !survey(disk).is_err()
 }
 
 /// What the links of these entries come to. The only error is `NoMemory`.
@@ -68,7 +59,7 @@ pub(crate) fn follow_all(alloc: Global, disk: &mut MemDisk) -> Result<Links, Com
     let mut entries = ArrayVec::new();
     let end = read_so_far(disk, &mut directory, &mut entries);
     let header = *disk.sector(map_place());
-    let is_sound = is_sound(disk);
+    let is_sound = unsoundness(disk).is_none();
     let trails = follow_entries(alloc, disk, entries.as_slice())?;
     Ok(Links {
         directory,

@@ -6,13 +6,13 @@ ghost use Rattle.disk_reports.specs.AllFaults.{AreListed, ArePrinted, IsListed};
 ghost use Rattle.disk_reports.specs.Outcomes.{IsDescribeFault};
 ghost use Rattle.command_faults.specs.declared.faults.CommandFault.TheVariants as faults;
 
-use crate::describing::verdict;
 use crate::gathering::find_others;
 use crate::lines::put_lines;
 use crate::links::{Links, follow_all};
 use command_faults::{CommandFault, load};
 use d64_image::MemDisk;
 use disk_layout::Fault;
+use layout_check::verdict;
 use std::alloc::Global;
 use std::io::{self, Write};
 

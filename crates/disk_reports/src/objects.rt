@@ -2,31 +2,12 @@
 ghost use Rattle.std.specs.Prelude.{◌≡◌, OnOk, flat_map};
 ghost use Rattle.std.specs.Io.KnownBytes.{Appends};
 ghost use Rattle.disk_reports.specs.Objects.{disk_name_text, disk_text, files_text, found_text, head_text, names_text, next_name};
-ghost use Rattle.disk_reports.specs.Objects.{object_text, place_of, refused_head, refused_text, size_text, verdict_text};
+ghost use Rattle.disk_reports.specs.Objects.{object_text, refused_head, refused_text, size_text, verdict_text};
 
 use crate::json::{put_string, put_typed};
-use d64_image::Place;
 use disk_layout::{BamView, Fault, Slot};
 use disk_rescue::{disk_name, entry_name};
 use std::io::{self, Write};
-
-/// Where a fault is.
-pub(crate) fn fault_place(fault: Fault) -> Place
-    ensures { result ≡ place_of fault }
-{
-    match fault {
-        Fault::BadLink(place)
-        | Fault::Loop(place)
-        | Fault::OwnedTwice(place)
-        | Fault::BadType(place)
-        | Fault::Unclosed(place)
-        | Fault::BadSide(place)
-        | Fault::BadLength(place)
-        | Fault::CountWrong(place)
-        | Fault::MapWrong(place)
-        | Fault::Device(place) => place,
-    }
-}
 
 /// Writes what an object begins with.
 fn put_head<W: Write>(out: &mut W, name: &[u8]) -> io::Result<()>
@@ -43,7 +24,7 @@ fn put_found<W: Write>(out: &mut W, found: Option<Fault>) -> io::Result<()>
     match found {
         None => out.write_all(b"\"OK\",\"track\":null,\"sector\":null"),
         Some(fault) => {
-            let place = fault_place(fault);
+            let place = fault.place();
             let (track, sector) = (place.track(), place.sector());
             write!(out, "\"{fault}\",\"track\":{track},\"sector\":{sector}")
         }

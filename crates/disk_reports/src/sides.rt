@@ -9,33 +9,29 @@ ghost use Rattle.layout_check.specs.Sides.{NamesEach};
 
 use crate::slots::{first_side, is_relative};
 use arrayvec::ArrayVec;
-use d64_image::{MemDisk, Place, Sectors};
+use d64_image::{MemDisk, Place};
 use disk_layout::{EntryView, Fault, MOST_SIDES, POINTERS, SideView, Slot, side_bytes};
 
 /// The sector to which side sector `number`, from 0, links, if it lists that one as the next; otherwise None.
-fn next_of(disk: &mut MemDisk, number: usize, place: Place) -> Option<Place>
+fn next_of(disk: &MemDisk, number: usize, place: Place) -> Option<Place>
     requires few { number < 5 }
-    ensures next { MatchOption result ((q : Place) → ¬ (NamesNext (sector_at (disk_image disk.old) place) number q))
-        (NamesNext (sector_at (disk_image disk.old) place) number) }
-    ensures same { disk_image disk.new ≡ disk_image disk.old }
+    ensures { MatchOption result ((q : Place) → ¬ (NamesNext (sector_at (disk_image disk.now) place) number q))
+        (NamesNext (sector_at (disk_image disk.now) place) number) }
 {
-    let mut bytes = [0; 256];
-    let _ = disk.read(place, &mut bytes);
-    SideView::new(&bytes).next_listed(number)
+    SideView::new(disk.sector(place)).next_listed(number)
 }
 
 /// Fills `places` with the sectors to which side sectors lead from `first` on: so many, or fewer if one of them doesn't
 /// link to the one that it lists as the next. A sector may come several times.
 fn follow_links(
-    disk: &mut MemDisk,
+    disk: &MemDisk,
     first: Place,
     count: usize,
     places: &mut ArrayVec<Place, MOST_SIDES>,
 )
     requires some { 0 < count }
     requires few { count ≤ 6 }
-    ensures linked { AreLinked (disk_image disk.old) first count places.new.items }
-    ensures same { disk_image disk.new ≡ disk_image disk.old }
+    ensures { AreLinked (disk_image disk.now) first count places.new.items }
 {
     places.clear();
     let mut at = first;
@@ -53,16 +49,15 @@ fn follow_links(
 
 /// Fills `sides` with the side sectors of an entry whose chain has these blocks and ends so.
 pub(crate) fn follow_sides(
-    disk: &mut MemDisk,
+    disk: &MemDisk,
     slot: &Slot,
     blocks: &[Place],
     end: Option<Fault>,
     sides: &mut ArrayVec<Place, MOST_SIDES>,
 )
-    requires reached { IsReachedBy (disk_image disk.old) slot.now blocks.now end }
+    requires reached { IsReachedBy (disk_image disk.now) slot.now blocks.now end }
     requires few { length blocks.now ≤ 720 }
-    ensures sides { AreSides (disk_image disk.old) slot.now blocks.now end sides.new.items }
-    ensures same { disk_image disk.new ≡ disk_image disk.old }
+    ensures { AreSides (disk_image disk.now) slot.now blocks.now end sides.new.items }
 {
     sides.clear();
     if !is_relative(slot) {
@@ -97,7 +92,7 @@ fn add_listed(bytes: &[u8; 256], count: usize, all: &mut ArrayVec<Place, MOST_SI
 
 /// Whether this side sector, the one with this number from 0, is wrong by itself.
 fn is_wrong(
-    disk: &mut MemDisk,
+    disk: &MemDisk,
     slot: &Slot,
     blocks: &[Place],
     sides: &[Place],
@@ -107,23 +102,21 @@ fn is_wrong(
     requires there { number < length sides.now }
     requires few { length blocks.now ≤ 720 }
     requires fits { length sides.now ≤ sides_for (length blocks.now) }
-    ensures wrong { IsTrue result ↔ ¬ (IsIntact (disk_image disk.old) slot.now blocks.now sides.now number side) }
-    ensures same { disk_image disk.new ≡ disk_image disk.old }
+    ensures { IsTrue result ↔ ¬ (IsIntact (disk_image disk.now) slot.now blocks.now sides.now number side) }
 {
-    let mut bytes = [0; 256];
-    let _ = disk.read(side, &mut bytes);
+    let bytes = disk.sector(side);
     let mut all = ArrayVec::new();
     let _ = all.try_extend_from_slice(sides);
-    if !add_listed(&bytes, blocks.len().div_ceil(POINTERS), &mut all) {
+    if !add_listed(bytes, blocks.len().div_ceil(POINTERS), &mut all) {
         return true;
     }
     let length = EntryView::new(&slot.bytes).record_length();
-    bytes != side_bytes(number as u8, blocks, all.as_slice(), length)
+    *bytes != side_bytes(number as u8, blocks, all.as_slice(), length)
 }
 
 /// Fills `wrong` with those of the side sectors that are wrong by themselves.
 pub(crate) fn find_wrong(
-    disk: &mut MemDisk,
+    disk: &MemDisk,
     slot: &Slot,
     blocks: &[Place],
     sides: &[Place],
@@ -131,8 +124,7 @@ pub(crate) fn find_wrong(
 )
     requires few { length blocks.now ≤ 720 }
     requires fits { length sides.now ≤ sides_for (length blocks.now) }
-    ensures wrong { AreWrong (disk_image disk.old) slot.now blocks.now sides.now wrong.new.items }
-    ensures same { disk_image disk.new ≡ disk_image disk.old }
+    ensures { AreWrong (disk_image disk.now) slot.now blocks.now sides.now wrong.new.items }
 {
     wrong.clear();
     for (number, &side) in sides.iter().enumerate() {

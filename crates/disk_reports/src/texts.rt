@@ -1,9 +1,9 @@
 //! What is printed of a disk: its names and entries.
 ghost use Rattle.std.specs.Prelude.{◌≡◌, Some, map};
-ghost use Rattle.disk_reports.specs.Texts.{disk_text, entry_text, free_text, name_text, shown, type_text};
-ghost use Rattle.disk_reports.specs.Texts.{type_name as name_of_type};
+ghost use Rattle.disk_reports.specs.Texts.{disk_text, entry_text, free_text, name_text, shown};
 
 use disk_layout::{BamView, EntryView, Slot};
+use disk_rescue::TypeText;
 use line_text::{CharacterSet, OneLine};
 use std::fmt::{self, Display, Formatter};
 
@@ -54,35 +54,6 @@ impl Display for NameText<'_> {
     }
 }
 
-/// The name of a type, by its number: the low six bits of its byte.
-fn type_name(kind: u8) -> &'static str
-    ensures { result.now ≡ name_of_type kind }
-{
-    match kind {
-        0 => "DEL",
-        1 => "SEQ",
-        2 => "PRG",
-        3 => "USR",
-        4 => "REL",
-        _ => "???",
-    }
-}
-
-/// A type byte as it is printed: a star before the type's name if the file isn't closed (bit 7 is 0), and `<` after it if
-/// the file is locked (bit 6 is 1).
-#[derive(Clone, Copy)]
-struct TypeText(u8);
-
-impl Display for TypeText {
-    ghost output = { λ text. Some (type_text text.0) };
-
-    fn fmt<W: fmt::Write>(&self, f: &mut Formatter<W>) -> fmt::Result {
-        let open = if self.0 < 0x80 { "*" } else { "" };
-        let locked = if (self.0 >> 6) & 1 == 1 { "<" } else { "" };
-        write!(f, "{open}{}{locked}", type_name(self.0 % 64))
-    }
-}
-
 /// An entry as it is printed: its block count as stored, its name between quotation marks in this form, its type.
 #[derive(Clone, Copy)]
 pub(crate) struct EntryText<'a> {
@@ -98,12 +69,11 @@ impl Display for EntryText<'_> {
         let form = self.form;
         let bytes = entry.name();
         let name = NameText { form, bytes };
-        write!(
-            f,
-            "{} \"{name}\" {}",
-            entry.block_count(),
-            TypeText(entry.type_byte())
-        )
+        let kind = TypeText {
+            byte: entry.type_byte(),
+            locked: "<",
+        };
+        write!(f, "{} \"{name}\" {kind}", entry.block_count())
     }
 }
 

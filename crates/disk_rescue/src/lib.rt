@@ -18,4 +18,4 @@ pub use owning::owners_of;
 pub use reaching::{Reach, reach_file};
 pub use sharing::Owners;
 pub use sizes::{error_at, first_tracks};
-pub use types::type_name;
+pub use types::{TypeText, type_name};

@@ -1,30 +1,13 @@
 //! An empty disk.
-ghost use Rattle.std.specs.Prelude.{◌≡◌, ◌≤◌, ◌++◌, ◌∷◌, [], IfErr, IfOk, length, replicate};
+ghost use Rattle.std.specs.Prelude.{◌≡◌, ◌≤◌, IfErr, IfOk, length};
 ghost use Rattle.d64_image.specs.Memory.{disk_image};
 ghost use Rattle.d64_image.specs.declared.faults.ImageFault.TheVariants.{NoMemory};
-ghost use Rattle.disk_layout.specs.Blank.{names_of};
 ghost use Rattle.file_changes.specs.Formats.{Formats, IsNewDisk, empty_directory};
 
 use d64_image::{DeviceFault, ImageFault, MemDisk, Sectors};
-use disk_layout::{directory_start, map_place, padded_name};
+use disk_layout::{blank_header, directory_start, map_place};
 use layout_check::repair;
 use std::alloc::Global;
-
-/// 18/0 with no sector free: what stands before the map, 140 bytes 0, the name and the id.
-fn header_bytes(name: &[u8], id: [u8; 2]) -> [u8; 256]
-    requires { length name.now ≤ 16 }
-    ensures { result ≡ (18 ∷ 1 ∷ 65 ∷ 0 ∷ []) ++ (replicate 140 0 ++ names_of name.now id) }
-{
-    let mut bytes = [0; 256];
-    bytes[0] = 18;
-    bytes[1] = 1;
-    bytes[2] = b'A';
-    bytes[0xA0..0xAB].copy_from_slice(&[
-        0xA0, 0xA0, id[0], id[1], 0xA0, b'2', b'A', 0xA0, 0xA0, 0xA0, 0xA0,
-    ]);
-    bytes[0x90..0xA0].copy_from_slice(&padded_name(name));
-    bytes
-}
 
 /// 18/1 as the only sector of a directory without an entry.
 fn directory_bytes() -> [u8; 256]
@@ -44,7 +27,7 @@ pub fn format_disk<D: Sectors>(disk: &mut D, name: &[u8], id: [u8; 2]) -> Result
     requires name { length name.now ≤ 16 }
     ensures { Formats D.history disk.old disk.new name.now id result }
 {
-    disk.write(map_place(), &header_bytes(name, id))?;
+    disk.write(map_place(), &blank_header(name, id))?;
     disk.write(directory_start(), &directory_bytes())?;
     match repair(disk) {
         Ok(_) => Ok(()),

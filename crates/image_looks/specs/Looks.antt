@@ -7,7 +7,8 @@ use Rattle.disk_layout.specs.declared.faults.Fault.{Fault}
 use Rattle.disk_pictures.specs.Outcomes.{IsMapPrinted, IsPictureFault, IsPicturePrinted, IsPosterPrinted}
 use Rattle.disk_pictures.specs.Views.{AreFreePrinted, IsSectorPrinted, IsViewFault}
 use Rattle.disk_reports.specs.AllFaults.{AreListed}
-use Rattle.disk_reports.specs.Listings.{IsCheckFault, IsListFault, IsListed, IsVerdict}
+use Rattle.disk_layout.specs.Clean.{IsVerdict}
+use Rattle.disk_reports.specs.Listings.{IsCheckFault, IsListFault, IsListed}
 use Rattle.disk_reports.specs.Outcomes.{IsDescribeFault}
 use Rattle.disk_reports.specs.Texts.{verdict_text}
 use Rattle.keeper_commands.specs.Printed.{AreBytesTaken, AreRecordsTaken as AreClosedTaken, AreUnclosedTaken, IsBytesFault, IsBytesPart, IsRecordsFault, IsRecordsPart, IsUnclosedFault, IsUnclosedPart}

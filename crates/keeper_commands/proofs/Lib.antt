@@ -29,5 +29,6 @@ pub mod Returned
 pub mod SameRepairs
 pub mod SeveralColumns
 pub mod ShopFiles
+pub mod SoundRecords
 pub mod TextGrown
 pub mod TextStored

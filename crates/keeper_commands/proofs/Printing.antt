@@ -1,15 +1,11 @@
--- A record that is there is read from a disk in memory, and its line is printed behind the others.
-use Rattle.std.proofs.Common.{◌≡◌, ◌≤◌, ◌+◌, ◌-◌, ◌++◌, ◌⊎◌, inl, inr, ℕ, suc, List, [], Option, Some, Result, Ok}
+-- A record that is there is read unless the device failed, and its line is printed behind the others.
+use Rattle.std.proofs.Common.{◌≡◌, ◌≤◌, ◌+◌, ◌-◌, ◌++◌, ◌⊎◌, inl, inr, ℕ, suc, List, [], Option, Result, Ok}
 use Rattle.std.proofs.Common.{Err, true, false, length, get_or, refl, subst, sym, ap, ◌∙◌, arith}
-use Rattle.std.specs.Prelude.{IfErr, OnOk, is_err, slice_get}
+use Rattle.std.specs.Prelude.{IfErr, OnOk, is_err}
 use Rattle.std.specs.Io.KnownBytes.{Appends}
 use Rattle.std.proofs.KnownBytes.{Appends-trans}
 use Rattle.std.proofs.lemmas.List.{append_assoc}
-use Rattle.std.proofs.lemmas.Option.{get_or_from_slice_get}
-use Rattle.d64_image.proofs.Told.{memory-never}
 use Rattle.d64_image.specs.History.{Failed, History}
-use Rattle.d64_image.specs.Memory.{memory}
-use Rattle.d64_image.specs.declared.mem_disk.MemDisk.{MemDisk}
 use Rattle.line_text.specs.bytes.Texts.{record_line}
 use Rattle.rel_records.specs.Faults.{TellsRelFault}
 use Rattle.rel_records.specs.Written.{IsAbsent}
@@ -52,30 +48,9 @@ read-fails S (Err rel.Full) a b rs number tells told absent low high err =
 read-fails S (Err rel.Exists) a b rs number tells told absent low high err =
     absurd (other-no rel.Exists (λ e. cc) (λ e. cc) told)
 
--- a disk in memory gives each record that is there
-read-done : (r : Result Unit RelFault) (a b : MemDisk) (rs : List (List ℕ)) (number : ℕ)
-    → TellsRelFault memory a b r
-    → IfErr r (λ fault. (fault ≡ rel.NotPresent) ⊎ (fault ≡ rel.Device)) → IfErr r (λ fault. fault ≡ rel.NotPresent
-    → IsAbsent rs number)
-    → 1 ≤ number → number ≤ length rs → is_err r ≡ true → ⊥
-read-done r a b rs number tells told absent low high err =
-    memory-never a b (read-fails memory r a b rs number tells told absent low high err)
-
-pub read-had : (r : Result Unit RelFault) (a b : MemDisk) (rs : List (List ℕ)) (number : ℕ)
-    → TellsRelFault memory a b r
-    → IfErr r (λ fault. (fault ≡ rel.NotPresent) ⊎ (fault ≡ rel.Device)) → IfErr r (λ fault. fault ≡ rel.NotPresent
-    → IsAbsent rs number)
-    → 1 ≤ number → number ≤ length rs → is_err r ≡ false
-read-had (Ok x) a b rs number tells told absent low high = refl
-read-had (Err fault) a b rs number tells told absent low high =
-    absurd (read-done (Err fault) a b rs number tells told absent low high refl)
-
 pub not-err : {T E P : Type 0} (r : Result T E) → is_err r ≡ false → OnOk r P → P
 not-err (Ok x) e p = p
 not-err (Err x) e p = absurd (cc)
-
-pub got : (rs : List (List ℕ)) (i : ℕ) (x : List ℕ) → slice_get rs i ≡ Some x → get_or rs i [] ≡ x
-got rs i x e = get_or_from_slice_get rs i x [] e
 
 -- what is kept of that which was kept, with something behind it
 hands-more : (a b c : Option (List ℕ)) (all held kept line : List ℕ) → HandsOn a b all held → HandsOn b c held kept

@@ -1,5 +1,5 @@
 -- What was printed of a file of an image. All of it is our own.
-use Rattle.std.specs.Prelude.{◌≡◌, ◌≢◌, ◌⊎◌, ◌-◌, ℕ, List, [], IfErr, None, OnErr, OnOk, Option, Result, Some, get_or, length}
+use Rattle.std.specs.Prelude.{◌≡◌, ◌≢◌, ◌⊎◌, ℕ, List, None, Option, Some, length}
 use Rattle.std.specs.Io.KnownBytes.{Appends}
 use Rattle.d64_image.specs.Images.{Image}
 use Rattle.d64_image.specs.Memory.{sectors_in}
@@ -8,13 +8,9 @@ use Rattle.damaged_files.specs.cut.Told.{IsToldOfImage}
 use Rattle.disk_layout.specs.Layout.{File, record_length}
 use Rattle.disk_layout.specs.Records.{records}
 use Rattle.disk_layout.specs.declared.faults.Fault.{Fault}
-use Rattle.rel_records.specs.File.{OfItsFile}
-use Rattle.rel_records.specs.declared.rel_file.RelFile.{RelFile}
-use Rattle.rel_records.specs.declared.reading.record_order.LastBlock.{LastBlock}
-use Rattle.rel_records.specs.reading.Kept.{IsKept}
 use Rattle.command_faults.specs.Outputs.{HandsPart}
 use Rattle.keeper_commands.specs.Bytes.{HasFile, HasNoFile, file_bytes}
-use Rattle.keeper_commands.specs.Forms.{bytes_as, form_line, records_as}
+use Rattle.keeper_commands.specs.Forms.{bytes_as, records_as}
 use Rattle.keeper_commands.specs.Records.{HasNoReached, HasNoRecordFile, IsReachedFile, IsRecordFile, records_of}
 use Rattle.command_faults.specs.declared.faults.CommandFault.{CommandFault}
 use Rattle.command_faults.specs.declared.faults.CommandFault.TheVariants as faults
@@ -48,15 +44,6 @@ pub record AreReachedPrinted {W : Type 0} (contents : W → Option (List ℕ)) (
   pub printed : Appends (contents old) (contents new)
       (records_as form (records_of (record_length file.slot) (file_bytes img file.blocks file.last)))
 
--- how the printing of the records of a disk that isn't sound ends: never with all done
-abbrev pub IsReachedEnd : {W : Type 0} → (W → Option (List ℕ)) → RecordForm → Image → (name : List ℕ) → W → W → CommandFault
-    → Type 0
-IsReachedEnd contents form img name old new (faults.Layout fault) =
-    (HasNoReached img name fault × (new ≡ old)) ⊎ AreReachedPrinted contents form img name fault old new
-IsReachedEnd contents form img name old new faults.NoMemory = new ≡ old
-IsReachedEnd contents form img name old new faults.File = (fault : Fault) × IsReachedFile img name fault
-IsReachedEnd contents form img name old new _ = ⊥
-
 -- Why records aren't printed, or not surely all. If a disk isn't sound, those that can be reached are printed. If the
 -- output failed, there is such a file
 abbrev pub IsRecordsFault : {W : Type 0} → (W → Option (List ℕ)) → RecordForm → (image name : List ℕ) → W → W → CommandFault
@@ -64,10 +51,11 @@ abbrev pub IsRecordsFault : {W : Type 0} → (W → Option (List ℕ)) → Recor
 IsRecordsFault contents form image name old new faults.ImageSize = (length image ≢ 174848) × (new ≡ old)
 IsRecordsFault contents form image name old new faults.NoMemory = (length image ≡ 174848) × (new ≡ old)
 IsRecordsFault contents form image name old new (faults.Layout fault) =
-    (length image ≡ 174848) × IsReachedEnd contents form (sectors_in image) name old new (faults.Layout fault)
+    (length image ≡ 174848) × ((HasNoReached (sectors_in image) name fault × (new ≡ old))
+    ⊎ AreReachedPrinted contents form (sectors_in image) name fault old new)
 IsRecordsFault contents form image name old new faults.NoFile = HasNoRecordFile image name × (new ≡ old)
 IsRecordsFault contents form image name old new faults.File = ((file : File) × IsRecordFile image name file)
-    ⊎ ((length image ≡ 174848) × IsReachedEnd contents form (sectors_in image) name old new faults.File)
+    ⊎ ((length image ≡ 174848) × (fault : Fault) × IsReachedFile (sectors_in image) name fault)
 IsRecordsFault contents form image name old new _ = ⊥
 
 -- what was printed of a disk that isn't sound: nothing, or a beginning of the lines of the file that can be reached
@@ -151,15 +139,3 @@ abbrev pub IsUnclosedFault : {W : Type 0} → (W → Option (List ℕ)) → Reco
     → CommandFault → Type 0
 IsUnclosedFault contents form image name old new fault = IsFileFault image (Records All) name
     (AreUnclosedPrinted contents form image name old new) old new fault
-
--- The line of one record of a file was handed to an output that held `before` and holds `after`. The image that the disk
--- holds stays.
-pub record IsLinePrinted (old new : Image) (file : RelFile) (last : LastBlock) (form : RecordForm) (number : ℕ)
-    (before after : Option (List ℕ)) (result : Result (Unit {0}) CommandFault) : Type 0 where
-  pub ok : OfItsFile old file (λ l n f. OnOk result
-      (Appends before after (form_line form number (get_or (records old f) (number - 1) []))))
-  pub part : OfItsFile old file (λ l n f. OnErr result
-      (HandsPart before after (form_line form number (get_or (records old f) (number - 1) []))))
-  pub same : new ≡ old
-  pub kept : IsKept old file last
-  pub err : IfErr result (λ fault. fault ≡ faults.File)

@@ -1,23 +1,16 @@
 -- What is printed of the records of a relative file of an image. All of it is our own.
-use Rattle.std.specs.Prelude.{◌≡◌, ◌≤◌, ℕ, zero, suc, ◌+◌, ◌-◌, ◌/◌, ◌++◌, List, [], IfErr, IfOk, Option, Result, Some}
-use Rattle.std.specs.Prelude.{get_or, length, slice_get, take, unwrap_or}
+use Rattle.std.specs.Prelude.{◌≡◌, ℕ, zero, suc, ◌+◌, ◌/◌, ◌++◌, List, [], Option, Some, get_or, length, slice_get, unwrap_or}
 use Rattle.line_text.specs.bytes.Texts.{record_line}
 use Rattle.d64_image.specs.Images.{Image}
 use Rattle.d64_image.specs.Memory.{sectors_in}
 use Rattle.d64_image.specs.declared.place.Place.{Place}
 use Rattle.disk_layout.specs.Fault.{Holds, nowhere}
 use Rattle.disk_layout.specs.Layout.{File, IsLayout, Layout}
-use Rattle.disk_layout.specs.Records.{pieces, records}
+use Rattle.disk_layout.specs.Records.{pieces}
 use Rattle.disk_layout.specs.Rest.{IsFirst, IsNamed}
 use Rattle.disk_layout.specs.declared.faults.Fault.{Fault}
 use Rattle.disk_layout.specs.declared.slot.Slot.{Slot}
-use Rattle.rel_records.specs.File.{OfItsFile}
-use Rattle.rel_records.specs.declared.rel_file.RelFile.{RelFile}
-use Rattle.rel_records.specs.declared.reading.record_order.LastBlock.{LastBlock}
-use Rattle.rel_records.specs.reading.Kept.{IsKept}
 use Rattle.keeper_commands.specs.Found.{HasNone, IsHad}
-use Rattle.command_faults.specs.declared.faults.CommandFault.{CommandFault}
-use Rattle.command_faults.specs.declared.faults.CommandFault.TheVariants as faults
 use Rattle.keeper_commands.specs.declared.finding.Candidates.TheVariants.{Closed}
 use Rattle.keeper_commands.specs.declared.finding.Kind.TheVariants.{Records}
 
@@ -25,17 +18,6 @@ use Rattle.keeper_commands.specs.declared.finding.Kind.TheVariants.{Records}
 abbrev pub lines_to : List (List ℕ) → ℕ → List ℕ
 lines_to rs zero = []
 lines_to rs (suc n) = lines_to rs n ++ record_line (n + 1) (get_or rs n [])
-
--- The line of a record of an image's file was put into a room of 4,096 bytes after the first `start`. The result is where
--- it ends. A disk in memory isn't changed by that, nor does it fail.
-pub record IsGathered (old new : Image) (file : RelFile) (last : LastBlock) (number start : ℕ) (before after : List ℕ)
-    (result : Result ℕ CommandFault) : Type 0 where
-  pub ok : OfItsFile old file (λ l n f. IfOk result (λ end. take end after
-      ≡ take start before ++ record_line number (get_or (records old f) (number - 1) [])))
-  pub end : IfOk result (λ end. end ≤ start + 776)
-  pub same : new ≡ old
-  pub kept : IsKept old file last
-  pub err : IfErr result (λ fault. fault ≡ faults.File)
 
 -- the lines of all of them
 unfoldable pub records_text : List (List ℕ) → List ℕ

@@ -17,7 +17,6 @@ mod loading;
 mod making;
 mod mending;
 mod piece_printing;
-mod reached_records;
 mod rebuilding;
 mod record_printing;
 mod record_storing;

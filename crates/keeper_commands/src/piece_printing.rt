@@ -1,18 +1,17 @@
 //! The records among the bytes of a relative file, as they are printed.
-ghost use Rattle.std.specs.Prelude.{◌≡◌, ◌≤◌, IfErr, OnErr, OnOk, length};
+ghost use Rattle.std.specs.Prelude.{◌≡◌, ◌≤◌, ◌+◌, IfErr, IfOk, OnErr, OnOk, length, take};
 ghost use Rattle.std.specs.Io.KnownBytes.{Appends};
-ghost use Rattle.command_faults.specs.Outputs.{HandsPart};
+ghost use Rattle.command_faults.specs.Outputs.{HandsOn, HandsPart};
 ghost use Rattle.command_faults.specs.declared.faults.CommandFault.TheVariants as faults;
 ghost use Rattle.keeper_commands.specs.Forms.{form_line, form_lines_to, records_as};
 ghost use Rattle.keeper_commands.specs.Records.{records_of, records_text};
 
 use crate::forms::RecordForm;
 use crate::line_printing::put_form_line;
-use crate::record_printing::{ROOM, hand_on};
 use arrayvec::ArrayVec;
 use command_faults::{CommandFault, put};
 use disk_layout::DATA;
-use line_text::put_line;
+use line_text::{LINE_ROOM, put_line};
 use std::io::Write;
 
 /// Puts the bytes of a record into this room, in place of what it had.
@@ -64,6 +63,26 @@ fn put_each<W: Write>(
         put_piece(out, form, before + 1, &bytes[start..start + size])?;
     }
     Ok(())
+}
+
+/// The room where lines are gathered, so that many are handed on at once.
+const ROOM: usize = 4096;
+
+/// Passes the first `used` bytes of the room on, if the longest line may find no room after them. Returns how many of its
+/// bytes still count.
+fn hand_on<W: Write>(out: &mut W, room: &[u8; ROOM], used: usize) -> Result<usize, CommandFault>
+    requires { used ≤ 4096 }
+    ensures room { IfOk result (λ start. start + 776 ≤ 4096) }
+    ensures ok { IfOk result (λ start. HandsOn (W.contents out.old) (W.contents out.new) (take used room.now)
+        (take start room.now)) }
+    ensures part { OnErr result (HandsPart (W.contents out.old) (W.contents out.new) (take used room.now)) }
+    ensures err { IfErr result (λ fault. fault ≡ faults.File) }
+{
+    if used <= ROOM - LINE_ROOM {
+        return Ok(used);
+    }
+    put(out, &room[..used])?;
+    Ok(0)
 }
 
 /// Prints the plain line of each whole record of `size` bytes, record 1 first. Lines are gathered, so that many are handed

@@ -5,7 +5,7 @@ ghost use Rattle.keeper_commands.specs.Printed.{AreUnclosedTaken, IsUnclosedFaul
 use crate::byte_printing::{ended, no_file};
 use crate::finding::{Candidates, Kind, find_file};
 use crate::forms::RecordForm;
-use crate::reached_records::put_reached;
+use crate::record_printing::put_reached;
 use arrayvec::ArrayVec;
 use command_faults::{CommandFault, flush, load};
 use d64_image::Place;
@@ -35,7 +35,7 @@ pub fn unclosed_records_image<W: Write>(
         Ok(file) => file,
         Err(ended) => return Err(no_file(ended)),
     };
-    put_reached(alloc, &mut disk, file, blocks.as_slice(), form, out)?;
+    put_reached(alloc, &disk, file, blocks.as_slice(), form, out)?;
     flush(out)?;
     ended(&mut disk, &file)
 }

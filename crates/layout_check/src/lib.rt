@@ -15,8 +15,10 @@ mod repairing;
 mod sides;
 mod survey_outcome;
 mod survey_walk;
+mod verdicts;
 
 pub use checking::check;
 pub use repairing::{repair, repair_keeping};
 pub use survey_outcome::Survey;
 pub use survey_walk::survey;
+pub use verdicts::{unsoundness, verdict};

@@ -1,5 +1,5 @@
 -- All files of the blank image are whole.
-use Rattle.std.proofs.Common.{◌≡◌, ℕ, zero, suc, ◌+◌, ◌-◌, List, [], IsTrue, length, refl, sym, ◌∙◌}
+use Rattle.std.proofs.Common.{◌≡◌, ℕ, zero, suc, ◌+◌, ◌-◌, List, IsTrue, length, refl, sym, ◌∙◌}
 use Rattle.std.proofs.Common.{ap, arith, subst, slice_index}
 use Rattle.std.specs.Prelude.{Some, slice_get}
 use Rattle.d64_image.specs.Images.{Image, sector}

@@ -1,5 +1,5 @@
 -- What is asked to stay of files decides their names and their records, the first of a name, and how far it can grow.
-use Rattle.std.proofs.Common.{ℕ, ◌≡◌, ◌<◌, ◌+◌, List, [], ◌∷◌, ◌++◌, length, drop, map, sym, ◌∙◌, ap, subst}
+use Rattle.std.proofs.Common.{ℕ, ◌≡◌, ◌<◌, ◌+◌, List, [], ◌∷◌, ◌++◌, drop, map, sym, ◌∙◌, ap, subst}
 use Rattle.std.proofs.Common.{IsTrue, ◌||◌, take, slice_index, slice_range, arith}
 use Rattle.std.specs.Prelude.{Some, flat_map, nat_eq, slice_get}
 use Rattle.std.proofs.lemmas.List.{drop-drop, drop-take, get_or-drop, get_or-take}

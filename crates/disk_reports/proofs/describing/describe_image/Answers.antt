@@ -1,5 +1,5 @@
 -- What the disk in memory holds is the image, which was judged and followed.
-use Rattle.std.proofs.Common.{List, ap, refl, subst, ◌∙◌, ℕ}
+use Rattle.std.proofs.Common.{List, ap, refl, subst, ◌∙◌}
 use Rattle.std.proofs.lemmas.Result.{err_from_is_err_and}
 use Rattle.std.specs.Io.KnownBytes.{Appends}
 use Rattle.d64_image.specs.Images.{Image, Sector, sector}
@@ -8,7 +8,8 @@ use Rattle.disk_layout.specs.Directory.{map_place}
 use Rattle.disk_layout.specs.declared.slot.Slot.{Slot}
 use Rattle.disk_reports.specs.Objects.{object_text}
 use Rattle.command_faults.proofs.Loads.{by-load}
-use Rattle.disk_reports.specs.Outcomes.{AreFound, IsDescribeFault, IsVerdict}
+use Rattle.disk_layout.specs.Clean.{IsVerdict}
+use Rattle.disk_reports.specs.Outcomes.{AreFound, IsDescribeFault}
 use Rattle.disk_reports.proofs.describing.describe_image.Goals as goal
 
 pub returns-in_err-disk : goal.returns-in_err-disk

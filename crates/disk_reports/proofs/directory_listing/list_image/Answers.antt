@@ -3,7 +3,7 @@ use Rattle.std.proofs.Common.{◌≡◌, ◌∙◌, Err, ℕ, List, ap, refl, su
 use Rattle.std.specs.Prelude.{length}
 use Rattle.std.proofs.lemmas.Result.{IfErr-weaker, err_from_is_err_and, on_ok_weaker}
 use Rattle.d64_image.specs.Images.{Image, sector}
-use Rattle.d64_image.specs.Memory.{sectors_in}
+use Rattle.d64_image.specs.Memory.{disk_image, sectors_in}
 use Rattle.d64_image.specs.declared.place.Place.{Place}
 use Rattle.disk_layout.specs.Directory.{IsDirectory, map_place}
 use Rattle.disk_layout.specs.Fault.{HoldsOfDirectory, nowhere}
@@ -38,15 +38,12 @@ returns-in-Err g c =
       untouched = λ _. refl;
     }
 
-pub returns-in_err-map : goal.returns-in_err-map
-returns-in_err-map g c = absurd c.in_err-map.ensures.err
-
 pub returns : goal.returns
 returns g c =
     let loaded = c.in_ok-disk.ensures.ok in
     let found = c.in_default.ensures.ok in
     let directory = has_directory c.args.image.now _ found.0 _ loaded.0 loaded.1 found.1 in
-    let here = c.new.ensures ∙ c.in_ok-map.ensures.ok
+    let here = c.new-map.ensures ∙ c.sector.ensures ∙ ap (sector (disk_image c.read_directory.new.disk)) c.map_place.ensures
     ∙ ap (λ (i : Image). sector i map_place) (c.read_directory.ensures.reads.image ∙ loaded.1) in record {
       ok = on_ok_weaker c.put_directory.result
           (is-listed _ c.args.form c.args.image.now c.args.out.now c.put_directory.new.out directory _ _ here

@@ -3,7 +3,7 @@ use Rattle.std.proofs.Common.{ap, sym, ◌∙◌}
 use Rattle.std.proofs.lemmas.Bool.{false≢true}
 use Rattle.disk_layout.specs.Number.{number_of}
 use Rattle.disk_reports.proofs.SameFaults.{same-fault}
-use Rattle.disk_reports.specs.Objects.{place_of}
+use Rattle.disk_layout.specs.Number.{place_of}
 use Rattle.disk_reports.proofs.gathering.is_same.Goals as goal
 
 pub returns-then-not-same_number : goal.returns-then-not-same_number

@@ -2,4 +2,4 @@
 use Rattle.disk_reports.proofs.gathering.same_place.Goals as goal
 
 pub returns : goal.returns
-returns c = rw (c.fault_place.ensures, c.fault_place-2.ensures) at c.is_same.ensures
+returns c = rw (c.place.ensures, c.place-2.ensures) at c.is_same.ensures

@@ -1,5 +1,5 @@
 -- Those of the entries so far that show the fault.
-use Rattle.std.proofs.Common.{◌≡◌, ◌≤◌, length, take}
+use Rattle.std.proofs.Common.{◌≤◌, length, take}
 use Rattle.disk_reports.specs.AllFaults.{AreShown}
 use Rattle.disk_reports.proofs.lines.keep_shown.Given as goal
 

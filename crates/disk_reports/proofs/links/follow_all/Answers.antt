@@ -1,5 +1,6 @@
 -- What was read and followed is of the same image.
-use Rattle.std.proofs.Common.{List, ap, arith, length, subst, ◌∙◌}
+use Rattle.std.proofs.Common.{List, ap, arith, length, subst, sym, ◌∙◌}
+use Rattle.std.specs.Prelude.{not}
 use Rattle.std.proofs.lemmas.Result.{err_from_is_err_and}
 use Rattle.d64_image.specs.Images.{Image, sector}
 use Rattle.d64_image.specs.Memory.{disk_image}
@@ -23,11 +24,14 @@ returns c =
         entries = c.read_so_far-end.new.entries.items;
         read = read.read;
         trails = subst (λ (ss : List Slot). AreFollowed (disk_image c.args.disk.now) ss trails) c.as_slice.ensures.value
-            (subst (λ (i : Image). AreFollowed i c.as_slice.result.now trails) c.is_sound-is_sound.ensures.same
+            (subst (λ (i : Image). AreFollowed i c.as_slice.result.now trails) c.unsoundness.ensures.same
             c.in_ok-trails.ensures.ok);
         few = omega (arith, c.in_ok-trails.ensures.few, ap length c.as_slice.ensures.value, read.few);
         header = c.sector-header.ensures ∙ ap (sector (disk_image c.args.disk.now)) c.map_place.ensures;
-        sound = c.is_sound-is_sound.ensures.sound;
+        sound = (
+          λ on. c.unsoundness.ensures.sound.0 (c.is_none-is_sound.ensures ∙ ap not on),
+          λ sound. let off = sym c.is_none-is_sound.ensures ∙ c.unsoundness.ensures.sound.1 sound in grind arith,
+        );
       };
       err = tt;
     }

@@ -5,7 +5,8 @@ use Rattle.std.proofs.lemmas.Result.{err_from_is_err_and}
 use Rattle.d64_image.specs.Images.{Image}
 use Rattle.disk_reports.specs.AllFaults.{IsListed}
 use Rattle.command_faults.proofs.Loads.{by-load}
-use Rattle.disk_reports.specs.Outcomes.{IsDescribeFault, IsVerdict}
+use Rattle.disk_layout.specs.Clean.{IsVerdict}
+use Rattle.disk_reports.specs.Outcomes.{IsDescribeFault}
 use Rattle.command_faults.specs.declared.faults.CommandFault.{CommandFault}
 use Rattle.command_faults.specs.declared.faults.CommandFault.TheVariants as faults
 use Rattle.disk_reports.proofs.listing.list_faults.Goals as goal

@@ -8,8 +8,7 @@ use Rattle.disk_reports.proofs.sides.find_wrong.Given as goal
 
 abbrev pub invariant-loop-number : goal.invariant-loop-number
 invariant-loop-number l = record {
-  same : disk_image l.disk ≡ disk_image l.fn.disk;
   few : length l.wrong.items ≤ l.number;
   those : (p : Place) → Contains l.wrong.items p ↔ ((j : ℕ) × (j < l.number) × (slice_get l.sides j ≡ Some p)
-      × ¬ (IsIntact (disk_image l.fn.disk) l.slot l.blocks l.sides j p));
+      × ¬ (IsIntact (disk_image l.disk) l.slot l.blocks l.sides j p));
 }

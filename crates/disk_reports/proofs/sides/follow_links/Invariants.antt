@@ -6,8 +6,7 @@ use Rattle.disk_reports.proofs.sides.follow_links.Given as goal
 
 abbrev pub invariant-loop-number : goal.invariant-loop-number
 invariant-loop-number l = record {
-  same : disk_image l.disk ≡ disk_image l.fn.disk;
   below : l.number < l.count;
-  leads : SidesLead (disk_image l.fn.disk) 0 l.fn.first l.places.items l.at;
+  leads : SidesLead (disk_image l.disk) 0 l.fn.first l.places.items l.at;
   count : length l.places.items ≡ l.number;
 }

@@ -8,16 +8,16 @@ use Rattle.disk_reports.proofs.Found.{not-some, reached-some}
 use Rattle.disk_reports.specs.Trails.{AreLinked, HasWholeChain}
 use Rattle.disk_reports.proofs.sides.follow_sides.Goals as goal
 
-pub returns-then-not-is_relative-clause-sides : goal.returns-then-not-is_relative-clause-sides
-returns-then-not-is_relative-clause-sides c =
+pub returns-then-not-is_relative : goal.returns-then-not-is_relative
+returns-then-not-is_relative c =
     inr (inl (λ h. false≢true (sym c.if-not-is_relative.true ∙ c.is_relative.ensures.relative ∙ h.0), c.clear.ensures))
 
-pub returns-then-is_some-clause-sides : goal.returns-then-is_some-clause-sides
-returns-then-is_some-clause-sides c =
+pub returns-then-is_some : goal.returns-then-is_some
+returns-then-is_some c =
     inr (inl (λ h. false≢true (sym (ap is_some h.1) ∙ sym c.is_some.ensures ∙ c.if-is_some.true), c.clear.ensures))
 
-pub returns-in_default-clause-sides : goal.returns-in_default-clause-sides
-returns-in_default-clause-sides c = inr (inr (c.in_default.ensures, c.clear.ensures))
+pub returns-in_default : goal.returns-in_default
+returns-in_default c = inr (inr (c.in_default.ensures, c.clear.ensures))
 
 pub follow_links-requires-clause-some : goal.follow_links-requires-clause-some
 follow_links-requires-clause-some c =
@@ -28,8 +28,8 @@ follow_links-requires-clause-some c =
     ) in
     omega (arith, reached-some _ c.args.slot.now c.args.blocks.now c.args.end c.requires.reached whole, c.div_ceil.ensures)
 
-pub returns-clause-sides : goal.returns-clause-sides
-returns-clause-sides c =
+pub returns : goal.returns
+returns c =
     let count : c.div_ceil.result ≡ sides_for (length c.args.blocks.now) = omega (arith, c.div_ceil.ensures) in
     inl (
       (
@@ -41,6 +41,6 @@ returns-clause-sides c =
         c.in-Some.first,
         c.in-Some.ensures,
         subst (λ (n : ℕ). AreLinked (disk_image c.args.disk.now) c.in-Some.first n c.follow_links.new.places.items) count
-            c.follow_links.ensures.linked,
+            c.follow_links.ensures,
       ),
     )

@@ -10,29 +10,29 @@ use Rattle.disk_rescue.proofs.Walked.{at-answer}
 use Rattle.disk_reports.proofs.Found.{judged, only-list}
 use Rattle.disk_reports.proofs.sides.is_wrong.Goals as goal
 
-pub returns-then-not-add_listed-clause-wrong : goal.returns-then-not-add_listed-clause-wrong
-returns-then-not-add_listed-clause-wrong c =
+pub returns-then-not-add_listed : goal.returns-then-not-add_listed
+returns-then-not-add_listed c =
     let known : c.try_extend_from_slice.new.self.items ≡ c.args.sides.now =
     at-answer c.try_extend_from_slice.result (c.try_extend_from_slice.ensures.variant.1
     (omega (arith, ap length c.new-all.ensures, c.requires.fits, c.requires.few))) c.try_extend_from_slice.ensures.ok
     ∙ ap (λ (xs : List Place). xs ++ c.args.sides.now) c.new-all.ensures in
     let count : c.div_ceil.result ≡ sides_for (length c.args.blocks.now) = omega (arith, c.div_ceil.ensures) in
-    let read = at-answer c.read.result c.read.ensures.never_fails c.read.ensures.device.sector in (
+    let read = c.sector-bytes.ensures in (
       λ on h. false≢true (sym c.if-not-add_listed.true ∙ (only-list (disk_image c.args.disk.now) c.args.slot.now
           c.args.blocks.now c.args.sides.now c.try_extend_from_slice.new.self.items c.add_listed.new.all.items c.args.number
-          c.args.side c.read.new.to c.div_ceil.result (IsTrue c.add_listed.result) c.requires.few read known count
+          c.args.side c.sector-bytes.result.now c.div_ceil.result (IsTrue c.add_listed.result) c.requires.few read known count
           c.add_listed.ensures.only h).0),
       λ none. refl,
     )
 
-pub returns-clause-wrong : goal.returns-clause-wrong
-returns-clause-wrong c =
+pub returns : goal.returns
+returns c =
     let known : c.try_extend_from_slice.new.self.items ≡ c.args.sides.now =
     at-answer c.try_extend_from_slice.result (c.try_extend_from_slice.ensures.variant.1
     (omega (arith, ap length c.new-all.ensures, c.requires.fits, c.requires.few))) c.try_extend_from_slice.ensures.ok
     ∙ ap (λ (xs : List Place). xs ++ c.args.sides.now) c.new-all.ensures in
     let count : c.div_ceil.result ≡ sides_for (length c.args.blocks.now) = omega (arith, c.div_ceil.ensures) in
-    let read = at-answer c.read.result c.read.ensures.never_fails c.read.ensures.device.sector in
+    let read = c.sector-bytes.ensures in
     let length_byte : c.record_length-length.result ≡ record_length c.args.slot.now =
     rw (c.record_length-length.ensures, c.new.ensures) refl in
     let made : c.side_bytes.result ≡ side_sector c.args.number c.args.blocks.now c.add_listed.new.all.items
@@ -40,8 +40,8 @@ returns-clause-wrong c =
     rw (← c.as_slice.ensures.value, ← length_byte) c.side_bytes.ensures in
     let (more, long, grown) = c.add_listed.ensures.right c.if-not-add_listed.false in
     judged (disk_image c.args.disk.now) c.args.slot.now c.args.blocks.now c.args.sides.now c.add_listed.new.all.items more
-    c.args.number c.args.side c.read.new.to c.side_bytes.result c.ne.result read c.ne.ensures made
+    c.args.number c.args.side c.sector-bytes.result.now c.side_bytes.result c.ne.result read c.ne.ensures made
     (grown ∙ ap (λ (xs : List Place). xs ++ more) known) (long ∙ count)
     (λ h. (only-list (disk_image c.args.disk.now) c.args.slot.now c.args.blocks.now c.args.sides.now
-    c.try_extend_from_slice.new.self.items c.add_listed.new.all.items c.args.number c.args.side c.read.new.to
+    c.try_extend_from_slice.new.self.items c.add_listed.new.all.items c.args.number c.args.side c.sector-bytes.result.now
     c.div_ceil.result (IsTrue c.add_listed.result) c.requires.few read known count c.add_listed.ensures.only h).1)

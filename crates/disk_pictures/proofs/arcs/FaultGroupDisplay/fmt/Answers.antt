@@ -7,5 +7,5 @@ use Rattle.disk_pictures.proofs.arcs.FaultGroupDisplay.fmt.Goals as goal
 pub returns-clause-writes : goal.returns-clause-writes
 unfolding fault_sector
 returns-clause-writes g c = λ plain done. has_written_of_eq _ _ _ _ _
-    (rw (c.of-ring.ensures.radius, c.of-ring.ensures.place, c.fault_place-place.ensures) refl)
+    (rw (c.of-ring.ensures.radius, c.of-ring.ensures.place, c.place-place.ensures) refl)
     (c.writeln.ensures.writes plain done)

@@ -2,7 +2,7 @@
 use Rattle.std.proofs.Common.{ap, arith, length, ◌∙◌}
 use Rattle.d64_image.specs.Memory.{disk_image}
 use Rattle.keeper_commands.proofs.Pieced.{short-file}
-use Rattle.keeper_commands.proofs.reached_records.put_reached.Goals as goal
+use Rattle.keeper_commands.proofs.record_printing.put_reached.Goals as goal
 
 pub put_pieces-requires-clause-short : goal.put_pieces-requires-clause-short
 put_pieces-requires-clause-short g c =
