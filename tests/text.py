@@ -130,9 +130,9 @@ def compare(program, path, kind, disk):
 
 
 def fields_of(record):
-    """The fields as `csv` reads them: what CR ends, and a mark if nothing ends the last one."""
+    """The fields as `csv` reads them, and the mark that says whether CR ends the last one."""
     parts = [byte_text(part) for part in record.split(b"\r")]
-    return parts[:-1] if record.endswith(b"\r") else parts + ["\\-"]
+    return [*parts[:-1], "\\."] if record.endswith(b"\r") else [*parts, "\\-"]
 
 
 def with_returns(rng, records, length):
@@ -167,6 +167,8 @@ def come_back(program, folder, rng):
     rows = list(csv.reader(io.StringIO(out.decode(), newline="")))
     want(rows[: len(records)] == [[str(n), *fields_of(r)] for n, r in enumerate(records, 1)], "the fields")
     are_stored(program, folder, image, length, ["--fields"], out, rows)
+    most = max(map(len, rows)) + rng.randint(0, 3)
+    are_stored(program, folder, image, length, ["--fields"], out, [row + [""] * (most - len(row)) for row in rows])
     pieces_come_back(program, folder, rng, image, length, records)
     image.unlink()
 

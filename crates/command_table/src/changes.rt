@@ -82,9 +82,10 @@ const STORE: Subcommand = Subcommand {
     about: "Store records in a relative file, and print those that changed",
     more: "\
 It prints the line of each record that changed. The file grows up to the highest
-record number. With --fields a CR ends each column after the number. With --at
-1,25,49 each column goes to its position, with zeros between them; a column that
-goes beyond the next position is refused. Otherwise a line has one column.
+record number. With --fields each column after the number is a field, up to the
+mark \\. or \\- that `records --fields` prints; empty columns after it are ignored.
+With --at 1,25,49 each column goes to its position, with zeros between them; one
+that goes beyond the next position is refused. Otherwise a line has one column.
 
 Exit status:
   0  the records were stored

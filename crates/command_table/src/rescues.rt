@@ -23,10 +23,10 @@ const RECORDS: Subcommand = Subcommand {
 It prints a line for each record, for example 1,\"MILK\\0d\". If the file is
 damaged, it prints what can be read, and then reports a fault.
 --text and --mixed print lines for people: `store` doesn't take them back.
---fields prints a column for each field, which a CR ends: 1,\"MILK\",\"12\". A last
-column \\- says that the last field has no CR. --at 1,25,49 prints the bytes from
-each position up to the next one, without the zeros at their end. `store` with
-the same flag takes these lines back. With --fields or --at, --text and --mixed
+--fields prints a column for each field: 1,\"MILK\",\"12\",\\. for MILK, CR, 12, CR.
+The last column is \\- if the last field has no CR. --at 1,25,49 prints the bytes
+from each position up to the next one, without the zeros at their end. `store`
+with the same flag takes these lines back. With --fields or --at, --text and --mixed
 have no effect. With --unclosed nothing of the disk but the file is checked.
 
 Exit status:

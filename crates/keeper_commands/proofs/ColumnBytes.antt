@@ -1,7 +1,6 @@
 -- The bytes of a record's columns: no LF, no CR at their end, and the record.
-use Rattle.std.proofs.Common.{◌≡◌, ◌≤◌, ◌-◌, ◌∙◌, ℕ, List, [], ◌∷◌, ◌++◌, Bool, true, false, ap, arith, length, map, refl, sym}
+use Rattle.std.proofs.Common.{◌≡◌, ◌≤◌, ◌∙◌, ℕ, List, [], ◌∷◌, ◌++◌, Bool, true, false, ap, arith, length, map, refl, sym}
 use Rattle.std.specs.Prelude.{◌==◌, codes, flat_map, if◌then◌else◌, nat_eq, slice_index}
-use Rattle.std.proofs.lemmas.Bool.{eqb-true}
 use Rattle.std.proofs.lemmas.List.{append_assoc, append-nil}
 use Rattle.line_text.specs.bytes.Texts.{byte_text, is_plain, text_of, trimmed}
 use Rattle.line_text.proofs.lemmas.columns.Ends.{comes-back}
