@@ -83,7 +83,7 @@ const STORE: Subcommand = Subcommand {
     more: "\
 It prints the line of each record that changed. The file grows up to the highest
 record number. With --fields each column after the number is a field, up to the
-mark \\. or \\- that `records --fields` prints; empty columns after it are ignored.
+mark \\. or \\- that `records --fields` prints. Empty ones after it are skipped.
 With --at 1,25,49 each column goes to its position, with zeros between them; one
 that goes beyond the next position is refused. Otherwise a line has one column.
 

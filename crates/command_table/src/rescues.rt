@@ -26,8 +26,8 @@ damaged, it prints what can be read, and then reports a fault.
 --fields prints a column for each field: 1,\"MILK\",\"12\",\\. for MILK, CR, 12, CR.
 The last column is \\- if the last field has no CR. --at 1,25,49 prints the bytes
 from each position up to the next one, without the zeros at their end. `store`
-with the same flag takes these lines back. With --fields or --at, --text and --mixed
-have no effect. With --unclosed nothing of the disk but the file is checked.
+takes both back with the same flag. --text and --mixed have no effect then.
+With --unclosed nothing of the disk but the file is checked.
 
 Exit status:
   0  the records were printed
