@@ -12,7 +12,7 @@ use Rattle.disk_changes.specs.declared.changes.Why.{Why}
 use Rattle.folder_changes.specs.FolderChanges.{GivesChanged, IsToldAs}
 use Rattle.folder_changes.specs.declared.stops.Stop.{Stop}
 use Rattle.folder_changes.specs.declared.stops.Stop.TheVariants as stops
-use Rattle.shop_log.specs.life.Bringing.{RestsAlone}
+use Rattle.shop_log.specs.life.Bringing.{RestsAlone, RestsWith}
 use Rattle.shop_log.specs.life.Folders.{FolderHistory, LeavesFolders}
 use Rattle.shop_log.specs.life.Replacing.{KeepsOrGives}
 use Rattle.shop_log.specs.life.Shops.{given_by}
@@ -22,6 +22,16 @@ use Rattle.shop_log.proofs.lemmas.life.Steps.{started, weaker}
 pub quiet-moments : {D : Type 0} (h : FolderHistory D) (before after : Image) (d : D) → RestsAlone h d before
     → LeavesFolders h d d (KeepsOrGives None before after)
 quiet-moments h before after d rests = started h d (KeepsOrGives None before after) (λ s may. inl (rests.left s may))
+
+-- the disk that came of a change replaces the image
+pub replaced : {D : Type 0} (h : FolderHistory D) (old new : D) (now before shop after : Image) → now ≡ before
+    → shop ≡ after
+    → ((log : Option (List ℕ)) → RestsWith h old log now → LeavesFolders h old new (KeepsOrGives log now shop))
+    → RestsAlone h old before → LeavesFolders h old new (KeepsOrGives None before after)
+replaced h old new now before shop after is to moments rests =
+    subst (λ (i : Image). LeavesFolders h old new (KeepsOrGives None before i)) to
+    (subst (λ (i : Image). LeavesFolders h old new (KeepsOrGives None i shop)) is
+    (moments None (subst (RestsAlone h old) (sym is) rests)))
 
 module _ {D : Type 0} (h : FolderHistory D) (what : Change) (image : List ℕ) where
   pub made-moments : (d new : D) (made : Changed) → IsChanged what image made
