@@ -5,6 +5,7 @@ ghost use Rattle.command_faults.specs.declared.faults.CommandFault.TheVariants a
 ghost use Rattle.opened_files.specs.Makings.{IsMakingEnd, IsMakingTold};
 ghost use Rattle.opened_files.specs.declared.files.Older.TheVariants.{Replaced};
 ghost use Rattle.opened_files.specs.Rights.{MayChangeImage, MayMakeImage};
+ghost use Rattle.image_file.specs.paths.Rights.{MayWrite};
 ghost use Rattle.shop_commands.specs.Images.{IsFreshDisk};
 ghost use Rattle.shop_jobs.specs.Formats.{KeepsOrGivesFresh};
 ghost use Rattle.shop_log.specs.life.Bringing.{RestsAlone, RestsWith};
@@ -117,9 +118,9 @@ where
     run_end(format_folder(rt.alloc(), &mut folder, tills, out))
 }
 
-/// Makes the image at a path. An image that stands there is replaced, with its log, all or nothing; a file of another size is
-/// written over, and its log stays until the image is whole.
-pub fn do_format<F, R, W>(
+/// Makes the image at a path, where nothing stands, or over a file that is no image. The log of what is replaced stays until
+/// the image is whole.
+pub fn do_making<F, R, W>(
     rt: &R,
     path: &str,
     tills: u8,
@@ -131,15 +132,35 @@ where
     R: HostFiles<File = F> + AllocGlobal,
     W: Write,
     requires makes { MayMakeImage R.rights rt.now path.now }
-    requires changes { older ≡ Replaced → MayChangeImage R.rights rt.now path.now }
+    requires overwrites { older ≡ Replaced → MayWrite R.rights rt.now path.now }
     requires some { 1 ≤ tills }
     requires few { tills ≤ 64 }
     ensures { IsMakingEnd W.contents (codes "FORMATTED\n") out.old out.new result }
 {
-    if older == Older::Replaced && size_of(rt, path) == Some(IMAGE_BYTES as u64) {
-        return replace_shop(rt, path, tills, out);
-    }
     let mut file = OverwrittenFile::new(AtPath::new(rt, path, older, None));
     let made = format_image(rt.alloc(), tills, &mut file, out);
     over_end(made, file.given_up().refused())
+}
+
+/// Makes the image at a path. An image that stands there is replaced, with its log, all or nothing.
+pub fn do_format<F, R, W>(
+    rt: &R,
+    path: &str,
+    tills: u8,
+    out: &mut W,
+) -> Result<Option<Fault>, Refusal>
+where
+    F: EndedFile + Locks + OpenFile + Drop,
+    R: HostFiles<File = F> + AllocGlobal,
+    W: Write,
+    requires makes { MayMakeImage R.rights rt.now path.now }
+    requires changes { MayChangeImage R.rights rt.now path.now }
+    requires some { 1 ≤ tills }
+    requires few { tills ≤ 64 }
+    ensures { IsMakingEnd W.contents (codes "FORMATTED\n") out.old out.new result }
+{
+    if size_of(rt, path) == Some(IMAGE_BYTES as u64) {
+        return replace_shop(rt, path, tills, out);
+    }
+    do_making(rt, path, tills, Older::Replaced, out)
 }
