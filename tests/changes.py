@@ -6,7 +6,7 @@ from record_disks import DATA, POINTERS, RELATIVE, Disk, line_of, sectors_of
 from served import run, sure, want
 
 IMAGE = "disk.d64"
-WORDS = ("repair", "repair --sides", "make", "store", "put", "rename", "title", "delete")
+WORDS = ("repair", "repair --sides", "make", "store", "put", "rename", "title", "delete", "format")
 RENAMED = "RENAMED"
 
 
@@ -74,6 +74,7 @@ class Draw:
             "rename": ("rename", "FILE0", RENAMED),
             "title": ("title", "--name", RENAMED, "--id", length.rjust(2, "0")[:2]),
             "delete": ("delete", draw.choice(["FILE0", "PROGRAM"])),
+            "format": ("format", "--tills", "4"),
         }[word]
         before = self.hurt(disk, word.endswith("--sides")) if words[0] == "repair" else disk
         return Change(self.program, self.folder / "state", words, before)

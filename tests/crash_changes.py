@@ -4,7 +4,7 @@ the changed one (Debian's package strace):
 
     tests/crash_changes.py PROGRAM [STATES] [SEED]
 
-PROGRAM is what `tools/program` prints. `repair`, `make`, `store`, `put`, `rename` and `delete` each run on disks with other files. The
+PROGRAM is what `tools/program` prints. `repair`, `make`, `store`, `put`, `rename`, `delete` and `format` each run on disks with other files. The
 model of tests/crash_states.py replays their system calls up to a random one, with torn writes.
 In each state `copy` has to find the image of before or the changed one, byte by byte, and the changed one if a line was printed by
 then. Then the same command ends as on that image, and leaves the changed one alone, with no log. Of some states the calls of this second

@@ -8,7 +8,7 @@ A FAULT is one of these; files are told by their names:
 - `disk-takes N`, `output-takes N`: *.d64 or standard output takes so many bytes, and is full then (ENOSPC)
 - `output-interrupted`: the first call to the output is interrupted (EINTR)
 - `input-fails`: standard input fails behind its last byte (ETIMEDOUT); `input-in N`: it comes N bytes at a time, behind an interrupted
-  call; `unreadable`: each read of *.d64 fails (EIO)
+  call; `input-not-ready N`: its Nth read finds nothing yet (EAGAIN); `unreadable`: each read of *.d64 fails (EIO)
 - `others unknown`: no lock is known (EOPNOTSUPP); `shared N`: the Nth lock that isn't for one program alone
 - `gone N`, `other N`, `cut N`: before the Nth look at the name of *.d64 the file goes to *.d64-elsewhere, and another of its bytes comes, or
   half of its bytes go; `unseen N`: that look finds nothing (ENOENT); `log-gone N`: before its Nth sync *.d64-log goes
@@ -117,6 +117,8 @@ class Faults:
             return errno.EIO if "unreadable" in self.at else None
         if given[0] != 0:
             return None
+        if self.is_due("input-not-ready"):
+            return errno.EAGAIN
         if "input-in" in self.at and not self.is_due("first-input"):
             part = os.read(0, min(given[2], self.at["input-in"]))
             with open(f"/proc/{number}/mem", "r+b", buffering=0) as memory:

@@ -1,10 +1,10 @@
 #!/usr/bin/env python3
-"""Lets power go while `format` writes over files, and sees that there remains the old file, an image that is refused, or the new one:
+"""Lets power go while `format` writes over files that are no images, and sees that there remains the old file, an image that is refused, or the new one:
 
     tests/format_power.py PROGRAM [STATES]
 
 It needs the package `strace`, which records what one `format` hands to the system. From that it makes STATES states (400 where none
-are named) for each of four older files: all that was synced stands, and of what was handed over behind that each unit of 512, 4,096
+are named) for each of three older files: all that was synced stands, and of what was handed over behind that each unit of 512, 4,096
 or 65,536 bytes stands or doesn't, and the length is set or isn't. Each is asked for its shop. It ends by itself and uses no
 network."""
 
@@ -86,7 +86,7 @@ def main():
         shop.wait()
         lines = "".join(f"{n % 9 + 1},{n // 9 + 1},S,{n + 1},{n}\n" for n in range(180)).encode()
         subprocess.run([PROGRAM, "serve", "s.d64"], cwd=folder, input=lines, check=True, stdout=subprocess.DEVNULL)
-        olds = [image.read_bytes(), image.read_bytes() + bytes(683), image.read_bytes()[:100_000], b""]
+        olds = [image.read_bytes() + bytes(683), image.read_bytes()[:100_000], b""]
         for old in olds:
             image.write_bytes(old)
             parts = recorded(folder)

@@ -177,7 +177,7 @@ class Ends:
         self.answered("1,1,S,1,1", "1,1,DONE,1")
 
     def input_waits_not(self):
-        """A pipe that is set not to wait (O_NONBLOCK): `FILE`, and a person reads what to do."""
+        """A pipe that is set not to wait (O_NONBLOCK): `NOT READY`, and a person reads what to do."""
         self.fresh()
         held = self.image.read_bytes()
         for words in (["serve", self.image], ["play", self.image, "/dev/stdin"]):
@@ -187,7 +187,7 @@ class Ends:
             os.close(out)
             os.close(into)
             told = done.stderr.decode().splitlines()
-            want((done.returncode, told[0]) == (3, "FILE") and "O_NONBLOCK" in told[1], f"{words[0]}: an input that doesn't wait: {told}")
+            want((done.returncode, told[0]) == (3, "NOT READY") and "O_NONBLOCK" in told[1], f"{words[0]}: an input that doesn't wait: {told}")
         want(self.image.read_bytes() == held, "an input that doesn't wait has changed the image")
 
     def limited(self):

@@ -27,7 +27,7 @@ const FORMAT: Subcommand = Subcommand {
     about: "Make the image of an empty shop, or replace it",
     more: "\
 It prints FORMATTED once the image is on the disk. Without --new it replaces
-IMAGE without asking if that exists, and removes its log first.
+IMAGE without asking if that exists, and its log with it.
 
 Exit status:
   0  the image was made
@@ -85,8 +85,8 @@ end. Without it a power loss can lose answered requests, or leave a wrong shop.
 Exit status:
   0  all lines were played
   1  the script (SCRIPT LINE n) or the image is refused: nothing was done
-  3  FILE, NO MEMORY, IN USE; or DEVICE: check a copy on another disk, and go
-     on there
+  3  FILE, NOT READY, NO MEMORY, IN USE; or DEVICE: check a copy on another
+     disk, and go on there
 
 Example: ledger play --sync shop.d64 day.txt",
     values: &[IMAGE, SCRIPT, SYNC, ACCEPT_AWAY],
@@ -103,7 +103,7 @@ Exit status:
   0  the replies were printed
   1  SCRIPT LINE n (also a line with resets, as \"@2 1,1,R,7,5\"): nothing was
      printed
-  3  FILE, NO MEMORY
+  3  FILE, NOT READY, NO MEMORY
 
 Example: ledger dry day.txt",
     values: &[SCRIPT],
@@ -122,8 +122,8 @@ Exit status:
   0  the input ended
   1  the image isn't a shop, a file of the disk has lost its end (SHORT), LOG,
      LOG AWAY: nothing was done
-  3  FILE, NO MEMORY, IN USE, DEVICE (also if IMAGE no longer names the file
-     that is served)
+  3  FILE, NOT READY (input that doesn't wait), NO MEMORY, IN USE, DEVICE (also
+     if IMAGE no longer names the file that is served)
 
 Example: ledger serve shop.d64 < messages.txt",
     values: &[IMAGE, ACCEPT_LOSS],

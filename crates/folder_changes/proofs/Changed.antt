@@ -1,6 +1,6 @@
 -- A folder whose image is changed.
-use Rattle.std.proofs.Common.{◌≡◌, ◌⊎◌, ℕ, zero, suc, List, [], ◌∷◌, arith, inl, inr, refl, subst, sym, ⊎_elim}
-use Rattle.std.specs.Prelude.{◌≢◌, Contains, Err, IfErr, IfOk, Ok, OnErr, Option, Result}
+use Rattle.std.proofs.Common.{◌≡◌, ℕ, List, inl, inr, subst, sym, ⊎_elim}
+use Rattle.std.specs.Prelude.{◌≢◌, Err, IfErr, IfOk, None, Ok, OnErr, Option, Result}
 use Rattle.std.specs.Io.KnownBytes.{Appends}
 use Rattle.command_faults.specs.Outputs.{HandsPart}
 use Rattle.d64_image.specs.Images.{Image}
@@ -12,33 +12,36 @@ use Rattle.disk_changes.specs.declared.changes.Why.{Why}
 use Rattle.folder_changes.specs.FolderChanges.{GivesChanged, IsToldAs}
 use Rattle.folder_changes.specs.declared.stops.Stop.{Stop}
 use Rattle.folder_changes.specs.declared.stops.Stop.TheVariants as stops
-use Rattle.shop_log.specs.life.Bringing.{RestsAlone}
+use Rattle.shop_log.specs.life.Bringing.{RestsAlone, RestsWith}
 use Rattle.shop_log.specs.life.Folders.{FolderHistory, LeavesFolders}
-use Rattle.shop_log.specs.life.Replacing.{GivesEither}
-use Rattle.shop_log.specs.life.Shops.{Gives, given_by}
+use Rattle.shop_log.specs.life.Replacing.{KeepsOrGives}
+use Rattle.shop_log.specs.life.Shops.{given_by}
 use Rattle.shop_log.proofs.lemmas.life.Steps.{started, weaker}
-
--- one of two
-two : (before after given : Image) (P : Image → Type 0) → Contains (before ∷ after ∷ []) given → P given → P before ⊎ P after
-two before after given P (zero, low, is) p = inl (subst P (sym is) p)
-two before after given P (suc zero, low, is) p = inr (subst P (sym is) p)
-two before after given P (suc (suc k), low, is) p = absurd (omega (arith, low))
 
 -- before anything is done
 pub quiet-moments : {D : Type 0} (h : FolderHistory D) (before after : Image) (d : D) → RestsAlone h d before
-    → LeavesFolders h d d (GivesEither before after)
-quiet-moments h before after d rests = started h d (GivesEither before after)
-    (λ s may. let alone = rests.left s may in
-    (before, (0, omega arith, refl), subst (λ l. given_by l s.image before) (sym alone.1) alone.0))
+    → LeavesFolders h d d (KeepsOrGives None before after)
+quiet-moments h before after d rests = started h d (KeepsOrGives None before after) (λ s may. inl (rests.left s may))
+
+-- the disk that came of a change replaces the image
+pub replaced : {D : Type 0} (h : FolderHistory D) (old new : D) (now before shop after : Image) → now ≡ before
+    → shop ≡ after
+    → ((log : Option (List ℕ)) → RestsWith h old log now → LeavesFolders h old new (KeepsOrGives log now shop))
+    → RestsAlone h old before → LeavesFolders h old new (KeepsOrGives None before after)
+replaced h old new now before shop after is to moments rests =
+    subst (λ (i : Image). LeavesFolders h old new (KeepsOrGives None before i)) to
+    (subst (λ (i : Image). LeavesFolders h old new (KeepsOrGives None i shop)) is
+    (moments None (subst (RestsAlone h old) (sym is) rests)))
 
 module _ {D : Type 0} (h : FolderHistory D) (what : Change) (image : List ℕ) where
   pub made-moments : (d new : D) (made : Changed) → IsChanged what image made
-      → LeavesFolders h d new (GivesEither (sectors_in image) (disk_image made.disk))
+      → LeavesFolders h d new (KeepsOrGives None (sectors_in image) (disk_image made.disk))
       → LeavesFolders h d new (GivesChanged what image)
-  made-moments d new made is moments = weaker h d new (GivesEither (sectors_in image) (disk_image made.disk))
+  made-moments d new made is moments = weaker h d new (KeepsOrGives None (sectors_in image) (disk_image made.disk))
       (GivesChanged what image)
-      (λ s gives. ⊎_elim (λ old. inl old) (λ after. inr (made, is, after))
-      (two (sectors_in image) (disk_image made.disk) gives.0 (Gives s) gives.1 gives.2)) moments
+      (λ s gives. ⊎_elim
+      (λ old. inl (subst (λ (l : Option (List ℕ)). given_by l s.image (sectors_in image)) (sym old.1) old.0))
+      (λ after. inr (made, is, after)) gives) moments
 
 -- a change that is made was printed, or not
 pub printed : {W : Type 0} (contents : W → Option (List ℕ)) (Is : Changed → Type 0) (Refuses : Why → Type 0)

@@ -1,5 +1,5 @@
 //! The image in a folder, changed.
-ghost use Rattle.std.specs.Prelude.{◌≡◌, ◌⊎◌, Err, IfErr, IfOk, OnErr, OnOk, length, true};
+ghost use Rattle.std.specs.Prelude.{◌≡◌, ◌⊎◌, Err, IfErr, IfOk, None, OnErr, OnOk, length, true};
 ghost use Rattle.std.specs.Io.KnownBytes.{Appends};
 ghost use Rattle.command_faults.specs.Outputs.{HandsPart};
 ghost use Rattle.command_faults.specs.declared.faults.CommandFault.TheVariants.{NoMemory};
@@ -10,24 +10,14 @@ ghost use Rattle.folder_changes.specs.FolderChanges.{GivesChanged, IsChangeOver,
 ghost use Rattle.folder_changes.specs.declared.stops.Stop.TheVariants as stops;
 ghost use Rattle.shop_log.specs.life.Bringing.{RestsAlone};
 ghost use Rattle.shop_log.specs.life.Folders.{LeavesFolders};
-ghost use Rattle.shop_log.specs.life.Replacing.{GivesEither};
+ghost use Rattle.shop_log.specs.life.Replacing.{KeepsOrGives};
 
 use crate::stops::Stop;
 use command_faults::{CommandFault, flush, put};
 use disk_changes::{Change, Changed, Why, change};
-use shop_log::{LogFile, LogFolder, LogRoom, replace};
+use shop_log::{LogFile, LogFolder, LogRoom, replace, sectors_of};
 use std::alloc::Global;
 use std::io::Write;
-
-/// The sectors of an image.
-fn sectors_of(image: &[u8]) -> &[[u8; 256]]
-    requires { length image.now ≡ 174848 }
-    ensures value { result.now ≡ sectors_in image.now }
-    ensures sized { length result.now ≡ 683 }
-{
-    let (sectors, _) = image.as_chunks::<256>();
-    sectors
-}
 
 /// Puts the disk that came of a change in the place of the image, unless it is the same. The only errors are `NoMemory`,
 /// and then nothing was done, and `Device`, if the folder failed.
@@ -39,7 +29,8 @@ fn put_in_place<F: LogFile, D: LogFolder<F>>(
 ) -> Result<(), Stop>
     requires { length image.now ≡ 174848 }
     ensures any_moment { RestsAlone D.history folder.old (sectors_in image.now)
-        → LeavesFolders D.history folder.old folder.new (GivesEither (sectors_in image.now) (disk_image made.now.disk)) }
+        → LeavesFolders D.history folder.old folder.new
+        (KeepsOrGives None (sectors_in image.now) (disk_image made.now.disk)) }
     ensures ok { OnOk result (RestsAlone D.history folder.old (sectors_in image.now)
         → RestsAlone D.history folder.new (disk_image made.now.disk)) }
     ensures err { IfErr result (λ stop. ((stop ≡ stops.Refused (Fault NoMemory)) × (folder.new ≡ folder.old))

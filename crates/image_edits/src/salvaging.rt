@@ -10,13 +10,12 @@ ghost use Rattle.opened_files.specs.declared.refusals.Refusal.TheVariants as ref
 
 use crate::copying::write_copy;
 use command_faults::CommandFault;
-use d64_image::SECTORS;
 use disk_layout::Fault;
 use image_file::{EndedFile, HostFiles, Locks, OverwrittenFile, read_script};
 use opened_files::{
     AtPath, Older, Refusal, log_refusal, made_end, metadata_of, opened_shared, told,
 };
-use shop_log::{Salvaged, salvage};
+use shop_log::{Salvaged, image_room, salvage};
 use std::alloc::Global;
 use std::fs::OpenFile;
 use std::io::{self, Read, Write};
@@ -35,18 +34,6 @@ fn salvage_text(alloc: Global, taken: Salvaged) -> Result<Vec<u8>, Refusal>
         return Err(Refusal::Fault(CommandFault::NoMemory));
     }
     Ok(text)
-}
-
-/// Memory for an image.
-fn image_room(alloc: Global) -> Result<Vec<[u8; 256]>, Refusal>
-    ensures ok { IfOk result (λ image. length image.items ≡ 683) }
-    ensures err { IfErr result (λ refusal. refusal ≡ refusals.Fault faults.NoMemory) }
-{
-    let mut image = Vec::new(alloc);
-    match image.resize(SECTORS, [0; 256]) {
-        Ok(()) => Ok(image),
-        Err(_) => Err(Refusal::Fault(CommandFault::NoMemory)),
-    }
 }
 
 /// Gives these bytes the length of a log. `NoMemory` if there is none for it.
@@ -94,9 +81,8 @@ pub fn salvage_run<F: EndedFile, W: Write>(
 ) -> Result<(), Refusal>
     ensures { IsSalvageRun F.remains W.contents (vec_items log) file.old file.new out.old out.new result }
 {
-    let mut image = match image_room(alloc) {
-        Ok(image) => image,
-        Err(refusal) => return Err(refusal),
+    let Ok(mut image) = image_room(alloc) else {
+        return Err(Refusal::Fault(CommandFault::NoMemory));
     };
     let text = match take_commits(alloc, &mut log, image.as_mut_slice()) {
         Ok(text) => text,

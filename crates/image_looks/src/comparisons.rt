@@ -14,6 +14,8 @@ use std::io::{Read, Write};
 /// Draws the second of two images with what differs from the first one, and returns the fault that a check of the second one
 /// reports. `ImageSize`; `Layout` if the directory's sectors aren't a chain on track 18, of either image; `NoMemory`: nothing
 /// was printed then. `File` if the output failed.
+// Out of line: its frame is large, and a frame touches each page of it.
+#[inline(never)]
 pub fn comparing_run<W: Write>(
     alloc: Global,
     before: &[u8],

@@ -32,6 +32,8 @@ where
 
 /// Prints the object of the image at a path that has these bytes, and returns the exit status that a check of it alone
 /// would have.
+// Out of line: its frame is large, and a frame touches each page of it.
+#[inline(never)]
 fn put_object<R, W>(rt: &R, path: &str, image: &[u8], out: &mut W) -> Result<u8, CommandFault>
 where
     R: HostFiles + AllocGlobal,

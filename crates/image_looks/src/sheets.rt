@@ -34,6 +34,8 @@ fn put_unread<W: Write>(
 
 /// Prints the tile of the image at a path, of which this was read, and returns the exit status that its picture alone would
 /// have.
+// Out of line: its frame is large, and a frame touches each page of it.
+#[inline(never)]
 fn put_tile_of<W: Write>(
     alloc: Global,
     path: &str,

@@ -1,5 +1,7 @@
 //! The whole program, over a runtime.
-ghost use Rattle.std.specs.Prelude.{◌≡◌, ◌≢◌, if◌then◌else◌};
+ghost use Rattle.std.specs.Prelude.{◌≡◌, ◌≢◌, ◌⊎◌, Err, if◌then◌else◌};
+ghost use Rattle.command_faults.specs.declared.faults.CommandFault.TheVariants.{File};
+ghost use Rattle.opened_files.specs.declared.refusals.Refusal.TheVariants as refusals;
 ghost use Rattle.ledger_jobs.specs.Jobs.{IsFit};
 ghost use Rattle.ledger_cli.specs.declared.runner.Audience.TheVariants.{Person, Program, Waiting};
 
@@ -9,13 +11,13 @@ use crate::words::command_line;
 use command_faults::CommandFault;
 use disk_layout::Fault;
 use image_edits::do_trim;
-use image_file::{EndedFile, Failures, Locks, NotedRuntime};
+use image_file::{EndedFile, Failure, Failures, Locks, NotedRuntime, Subject};
 use ledger_jobs::{Job, announce, do_job, explain, files_of, tell_verdict};
 use opened_files::{Refusal, end};
 use std::alloc::{AllocError, Global};
 use std::env;
 use std::fs::OpenFile;
-use std::io::{self, BufWriter, Read, Write};
+use std::io::{self, BufWriter, ErrorKind, Read, Write};
 use std::rt::{Env, Files};
 
 /// The exit status of words that are refused.
@@ -164,6 +166,24 @@ where
     }
 }
 
+/// The end of a job that ended so, and of which this call failed first. `NotReady` in place of `File` if standard input is set
+/// not to wait, and had nothing more yet.
+fn awaited(
+    ended: Result<Option<Fault>, Refusal>,
+    cause: Option<Failure<'_>>,
+) -> Result<Option<Fault>, Refusal>
+    ensures { (result ≡ ended) ⊎ ((ended ≡ Err (refusals.Fault File)) × (result ≡ Err refusals.NotReady)) }
+{
+    let Some(Failure { subject, error, .. }) = cause else {
+        return ended;
+    };
+    let waits = subject != Subject::Input || error.kind() != ErrorKind::WouldBlock;
+    match ended {
+        Err(Refusal::Fault(CommandFault::File)) if !waits => Err(Refusal::NotReady),
+        ended => ended,
+    }
+}
+
 /// Does a job over an output that is gathered, and returns the exit status. If the job isn't done, a person reads more
 /// about why.
 fn obey_job<F, R, E>(rt: &R, job: &Job<'_>, told: Audience, err: &mut E) -> u8
@@ -177,7 +197,7 @@ where
         announce(rt, job, err);
     }
     let failures = Failures::none();
-    let ended = do_noted(rt, job, told, &failures, err);
+    let ended = awaited(do_noted(rt, job, told, &failures, err), failures.cause());
     let status = end(ended, err).status;
     if told == Audience::Program {
         return status;

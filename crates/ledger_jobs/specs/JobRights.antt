@@ -4,7 +4,7 @@ use Rattle.ledger_jobs.specs.declared.jobs.Job.{Job}
 use Rattle.ledger_jobs.specs.declared.jobs.Job.TheVariants as jobs
 use Rattle.image_file.specs.paths.Rights.{MayRead, Rights}
 use Rattle.image_edits.specs.EditRights.{MayEdit, MayReadSource}
-use Rattle.opened_files.specs.Rights.{MayReadImage, MayReadText, MayChangeImage, MayMakeImage, MayOverwrite, MayFillAt}
+use Rattle.opened_files.specs.Rights.{MayReadImage, MayReadText, MayChangeImage, MayMakeImage, MayFillAt}
 
 -- the file that a job reads or writes first; none of a job over several images
 abbrev pub first_file : Job → Option (List ℕ)
@@ -27,7 +27,7 @@ first_file _ = None
 module _ {H : Type 0} (rights : Rights H) (host : H) where
   -- what a job needs of the files that its words name
   abbrev pub MayDo : Job → Type 0
-  MayDo (jobs.Format image tills) = MayMakeImage rights host image.now × MayOverwrite rights host image.now
+  MayDo (jobs.Format image tills) = MayMakeImage rights host image.now × MayChangeImage rights host image.now
   MayDo (jobs.FormatNew image tills) = MayMakeImage rights host image.now
   MayDo (jobs.New image name id) = MayMakeImage rights host image.now
   MayDo (jobs.Look image what) = MayReadImage rights host image.now

@@ -1,7 +1,6 @@
 //! Doing a job: its files are opened and read, and what is printed goes to an output.
 ghost use Rattle.ledger_jobs.specs.JobRuns.{IsJobOver};
 ghost use Rattle.ledger_jobs.specs.Jobs.{IsFit};
-ghost use Rattle.opened_files.specs.declared.files.Older.TheVariants.{Replaced};
 ghost use Rattle.ledger_jobs.specs.JobRights.{MayDo};
 
 use crate::jobs::Job;
@@ -11,7 +10,9 @@ use image_edits::{do_copying, do_edit, do_new, do_salvaging};
 use image_file::{EndedFile, HostFiles, Locks};
 use image_looks::{do_comparing, do_describing, do_extracting, do_look, do_several, do_sheet};
 use opened_files::{Older, Refusal};
-use shop_jobs::{do_dry, do_format, do_logged_playing, do_logged_serving, do_playing};
+use shop_jobs::{
+    do_dry, do_format, do_logged_playing, do_logged_serving, do_making, do_playing,
+};
 use std::fs::OpenFile;
 use std::io::{Read, Write};
 
@@ -39,8 +40,8 @@ where
     ensures { IsJobOver R.rights R.stands W.contents rt.now job.now out.old out.new result }
 {
     match *job {
-        Job::Format { image, tills } => do_format(rt, image, tills, Older::Replaced, out),
-        Job::FormatNew { image, tills } => do_format(rt, image, tills, Older::Kept, out),
+        Job::Format { image, tills } => do_format(rt, image, tills, out),
+        Job::FormatNew { image, tills } => do_making(rt, image, tills, Older::Kept, out),
         Job::New {
             image,
             ref name,

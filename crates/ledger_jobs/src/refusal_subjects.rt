@@ -142,6 +142,7 @@ fn said_of_log(job: &Job<'_>) -> &'static str {
 pub(crate) fn subject_of(job: &Job<'_>, refusal: Refusal) -> About {
     match refusal {
         Refusal::Fault(fault) => about_fault(fault),
+        Refusal::NotReady => About::Files,
         Refusal::InUse => About::Image("another program has it; end that one first"),
         Refusal::Kept(_) => About::Image(KEPT),
         Refusal::Exists => About::Made,

@@ -4,6 +4,8 @@ use Rattle.std.specs.IoError.{error_kind}
 use Rattle.std.specs.declared.fs.locks.TryLockError.{TryLockError}
 use Rattle.std.specs.declared.fs.locks.TryLockError.TheVariants as locks
 use Rattle.std.specs.declared.io.Error.{Error}
+use Rattle.std.specs.declared.io.ErrorKind.{ErrorKind}
+use Rattle.std.specs.declared.io.ErrorKind.TheVariants as kinds
 use Rattle.command_faults.specs.Faults.{command_status, command_text, io_fault}
 use Rattle.command_faults.specs.declared.faults.CommandFault.{CommandFault}
 use Rattle.disk_layout.specs.Texts.{place_text}
@@ -18,6 +20,7 @@ use Rattle.opened_files.specs.declared.refusals.Refusal.TheVariants as refusals
 abbrev pub refusal_status : Refusal → ℕ
 refusal_status (refusals.Fault fault) = command_status fault
 refusal_status refusals.InUse = 3
+refusal_status refusals.NotReady = 3
 refusal_status (refusals.Kept n) = 1
 refusal_status refusals.Exists = 1
 refusal_status refusals.Log = 1
@@ -32,6 +35,7 @@ refusal_status (refusals.Several greatest) = greatest
 abbrev pub refusal_text : Refusal → List ℕ
 refusal_text (refusals.Fault fault) = command_text fault
 refusal_text refusals.InUse = codes "IN USE"
+refusal_text refusals.NotReady = codes "NOT READY"
 refusal_text (refusals.Kept n) = codes "KEPT " ++ decimal n
 refusal_text refusals.Exists = codes "FILE EXISTS"
 refusal_text refusals.Log = codes "LOG"
@@ -46,6 +50,7 @@ refusal_text (refusals.Several greatest) = codes "STATUS " ++ decimal greatest
 abbrev pub is_told : Refusal → Bool
 is_told (refusals.Fault fault) = true
 is_told refusals.InUse = true
+is_told refusals.NotReady = true
 is_told (refusals.Kept n) = false
 is_told refusals.Exists = true
 is_told refusals.Log = true
@@ -59,6 +64,11 @@ is_told (refusals.Several greatest) = false
 -- the line in which it is reported
 abbrev pub refusal_line : Refusal → List ℕ
 refusal_line refusal = if is_told refusal then refusal_text refusal ++ codes "\n" else []
+
+-- what is reported if the system failed with an error of this kind
+abbrev pub io_refusal : ErrorKind → Refusal
+io_refusal kinds.WouldBlock = refusals.NotReady
+io_refusal kind = refusals.Fault (io_fault kind)
 
 -- what is reported if a file isn't locked
 abbrev pub lock_refusal : TryLockError → Refusal
@@ -93,7 +103,7 @@ Ended = Result (Option Fault) CommandFault
 -- what came of asking the system, as it is reported
 abbrev pub told_of : {T : Type 0} → Result T Error → Result T Refusal
 told_of (Ok it) = Ok it
-told_of (Err error) = Err (refusals.Fault (io_fault (error_kind error)))
+told_of (Err error) = Err (io_refusal (error_kind error))
 
 -- what came of a run, as a job's end
 abbrev pub as_job : Ended → JobEnd

@@ -31,9 +31,10 @@ module _ {H : Type 0} (rights : Rights H) (stands : H → List ℕ → Stands) (
   abbrev pub OfImage : List ℕ → (List ℕ → Type 0) → Type 0
   OfImage path P = path ≢ standard_input → OfImageFile path P
 
--- a file wasn't opened, locked or read
+-- a file wasn't opened, locked or read whole
 abbrev pub IsUnread : Refusal → Type 0
 IsUnread refusals.InUse = ⊤
+IsUnread refusals.NotReady = ⊤
 IsUnread (refusals.Fault faults.File) = ⊤
 IsUnread (refusals.Fault faults.NoMemory) = ⊤
 IsUnread _ = ⊥

@@ -2,7 +2,7 @@
 use Rattle.std.specs.Prelude.{◌≡◌, ◌≢◌, ℕ, List, ◌++◌, codes}
 use Rattle.keeper_commands.specs.rescue.Folders.{StaysInside}
 use Rattle.shop_log.specs.life.LogRights.{MayForgetLog, MayKeepLog, MayReadLog}
-use Rattle.image_file.specs.paths.Rights.{Look, Make, May, MayRead, MayWrite, Read, Remove, Rights, Write}
+use Rattle.image_file.specs.paths.Rights.{Look, Make, May, MayRead, MayWrite, Read, Remove, Rights}
 
 -- the path that stands for standard input, which is never opened
 abbrev pub standard_input : List ℕ
@@ -48,10 +48,6 @@ module _ {H : Type 0} (rights : Rights H) (host : H) where
   -- an image may be made where nothing is
   abbrev pub MayMakeImage : List ℕ → Type 0
   MayMakeImage path = MayMakeNew path × MayForgetLog rights host path
-
-  -- a file that is there may be overwritten
-  abbrev pub MayOverwrite : List ℕ → Type 0
-  MayOverwrite path = May rights host Write path
 
   -- a folder may be made, and files in it
   abbrev pub MayFill : List ℕ → Type 0

@@ -2,17 +2,18 @@
 ghost use Rattle.std.specs.Prelude.{◌≡◌, IfErr, IfOk, string_bytes, true, vec_items};
 ghost use Rattle.std.proofs.Props.{props};
 ghost use Rattle.opened_files.specs.HostFiles.{IsUnread, OfText};
-ghost use Rattle.opened_files.specs.Rights.{MayMakeImage, MayOverwrite, MayReadText, MayLook};
+ghost use Rattle.opened_files.specs.Rights.{MayMakeImage, MayReadText, MayLook};
 ghost use Rattle.opened_files.specs.declared.files.Older.TheVariants.{Kept, Replaced};
-ghost use Rattle.image_file.specs.paths.Rights.{Look, May};
+ghost use Rattle.image_file.specs.paths.Rights.{Look, May, MayWrite};
 
 use crate::asides::Aside;
 use crate::image_logs::{is_there, see_one_place};
+use crate::outcomes::told;
 use crate::refusals::Refusal;
 use command_faults::CommandFault;
 use image_file::{
-    DIRECTORY_START, EndedFile, HostFiles, Identity, Locks, OpensFile, SPOILED_DIRECTORY,
-    private_mode, read_script, regular, regular_at,
+    EndedFile, HostFiles, Identity, Locks, OpensFile, private_mode, read_script, regular,
+    regular_at,
 };
 use shop_log::{LogNames, find_log, forget_log};
 use std::fs::{Metadata, OpenFile};
@@ -46,7 +47,7 @@ pub(crate) fn script_at<R: HostFiles + Input + AllocGlobal>(
     read_script(rt.alloc(), file, room)
 }
 
-/// The same, or why a job isn't begun that needs it: `File` or `NoMemory`.
+/// The same, or why a job isn't begun that needs it: `File`, `NotReady` or `NoMemory`.
 pub fn script_to_play<R: HostFiles + Input + AllocGlobal>(
     rt: &R,
     path: &str,
@@ -55,10 +56,7 @@ pub fn script_to_play<R: HostFiles + Input + AllocGlobal>(
     ensures read { OfText R.stands rt.now path.now (λ all. IfOk result (λ script. vec_items script ≡ all)) }
     ensures err { IfErr result IsUnread }
 {
-    match script_at(rt, path) {
-        Ok(script) => Ok(script),
-        Err(error) => Err(Refusal::Fault(CommandFault::of_io(&error))),
-    }
+    told(script_at(rt, path))
 }
 
 /// Whether a regular file stands at a path. An error if another thing does.
@@ -89,29 +87,10 @@ fn older_log<R: HostFiles>(
     }
 }
 
-/// Removes this log of the image at a path, whose file this is, and which would win over the new image. The file is
-/// spoiled before, and that is synced: without its log the old image is an older shop.
-fn forget_shop<F: EndedFile, R: HostFiles>(
-    rt: &R,
-    path: &str,
-    names: &LogNames,
-    log: Option<Identity>,
-    file: &mut F,
-) -> io::Result<()>
-    requires makes { MayMakeImage R.rights rt.now path.now }
-    requires leads { R.rights.leads rt.now path.now (string_bytes names.now.image) ≡ true }
-{
-    if log.is_some() {
-        file.put_over(&SPOILED_DIRECTORY, DIRECTORY_START as u64)?;
-        file.sync_whole()?;
-    }
-    forget_log(rt, names, log)
-}
-
 /// What becomes of a file that is there before another is made.
 #[derive(Clone, Copy, Debug, PartialEq, Eq)]
 pub enum Older {
-    /// It is written over, and not cut first.
+    /// It is written over, and not cut first. Its log stays until the new file is whole.
     Replaced,
     /// It stays, and none is made.
     Kept,
@@ -128,11 +107,13 @@ pub struct AtPath<'a, R: HostFiles> {
     like: Option<Metadata>,
     // the name that a file that was made has until it is whole
     aside: Option<Aside<'a, R>>,
+    // the log of what is replaced
+    log: Option<Identity>,
     refused: Option<Refusal>,
     // it may be made
     ghost makes: { MayMakeImage R.rights rt.now path.now } by { Prim.hlevel props },
     // or written over
-    ghost overwrites: { older ≡ Replaced → MayOverwrite R.rights rt.now path.now } by { Prim.hlevel props },
+    ghost overwrites: { older ≡ Replaced → MayWrite R.rights rt.now path.now } by { Prim.hlevel props },
 }
 
 impl<'a, R: HostFiles> AtPath<'a, R> {
@@ -140,7 +121,7 @@ impl<'a, R: HostFiles> AtPath<'a, R> {
     /// as the system allows that.
     pub fn new(rt: &'a R, path: &'a str, older: Older, like: Option<Metadata>) -> AtPath<'a, R>
         requires makes { MayMakeImage R.rights rt.now path.now }
-        requires overwrites { older ≡ Replaced → MayOverwrite R.rights rt.now path.now }
+        requires overwrites { older ≡ Replaced → MayWrite R.rights rt.now path.now }
     {
         AtPath {
             rt,
@@ -148,6 +129,7 @@ impl<'a, R: HostFiles> AtPath<'a, R> {
             older,
             like,
             aside: None,
+            log: None,
             refused: None,
         }
     }
@@ -222,6 +204,15 @@ where
     F: EndedFile + Locks + OpenFile + Drop,
     R: HostFiles<File = F> + AllocGlobal,
 {
+    /// Removes the log of what was replaced, beside the image that stands there now.
+    fn forget_older(&self) -> io::Result<()> {
+        if self.log.is_none() {
+            return Ok(());
+        }
+        let names = LogNames::of(self.rt, self.rt.alloc(), self.path)?;
+        forget_log(self.rt, &names, self.log)
+    }
+
     /// Takes the file, which was opened or made, for this program alone.
     fn take(&mut self, file: &mut F) -> io::Result<()> {
         // another thing may stand there by now
@@ -239,16 +230,16 @@ where
         }
     }
 
-    /// The file, opened or made, which this program has alone; no log stands beside it.
+    /// The file, opened or made, which this program has alone. No log stands beside it but that of what is replaced.
     fn locked(&mut self) -> io::Result<F> {
         let (rt, path) = (self.rt, self.path);
         // before the file is made, since memory may be refused
         let names = LogNames::of(rt, rt.alloc(), path)?;
-        let log = older_log(rt, path, &names, self.older)?;
+        self.log = older_log(rt, path, &names, self.older)?;
         let mut file = self.opened(&names)?;
         let taken = match self.take(&mut file) {
-            Ok(()) => forget_shop(rt, path, &names, log, &mut file),
-            Err(error) => Err(error),
+            Ok(()) if self.log.is_none() => forget_log(rt, &names, None),
+            taken => taken,
         };
         match taken {
             Ok(()) => Ok(file),
@@ -285,16 +276,13 @@ where
     }
 
     fn give_name(&mut self, _file: &F) -> io::Result<()> {
-        let Some(aside) = &self.aside else {
-            return Ok(());
-        };
-        match aside.give_path() {
-            Ok(()) => {
-                self.aside = None;
-                Ok(())
+        if let Some(aside) = &self.aside {
+            if let Err(error) = aside.give_path() {
+                return Err(self.unmade(error));
             }
-            Err(error) => Err(self.unmade(error)),
+            self.aside = None;
         }
+        self.forget_older()
     }
 
     fn remove_unnamed(&mut self, file: &F) {

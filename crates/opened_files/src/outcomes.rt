@@ -13,7 +13,7 @@ pub fn told<T>(taken: io::Result<T>) -> Result<T, Refusal>
 {
     match taken {
         Ok(it) => Ok(it),
-        Err(error) => Err(Refusal::Fault(CommandFault::of_io(&error))),
+        Err(error) => Err(Refusal::of_io(&error)),
     }
 }
 

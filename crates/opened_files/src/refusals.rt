@@ -1,12 +1,14 @@
 //! Why a job isn't done.
 ghost use Rattle.std.specs.Prelude.{◌≡◌, Some};
-ghost use Rattle.opened_files.specs.Ends.{is_told as told_there, lock_refusal, refusal_status, refusal_text};
+ghost use Rattle.std.specs.IoError.{error_kind};
+ghost use Rattle.opened_files.specs.Ends.{io_refusal, is_told as told_there, lock_refusal, refusal_status, refusal_text};
 
 use command_faults::CommandFault;
 use d64_image::Place;
 use std::error::Error;
 use std::fmt::{self, Display, Formatter};
 use std::fs::TryLockError;
+use std::io;
 
 /// Why a job isn't done, as it is reported on standard error.
 #[derive(Clone, Copy, Debug, PartialEq, Eq)]
@@ -15,6 +17,8 @@ pub enum Refusal {
     Fault(CommandFault),
     /// Another program has the image. Nothing was read or changed.
     InUse,
+    /// Input that is set not to wait had nothing more yet. What was read before stands.
+    NotReady,
     /// The disk is repaired, except that this number of sectors stay taken though no file owns them. The output says
     /// so.
     Kept(u16),
@@ -44,7 +48,7 @@ impl Refusal {
     {
         match self {
             Refusal::Fault(fault) => fault.status(),
-            Refusal::InUse => 3,
+            Refusal::InUse | Refusal::NotReady => 3,
             Refusal::Kept(_) => 1,
             Refusal::Exists => 1,
             Refusal::Log | Refusal::LogAway => 1,
@@ -61,9 +65,20 @@ impl Refusal {
         ensures { result ≡ told_there self.now }
     {
         match self {
-            Refusal::Fault(_) | Refusal::InUse | Refusal::Exists | Refusal::Log => true,
+            Refusal::Fault(_) | Refusal::InUse | Refusal::NotReady => true,
+            Refusal::Exists | Refusal::Log => true,
             Refusal::LogAway | Refusal::TwoNames | Refusal::Short(_) | Refusal::ShopFile => true,
             Refusal::Kept(_) | Refusal::Trimmed | Refusal::Several(_) => false,
+        }
+    }
+
+    /// The refusal if the system failed so: `NotReady` if it was asked not to wait, otherwise the fault of the error.
+    pub fn of_io(error: &io::Error) -> Refusal
+        ensures { result ≡ io_refusal (error_kind error.now) }
+    {
+        match error.kind() {
+            io::ErrorKind::WouldBlock => Refusal::NotReady,
+            _ => Refusal::Fault(CommandFault::of_io(error)),
         }
     }
 
@@ -86,6 +101,7 @@ impl Display for Refusal {
         match self {
             Refusal::Fault(fault) => fault.fmt(f),
             Refusal::InUse => f.write_str("IN USE"),
+            Refusal::NotReady => f.write_str("NOT READY"),
             Refusal::Kept(count) => write!(f, "KEPT {count}"),
             Refusal::Exists => f.write_str("FILE EXISTS"),
             Refusal::Log => f.write_str("LOG"),

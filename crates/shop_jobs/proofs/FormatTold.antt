@@ -1,11 +1,17 @@
--- What was printed of the image of a shop that is made, by how its run ended.
-use Rattle.std.proofs.Common.{ℕ, List, Option, Result, Ok, Err, inl, inr}
-use Rattle.std.specs.Prelude.{codes}
+-- What came of the image of a shop that is made, by how its run ended.
+use Rattle.std.proofs.Common.{ℕ, List, Option, Result, Ok, Err, inl, inr, refl, ⊎_elim}
+use Rattle.std.specs.Prelude.{IsErr, codes}
 use Rattle.command_faults.specs.declared.faults.CommandFault.{CommandFault}
 use Rattle.command_faults.specs.declared.faults.CommandFault.TheVariants as faults
-use Rattle.shop_commands.specs.Images.{IsFormatted}
+use Rattle.d64_image.specs.Images.{Image}
+use Rattle.shop_commands.specs.Images.{IsFormatted, IsFreshDisk}
 use Rattle.image_file.specs.Remains.{Remains}
-use Rattle.opened_files.specs.Makings.{IsMakingTold}
+use Rattle.opened_files.specs.Ends.{JobEnd}
+use Rattle.opened_files.specs.Makings.{IsMakingEnd, IsMakingTold}
+use Rattle.shop_jobs.specs.Formats.{KeepsOrGivesFresh}
+use Rattle.shop_log.specs.life.Folders.{FolderHistory, LeavesFolders}
+use Rattle.shop_log.specs.life.Replacing.{KeepsOrGives}
+use Rattle.shop_log.proofs.lemmas.life.Steps.{weaker}
 
 module _ {F W : Type 0} (contents : W → Option (List ℕ)) (file after : F) (old new : W) (r : Remains F) where
   pub format-told : (tills : ℕ) (ended : Result Unit CommandFault)
@@ -16,3 +22,15 @@ module _ {F W : Type 0} (contents : W → Option (List ℕ)) (file after : F) (o
   format-told tills (Err faults.File) (inr (over, part)) = inr part
   format-told tills (Err faults.NoMemory) (same, quiet) = quiet
   format-told tills (Err _) none = absurd none
+
+-- before anything is done
+pub not-begun : {W : Type 0} (contents : W → Option (List ℕ)) (w : W) (end : JobEnd) → IsErr end
+    → IsMakingEnd contents (codes "FORMATTED\n") w w end
+not-begun contents w end is = (Err faults.File, inl refl, is)
+
+-- the disk that replaced the image is fresh
+pub fresh-moments : {D : Type 0} (h : FolderHistory D) (old new : D) (shop : Image) (tills : ℕ) → IsFreshDisk shop tills
+    → (log : Option (List ℕ)) (before : Image) → LeavesFolders h old new (KeepsOrGives log before shop)
+    → LeavesFolders h old new (KeepsOrGivesFresh log before tills)
+fresh-moments h old new shop tills fresh log before = weaker h old new (KeepsOrGives log before shop)
+    (KeepsOrGivesFresh log before tills) (λ s. ⊎_elim (λ was. inl was) (λ gives. inr (shop, fresh, gives)))

@@ -23,6 +23,7 @@ landing_lost (refusals.Fault (faults.ScriptLine line)) = inl refl
 landing_lost (refusals.Fault faults.File) = inl refl
 landing_lost (refusals.Fault faults.Device) = inl refl
 landing_lost refusals.InUse = inl refl
+landing_lost refusals.NotReady = inl refl
 landing_lost (refusals.Kept n) = inl refl
 landing_lost refusals.Exists = inl refl
 landing_lost refusals.Log = inl refl
@@ -77,6 +78,8 @@ unlanded_is (Err (refusals.Fault (faults.ScriptLine line))) fault =
 unlanded_is (Err (refusals.Fault faults.Device)) fault =
     record { told = inl refl; out = λ out. elim out [ inl ok ↦ false≢true ok | inr e ↦ cc ] }
 unlanded_is (Err refusals.InUse) fault =
+    record { told = inl refl; out = λ out. elim out [ inl ok ↦ false≢true ok | inr e ↦ cc ] }
+unlanded_is (Err refusals.NotReady) fault =
     record { told = inl refl; out = λ out. elim out [ inl ok ↦ false≢true ok | inr e ↦ cc ] }
 unlanded_is (Err (refusals.Kept n)) fault =
     record { told = inl refl; out = λ out. elim out [ inl ok ↦ false≢true ok | inr e ↦ cc ] }

@@ -26,6 +26,8 @@ fn dry_ended(end: Result<(), DryFault>) -> Result<Option<Fault>, Refusal>
 
 /// Prints the replies to a script, from no cards on and without a disk. `ScriptLine` if a line can't be played: nothing was
 /// printed. `File` if the output failed.
+// Out of line: its frame is large, and a frame touches each page of it.
+#[inline(never)]
 pub fn dry_run<W: Write>(script: &[u8], out: &mut W) -> Result<Option<Fault>, Refusal>
     ensures { IsDryRun W.contents script.now out.old out.new result }
 {

@@ -1,5 +1,5 @@
 -- A log that is landed: what each step leaves. Our own.
-use Rattle.std.specs.Prelude.{ℕ, ◌≡◌, ◌≤◌, [], ◌∷◌, List, None, Some, length}
+use Rattle.std.specs.Prelude.{ℕ, ◌≡◌, ◌≤◌, [], ◌∷◌, List, None, Option, Some, length}
 use Rattle.d64_image.specs.Images.{Image}
 use Rattle.shop_log.specs.Files.{Mixed, overwritten}
 use Rattle.shop_log.specs.life.Folders.{AllLeft, Folder, FolderHistory, HasImage, HasNames}
@@ -34,9 +34,9 @@ IsLanding log base shop s = HasLog log s × IsMixOf base shop s.image
 abbrev pub IsBrought : Image → Folder → Type 0
 IsBrought shop s = (s.image ≡ shop) × Gives s shop
 
--- IMAGE is this image, and there is no log
-abbrev pub IsAlone : Image → Folder → Type 0
-IsAlone shop s = (s.image ≡ shop) × (s.log ≡ None)
+-- IMAGE is this image, and these bytes are its log, if it has one
+abbrev pub IsWith : Option (List ℕ) → Image → Folder → Type 0
+IsWith log image s = (s.image ≡ image) × (s.log ≡ log)
 
 module _ {D : Type 0} (h : FolderHistory D) where
   -- The folder is known and gives one of these images, as does each that a power loss may leave. Each of these has the
@@ -47,9 +47,13 @@ module _ {D : Type 0} (h : FolderHistory D) where
     pub left : AllLeft h d (GivesOneOf shops)
     pub settled : AllLeft h d (IsSettledAs s)
 
-  -- The folder has this image and no log, and a power loss leaves that.
-  pub record RestsAlone (d : D) (shop : Image) : Type 0 where
+  -- The folder has this image, and this log or none, and a power loss leaves that.
+  pub record RestsWith (d : D) (log : Option (List ℕ)) (image : Image) : Type 0 where
     pub some : Folder
     pub held : h.held d ≡ Some some
-    pub is : IsAlone shop some
-    pub left : AllLeft h d (IsAlone shop)
+    pub is : IsWith log image some
+    pub left : AllLeft h d (IsWith log image)
+
+  -- the same of an image with no log
+  abbrev pub RestsAlone : D → Image → Type 0
+  RestsAlone d image = RestsWith d None image

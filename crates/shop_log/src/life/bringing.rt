@@ -1,7 +1,7 @@
 //! An image that is copied into IMAGE, and a log that is removed.
 ghost use Rattle.std.specs.Prelude.{◌≡◌, ◌<◌, [], List, OnErr, OnOk, Some, ℕ, length, slice_index_or, true};
 ghost use Rattle.d64_image.specs.Images.{Image};
-ghost use Rattle.shop_log.specs.life.Bringing.{IsAlone, IsBrought, IsLanding, RestsAlone};
+ghost use Rattle.shop_log.specs.life.Bringing.{IsBrought, IsLanding, RestsAlone};
 ghost use Rattle.shop_log.specs.life.Folders.{AllLeft, Folder, HasImage, LeavesFolders, with_image, with_sector};
 
 use crate::life::log_folder::LogFolder;

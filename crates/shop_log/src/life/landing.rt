@@ -47,8 +47,7 @@ impl From<io::Error> for LogFault {
 fn settle<F: LogFile, D: LogFolder<F>>(folder: &mut D) -> io::Result<()>
     ensures held { D.history.held folder.new ≡ D.history.held folder.old }
     ensures outcomes { (s : Folder) → D.history.may_leave folder.new s → D.history.may_leave folder.old s }
-    ensures any_moment { (shops : List Image) → AllLeft D.history folder.old (GivesOneOf shops)
-        → LeavesFolders D.history folder.old folder.new (GivesOneOf shops) }
+    ensures any_moment { LeavesFolders D.history folder.old folder.new (D.history.may_leave folder.old) }
     ensures ok { OnOk result ((s : Folder) → D.history.held folder.old ≡ Some s → AllLeft D.history folder.new (IsSettledAs s)) }
     ensures cause { OnErr result (D.history.has_failed folder.new ≡ true) }
 {
@@ -57,14 +56,13 @@ fn settle<F: LogFile, D: LogFolder<F>>(folder: &mut D) -> io::Result<()>
 }
 
 /// Settles the folder, reads IMAGE, and opens the log to be read, if there is one.
-fn find<F: LogFile, D: LogFolder<F>>(
+pub(crate) fn find<F: LogFile, D: LogFolder<F>>(
     folder: &mut D,
     now: &mut [[u8; 256]],
 ) -> io::Result<Option<D::Reader>>
     requires sized { length now.old ≡ 683 }
     ensures sized { length now.new ≡ 683 }
-    ensures any_moment { (shops : List Image) → AllLeft D.history folder.old (GivesOneOf shops)
-        → LeavesFolders D.history folder.old folder.new (GivesOneOf shops) }
+    ensures any_moment { LeavesFolders D.history folder.old folder.new (D.history.may_leave folder.old) }
     ensures outcomes { (s : Folder) → D.history.may_leave folder.new s → D.history.may_leave folder.old s }
     ensures read { IfOk result (λ log. (s : Folder) → D.history.held folder.old ≡ Some s
         → (D.history.held folder.new ≡ Some s) × (now.new ≡ s.image) × IsOpened D.Reader.bytes log s.log) }

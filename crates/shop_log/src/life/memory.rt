@@ -15,8 +15,8 @@ use d64_image::SECTORS;
 use std::alloc::Global;
 use std::io;
 
-/// Memory for an image.
-pub(crate) fn image_room(alloc: Global) -> io::Result<Vec<[u8; 256]>>
+/// Memory for an image. The only error is that it was refused.
+pub fn image_room(alloc: Global) -> io::Result<Vec<[u8; 256]>>
     ensures { IfOk result (λ image. length image.items ≡ 683) }
 {
     let mut image = Vec::new(alloc);

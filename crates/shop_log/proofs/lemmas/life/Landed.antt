@@ -127,7 +127,7 @@ module _ {D : Type 0} (h : FolderHistory D) where
 
   -- the folder was read, and it has a log
   module _ (old mid : D) (now : Image) (known : Option (List ℕ))
-      (finding : (shops : List Image) → AllLeft h old (GivesOneOf shops) → LeavesFolders h old mid (GivesOneOf shops))
+      (finding : LeavesFolders h old mid (h.may_leave old))
       (outcomes : (s : Folder) → h.may_leave mid s → h.may_leave old s)
       (read : (s : Folder) → h.held old ≡ Some s → (h.held mid ≡ Some s) × (now ≡ s.image))
       (opened : (s : Folder) → h.held old ≡ Some s → (f : List ℕ) × (s.log ≡ Some f) × (known ≡ Some f))
@@ -148,7 +148,7 @@ module _ {D : Type 0} (h : FolderHistory D) where
         → LeavesFolders h old new (GivesOneOf shops)
     some_moments new landing shops s held gives all =
         let log = opened s held in
-        joined h old mid new (GivesOneOf shops) (finding shops all)
+        joined h old mid new (GivesOneOf shops) (weaker h old mid (h.may_leave old) (GivesOneOf shops) all finding)
         (landing shops s log.0 (there_is shops s held gives all) log.2 log.1 (read s held).1)
 
     pub some_ok : {T E : Type 0} (new : D) (shop : Image) (r : Result T E)
