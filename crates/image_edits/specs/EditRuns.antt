@@ -4,7 +4,8 @@ use Rattle.image_file.specs.Remains.{Remains}
 use Rattle.image_file.specs.paths.Rights.{Rights}
 use Rattle.image_file.specs.paths.Standing.{Stands}
 use Rattle.image_file.specs.paths.Traces.{Traces}
-use Rattle.image_edits.specs.Changes.{IsChangeEnd, IsShownEnd}
+use Rattle.disk_changes.specs.declared.changes.Changed.{Changed}
+use Rattle.image_edits.specs.Changes.{IsChangeEnd, IsChangedAt, IsShownEnd}
 use Rattle.image_edits.specs.Copies.{IsCopyEnd}
 use Rattle.image_edits.specs.Edits.{IsEdited, IsTextFor, IsUnedited, loss_of}
 use Rattle.opened_files.specs.Ends.{JobEnd}
@@ -29,14 +30,17 @@ module _ {H F W : Type 0} (rights : Rights H) (stands : H → List ℕ → Stand
   IsCopiedFrom path copy old new end = OfImage rights stands host path
       (λ all. RunEnds old new end (IsCopyEnd traces remains contents host copy (codes "COPIED\n") (take 174849 all) old new end))
 
-module _ {H W : Type 0} (rights : Rights H) (stands : H → List ℕ → Stands) (contents : W → Option (List ℕ)) (host : H) where
+module _ {H W : Type 0} (rights : Rights H) (stands : H → List ℕ → Stands)
+    (changed : H → (path image : List ℕ) → Changed → Type 0) (contents : W → Option (List ℕ)) (host : H) where
   -- Its files were changed, all or nothing, or only what the change would print was printed. That isn't done to an image
   -- whose log has the rest, unless the loss of it is accepted.
   abbrev pub IsEditOver : Effect → List ℕ → Edit → W → W → JobEnd → Type 0
   IsEditOver Written path edit old new end = NearRunEnds (loss_of edit)
       (OfWritten stands host path (λ all. SaysLogAway (take 174849 all))) old new end ((image text : List ℕ)
       × OfWritten stands host path (λ all. image ≡ take 174849 all) × (¬ (SaysLogAway image))
-      × IsTextFor stands host edit text × IsChangeEnd contents (IsEdited edit text image) (IsUnedited edit text image) old new end)
+      × IsTextFor stands host edit text × IsChangeEnd contents
+      (λ made. IsEdited edit text image made × IsChangedAt rights changed host path image made)
+      (IsUnedited edit text image) old new end)
   IsEditOver Printed path edit old new end = NearRunEnds (loss_of edit)
       (OfImage rights stands host path (λ all. SaysLogAway (take 174849 all))) old new end ((image text : List ℕ)
       × OfImage rights stands host path (λ all. image ≡ take 174849 all) × IsNear (loss_of edit) image

@@ -6,13 +6,13 @@ ghost use Rattle.opened_files.specs.Names.{name_bytes};
 ghost use Rattle.image_edits.specs.NewDisks.{IsNewDiskEnd};
 ghost use Rattle.opened_files.specs.Rights.{MayMakeImage};
 
+use crate::copying::make_told;
 use command_faults::CommandFault;
 use d64_image::MemDisk;
 use disk_layout::Fault;
 use file_changes::new_disk;
 use image_file::{EndedFile, HostFiles, Locks};
-use opened_files::{Name, Refusal, make_image, run_end};
-use shop_commands::put_whole;
+use opened_files::{Name, Refusal};
 use std::alloc::Global;
 use std::fs::OpenFile;
 use std::io::Write;
@@ -48,6 +48,5 @@ where
         out.old out.new result }
 {
     let disk = made_disk(rt.alloc(), name.as_bytes(), id)?;
-    make_image(rt, path, None, disk.bytes())?;
-    run_end(put_whole(out, b"FORMATTED\n"))
+    make_told(rt, path, None, disk.bytes(), b"FORMATTED\n", out)
 }

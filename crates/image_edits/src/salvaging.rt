@@ -8,12 +8,12 @@ ghost use Rattle.image_edits.specs.Salvages.{IsOfLog, IsUnsalvaged, log_bytes, s
 ghost use Rattle.command_faults.specs.declared.faults.CommandFault.TheVariants as faults;
 ghost use Rattle.opened_files.specs.declared.refusals.Refusal.TheVariants as refusals;
 
+use crate::copying::make_told;
 use command_faults::CommandFault;
 use d64_image::SECTORS;
 use disk_layout::Fault;
 use image_file::{EndedFile, HostFiles, Locks, read_script};
-use opened_files::{Refusal, log_refusal, make_image, metadata_of, opened_shared, run_end, told};
-use shop_commands::put_whole;
+use opened_files::{Refusal, log_refusal, metadata_of, opened_shared, told};
 use shop_log::{Salvaged, salvage};
 use std::alloc::Global;
 use std::fs::OpenFile;
@@ -77,6 +77,19 @@ fn take_commits(
     }
 }
 
+/// The image of a log's whole commits, and what is printed of that.
+fn salvaged(alloc: Global, log: Vec<u8>) -> Result<(Vec<[u8; 256]>, Vec<u8>), Refusal>
+    ensures ok { IfOk result (λ made. IsOfLog (vec_items log)
+        (λ image said. (image ≡ vec_items made.0) × (vec_items made.1 ≡ said))) }
+    ensures sized { IfOk result (λ made. length (vec_items made.0) ≡ 683) }
+    ensures err { IfErr result (IsUnsalvaged (vec_items log)) }
+{
+    let mut log = log;
+    let mut image = image_room(alloc)?;
+    let text = take_commits(alloc, &mut log, image.as_mut_slice())?;
+    Ok((image, text))
+}
+
 /// The bytes that a reader has, up to as many as a log has.
 fn read_log<R: Read + Drop>(alloc: Global, reader: R) -> io::Result<Vec<u8>>
     ensures { IfOk result (λ bytes. IfSome (R.remaining reader) (λ all. vec_items bytes ≡ take 4198400 all)) }
@@ -124,9 +137,8 @@ where
     ensures { IsSalvagedFrom R.rights R.stands R.traces F.EndedFile.remains W.contents rt.now path.now copy.now
         out.old out.new result }
 {
-    let mut log = log_at(rt, path)?;
-    let mut image = image_room(rt.alloc())?;
-    let text = take_commits(rt.alloc(), &mut log, image.as_mut_slice())?;
-    make_image(rt, copy, metadata_of(rt, path), image.as_slice().as_flattened())?;
-    run_end(put_whole(out, text.as_slice()))
+    let log = log_at(rt, path)?;
+    let (image, text) = salvaged(rt.alloc(), log)?;
+    let (image, like) = (image.as_slice().as_flattened(), metadata_of(rt, path));
+    make_told(rt, copy, like, image, text.as_slice(), out)
 }

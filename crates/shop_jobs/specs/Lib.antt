@@ -2,6 +2,7 @@ pub mod DurableRuns
 pub mod LandedRuns
 pub mod LoggedPlays
 pub mod LoggedRuns
+pub mod NewShops
 pub mod Replies
 pub mod Runs
 pub mod ServiceEnds
