@@ -10,7 +10,7 @@ use Rattle.shop_log.specs.declared.life.landing.LogFault.TheVariants.{File, Unfi
 use Rattle.shop_log.specs.life.Faults.{IsMisfit}
 use Rattle.opened_files.specs.Ends.{JobEnd, log_refusal}
 use Rattle.opened_files.specs.Makings.{IsMadeAt, IsNewEnd}
-use Rattle.image_edits.specs.Salvages.{IsOfLog, IsUnsalvaged, log_bytes}
+use Rattle.image_edits.specs.Salvages.{IsOfLog, IsUnsalvaged, log_bytes, salvage_text}
 use Rattle.opened_files.specs.declared.refusals.Refusal.{Refusal}
 
 -- why a log without a base isn't taken
@@ -30,7 +30,7 @@ salvage-end traces remains contents host path all old new end shop items flat sa
       image,
       salvaged,
       is,
-      subst (λ (bytes : List ℕ). IsNewEnd contents (IsMadeAt remains traces host path bytes) _ old new end)
+      subst (λ (bytes : List ℕ). IsNewEnd contents (IsMadeAt remains traces host path bytes) (salvage_text salvaged) old new end)
           (by-shop ∙ ap bytes_of (sym same))
           (subst (λ (text : List ℕ). IsNewEnd contents (IsMadeAt remains traces host path flat) text old new end)
           (by-items ∙ as-text) told),
