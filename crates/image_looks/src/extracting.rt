@@ -110,7 +110,7 @@ fn folder_end(
 
 /// Makes the chosen files of the image at a path, as its shop is now, in a folder at another path, at which there must be
 /// nothing.
-fn extract_to<'a, F, R, W>(
+fn extract_to<'a, D, F, R, W>(
     rt: &'a R,
     choice: Choice,
     path: &str,
@@ -118,13 +118,14 @@ fn extract_to<'a, F, R, W>(
     out: &mut W,
 ) -> Result<Option<Fault>, Refusal>
 where
+    D: KeptFolder + Drop,
     F: EndedFile + Read + Locks + OpenFile + Drop,
-    R: HostFiles<File = F> + HostFolders<'a> + Input + AllocGlobal,
+    R: HostFiles<File = F> + HostFolders<'a, Folder = D> + Input + AllocGlobal,
     W: Write,
     requires image { MayReadImage R.rights rt.now path.now }
     requires folder { MayFill R.rights rt.now folder.now }
     ensures { OfImage R.rights R.stands rt.now path.now (λ all. RunEnds out.old out.new result
-        (IsExtractedTo R.Folder.files R.Folder.IsKept R.Folder.HasFailed (R.begun rt.now folder.now) W.contents choice
+        (IsExtractedTo D.files D.IsKept D.HasFailed (R.begun rt.now folder.now) W.contents choice
         (take 174849 all) out.old out.new result)) }
 {
     let image = image_at(rt, path)?;
@@ -165,7 +166,7 @@ fn front_of(alloc: Global, path: &str) -> Result<Option<&str>, Refusal>
 }
 
 /// The same of a folder whose path may end with a slash.
-pub fn do_extracting<'a, F, R, W>(
+pub fn do_extracting<'a, D, F, R, W>(
     rt: &'a R,
     choice: Choice,
     path: &str,
@@ -173,12 +174,13 @@ pub fn do_extracting<'a, F, R, W>(
     out: &mut W,
 ) -> Result<Option<Fault>, Refusal>
 where
+    D: KeptFolder + Drop,
     F: EndedFile + Read + Locks + OpenFile + Drop,
-    R: HostFiles<File = F> + HostFolders<'a> + Input + AllocGlobal,
+    R: HostFiles<File = F> + HostFolders<'a, Folder = D> + Input + AllocGlobal,
     W: Write,
     requires image { MayReadImage R.rights rt.now path.now }
     requires folder { MayFillAt R.rights rt.now folder.now }
-    ensures { IsExtractedFrom R.rights R.stands R.Folder.files R.Folder.IsKept R.Folder.HasFailed R.begun W.contents rt.now
+    ensures { IsExtractedFrom R.rights R.stands D.files D.IsKept D.HasFailed R.begun W.contents rt.now
         choice path.now folder.now out.old out.new result }
 {
     match front_of(rt.alloc(), folder)? {

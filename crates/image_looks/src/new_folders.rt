@@ -5,7 +5,7 @@ ghost use Rattle.keeper_commands.specs.rescue.Folders.{StaysInside};
 ghost use Rattle.opened_files.specs.Rights.{MayFill, MayTry};
 ghost use Rattle.opened_files.specs.Rights as specs;
 
-use image_file::{EndedFile, HostFiles};
+use image_file::{EndedFile, HostFiles, NotedRuntime};
 use keeper_commands::NewFolder;
 use opened_files::Aside;
 use std::alloc::Global;
@@ -45,14 +45,13 @@ pub trait HostFolders<'a>: HostFiles {
         ensures { begun self.now path.now result };
 }
 
-impl<'a, F, R> HostFolders<'a> for R
+impl<'a, 'n: 'a, 'w: 'a, R: HostFiles + AllocGlobal + 'a> HostFolders<'a> for NotedRuntime<'n, 'w, R>
 where
-    F: EndedFile + Drop + 'a,
-    R: HostFiles<File = F> + AllocGlobal + 'a,
+    R::File: EndedFile,
 {
-    type Folder = SystemFolder<'a, R>;
+    type Folder = SystemFolder<'a, Self>;
 
-    fn new_folder(&'a self, path: &'a str) -> SystemFolder<'a, R> {
+    fn new_folder(&'a self, path: &'a str) -> SystemFolder<'a, Self> {
         SystemFolder::new(self, path)
     }
 }
@@ -169,7 +168,7 @@ pub struct SystemFolder<'a, R: HostFiles> {
 
 impl<'a, R: HostFiles> SystemFolder<'a, R> {
     /// The folder at this path, which isn't made yet.
-    fn new(rt: &'a R, path: &'a str) -> SystemFolder<'a, R>
+    pub fn new(rt: &'a R, path: &'a str) -> SystemFolder<'a, R>
         requires { MayFill R.rights rt.now path.now }
     {
         SystemFolder {
