@@ -1,18 +1,57 @@
--- Files that were made in a folder, once it is kept.
-use Rattle.std.proofs.Common.{◌≡◌, ℕ, List, Option, Result, Ok, Err, inl, inr, refl, subst, sym, ⊎_elim}
+-- Files that were made in a folder that is unknown.
+use Rattle.std.proofs.Common.{◌≡◌, ℕ, List, Option, None, Result, Ok, Err, inl, inr, refl, subst, sym}
 use Rattle.std.specs.Prelude.{IsErr, IsOk, MatchResult, OnOk}
 use Rattle.command_faults.specs.declared.faults.CommandFault.{CommandFault}
+use Rattle.command_faults.specs.declared.faults.CommandFault.TheVariants as faults
 use Rattle.d64_image.specs.Memory.{sectors_in}
 use Rattle.d64_image.specs.declared.place.Place.{Place}
 use Rattle.disk_layout.specs.declared.faults.Fault.{Fault}
 use Rattle.keeper_commands.specs.rescue.Folders.{AddsFiles, NewFile}
-use Rattle.keeper_commands.specs.rescue.Rescues.{IsExtractFault, IsExtracted, all_files}
+use Rattle.keeper_commands.specs.rescue.Rescues.{IsExtractFault, IsExtracted, IsExtractedPart, all_files}
 use Rattle.keeper_commands.specs.declared.rescue.choices.Choice.{Choice}
-use Rattle.image_file.specs.paths.Rights.{Rights}
-use Rattle.image_file.specs.paths.Standing.{Stands}
 use Rattle.opened_files.specs.Ends.{JobEnd}
-use Rattle.opened_files.specs.HostFiles.{OfImage, RunEnds}
-use Rattle.image_looks.specs.Extracts.{IsExtractTold, refusal_of}
+use Rattle.image_looks.specs.Extracts.{IsExtractEnd, IsExtractSaid, IsExtractTold, refusal_of}
+
+-- such a folder
+abbrev unknown : {F : Type 0} → F → Option (List NewFile)
+unknown _ = None
+
+module _ {F : Type 0} (choice : Choice) (image : List ℕ) (folder left : F) where
+  part-said : IsExtractedPart unknown choice image folder left → IsExtractedPart {F = Unit} unknown choice image tt tt
+  part-said part = record {
+    directory = part.directory;
+    rescued = part.rescued;
+    found = part.found;
+    rescue = part.rescue;
+    made = tt;
+  }
+
+  made-said : (ended : Result (Option Fault) CommandFault)
+      → MatchResult ended (IsExtracted unknown choice image folder left) (IsExtractFault unknown choice image folder left)
+      → MatchResult ended (IsExtracted {F = Unit} unknown choice image tt tt)
+      (IsExtractFault {F = Unit} unknown choice image tt tt)
+  made-said (Ok found) made = record {
+    directory = made.directory;
+    rescued = made.rescued;
+    found = made.found;
+    rescue = made.rescue;
+    made = tt;
+    told = made.told;
+  }
+  made-said (Err faults.ImageSize) (size, same) = (size, refl)
+  made-said (Err faults.NoMemory) (size, inl same) = (size, inl refl)
+  made-said (Err faults.NoMemory) (size, inr part) = (size, inr (part-said part))
+  made-said (Err faults.File) (size, part) = (size, part-said part)
+  made-said (Err _) none = none
+
+  pub extract-said : {W : Type 0} (has_failed : F → Type 0) (contents : W → Option (List ℕ)) (old new : W) (end : JobEnd)
+      → IsExtractEnd unknown has_failed contents choice image folder left old new end
+      → IsExtractSaid contents choice image old new end
+  extract-said has_failed contents old new end (inl (memory, same, quiet)) = inl (memory, refl, quiet)
+  extract-said has_failed contents old new end (inr (ended, cut, made, seen, inl told)) =
+      inr (ended, cut, made-said ended made, seen, inl told)
+  extract-said has_failed contents old new end (inr (ended, cut, made, seen, inr (ok, failed, is, quiet))) =
+      inr (ended, cut, made-said ended made, seen, inr (ok, tt, is, quiet))
 
 -- what was made in a folder is there once it is kept
 pub kept-so : {F : Type 0} (files : F → Option (List NewFile)) (choice : Choice) (image : List ℕ) (folder left kept : F)
@@ -39,12 +78,3 @@ pub told-kept : {W : Type 0} (contents : W → Option (List ℕ)) (ended : Resul
 told-kept contents (Ok found) cut old new (Ok printed) P told kept = kept refl
 told-kept contents (Ok found) cut old new (Err refusal) P told kept = tt
 told-kept contents (Err fault) cut old new end P told kept = subst (λ (e : JobEnd). OnOk e P) (sym told.0) tt
-
--- what is known of a run over the bytes that a host says may be weakened
-pub over-weaker : {H W : Type 0} (rights : Rights H) (stands : H → List ℕ → Stands) (host : H) (path : List ℕ) (old new : W)
-    (end : JobEnd) (P Q : List ℕ → Type 0) → ((all : List ℕ) → P all → Q all)
-    → OfImage rights stands host path (λ all. RunEnds old new end (P all))
-    → OfImage rights stands host path (λ all. RunEnds old new end (Q all))
-over-weaker rights stands host path old new end P Q f run =
-    λ other none all holds. ⊎_elim (λ done. inl (f all done)) (λ unbegun. inr unbegun) (run other none all holds)
-

@@ -1,5 +1,5 @@
 -- What comes of taking all files out of an image. All of it is our own.
-use Rattle.std.specs.Prelude.{◌≡◌, ◌⊎◌, ◌++◌, List, ℕ, IsOk, MatchResult, None, Ok, OnOk, Err, Option, Result, Some, codes}
+use Rattle.std.specs.Prelude.{◌≡◌, ◌⊎◌, ⊤, List, ℕ, IsOk, MatchResult, None, Ok, Err, Option, Result, Some, codes}
 use Rattle.std.specs.Io.KnownBytes.{Appends}
 use Rattle.d64_image.specs.declared.place.Place.{Place}
 use Rattle.disk_layout.specs.declared.faults.Fault.{Fault}
@@ -44,19 +44,17 @@ IsExtractEnd files has_failed contents choice image folder left old new end =
     × IsSeen image cut × (IsExtractTold contents (refusal_of ended cut) old new end
     ⊎ (IsOk ended × has_failed left × (end ≡ Err (refusals.Fault faults.File)) × (new ≡ old))))
 
+-- the same, if nothing is known of the folder
+abbrev pub IsExtractSaid : {W : Type 0} → (W → Option (List ℕ)) → Choice → (image : List ℕ) → W → W → JobEnd → Type 0
+IsExtractSaid contents choice image old new end =
+    IsExtractEnd {F = Unit} (λ _. None) (λ _. ⊤) contents choice image tt tt old new end
+
 -- a run that fills a folder ended so, and its job with it; a folder that was there is refused
 abbrev pub IsFolderEnd : JobEnd → JobEnd → Type 0
 IsFolderEnd (Ok found) end = end ≡ Ok found
 IsFolderEnd (Err refusal) end = (end ≡ Err refusal) ⊎ (end ≡ Err refusals.Exists)
 
--- The files of an image were made in a folder that was new, or not, and its job ended so. At Ok the folder is kept.
-abbrev pub IsExtractedTo : {D W : Type 0} → (files : D → Option (List NewFile)) → (is_kept has_failed begun : D → Type 0)
-    → (W → Option (List ℕ)) → Choice → (image : List ℕ) → W → W → JobEnd → Type 0
-IsExtractedTo {D} files is_kept has_failed begun contents choice image old new end =
-    (folder : D) × (left : D) × (ended : JobEnd) × begun folder
-    × IsExtractEnd files has_failed contents choice image folder left old new ended
-    × OnOk ended (is_kept left) × IsFolderEnd ended end
-
--- a folder that gets a path, which may have a slash at its end
-abbrev pub IsAtFolder : (List ℕ → Type 0) → List ℕ → Type 0
-IsAtFolder P path = P path ⊎ ((front : List ℕ) × (path ≡ front ++ codes "/") × P front)
+-- the files of an image were made in a folder that is made, or not, and its job ended so
+abbrev pub IsExtractedTo : {W : Type 0} → (W → Option (List ℕ)) → Choice → (image : List ℕ) → W → W → JobEnd → Type 0
+IsExtractedTo contents choice image old new end =
+    (ended : JobEnd) × IsExtractSaid contents choice image old new ended × IsFolderEnd ended end

@@ -7,8 +7,7 @@ use Rattle.image_looks.specs.Comparisons.{IsComparingRun}
 use Rattle.image_looks.specs.Descriptions.{IsObjectOf}
 use Rattle.image_looks.specs.EachImage.{AreHandedOn, IsSeveralEnd, IsReadAt}
 use Rattle.opened_files.specs.Ends.{JobEnd}
-use Rattle.image_looks.specs.Extracts.{IsAtFolder, IsExtractedTo}
-use Rattle.keeper_commands.specs.rescue.Folders.{NewFile}
+use Rattle.image_looks.specs.Extracts.{IsExtractedTo}
 use Rattle.opened_files.specs.HostFiles.{OfImage, RunEnds}
 use Rattle.image_looks.specs.Looks.{IsLook}
 use Rattle.image_looks.specs.Overviews.{IsOverviewOf}
@@ -27,6 +26,11 @@ module _ {H W : Type 0} (rights : Rights H) (stands : H → List ℕ → Stands)
       OfImage rights stands host after (λ second. RunEnds old new end
       (IsComparingRun contents (take 174849 first) (take 174849 second) old new end)))
 
+  -- its files were made in a folder that is made; nothing is said of that folder
+  abbrev pub IsExtractedFrom : Choice → List ℕ → W → W → JobEnd → Type 0
+  IsExtractedFrom choice path old new end = OfImage rights stands host path
+      (λ all. RunEnds old new end (IsExtractedTo contents choice (take 174849 all) old new end))
+
   -- the images at these paths were drawn on a sheet
   abbrev pub AreDrawnOnSheet : List (List ℕ) → W → W → JobEnd → Type 0
   AreDrawnOnSheet paths old new end =
@@ -41,11 +45,3 @@ module _ {H W : Type 0} (rights : Rights H) (stands : H → List ℕ → Stands)
   abbrev pub AreOverviewed : Look → List (List ℕ) → W → W → JobEnd → Type 0
   AreOverviewed what paths old new end =
       IsSeveralEnd (AreHandedOn (IsReadAt rights stands host) (IsOverviewOf contents what) contents paths old new) end
-
--- the files of the image at a path were made in a folder that is new, and kept
-abbrev pub IsExtractedFrom : {H D W : Type 0} → Rights H → (H → List ℕ → Stands) → (files : D → Option (List NewFile))
-    → (is_kept has_failed : D → Type 0) → (begun : H → List ℕ → D → Type 0) → (W → Option (List ℕ)) → H → Choice
-    → (path folder : List ℕ) → W → W → JobEnd → Type 0
-IsExtractedFrom rights stands files is_kept has_failed begun contents host choice path folder old new end =
-    OfImage rights stands host path (λ all. RunEnds old new end (IsAtFolder (λ front. IsExtractedTo files is_kept has_failed
-    (begun host front) contents choice (take 174849 all) old new end) folder))

@@ -1,12 +1,12 @@
 //! All files of an image, taken out to a folder that is new.
-ghost use Rattle.std.specs.Prelude.{◌≡◌, ◌++◌, IfErr, IfOk, IfSome, IsErr, IsOk, OnOk, codes, take, true};
+ghost use Rattle.std.specs.Prelude.{◌≡◌, ◌++◌, IfErr, IfOk, IfSome, IsErr, IsOk, OnOk, codes, true};
 ghost use Rattle.command_faults.specs.declared.faults.CommandFault.TheVariants as faults;
-ghost use Rattle.image_looks.specs.Extracts.{IsExtractEnd, IsExtractTold, IsExtractedTo, IsFolderEnd, refusal_found, refusal_of};
+ghost use Rattle.image_looks.specs.Extracts.{IsExtractEnd, IsExtractTold, IsFolderEnd, refusal_found, refusal_of};
 ghost use Rattle.image_looks.specs.LookRuns.{IsExtractedFrom};
-ghost use Rattle.opened_files.specs.HostFiles.{IsUnbegun, OfImage, RunEnds};
+ghost use Rattle.opened_files.specs.HostFiles.{IsUnbegun};
 ghost use Rattle.opened_files.specs.Rights.{MayFill, MayFillAt, MayReadImage};
 
-use crate::new_folders::{HostFolders, KeptFolder};
+use crate::new_folders::{KeptFolder, SystemFolder};
 use command_faults::CommandFault;
 use d64_image::Place;
 use disk_layout::Fault;
@@ -110,26 +110,23 @@ fn folder_end(
 
 /// Makes the chosen files of the image at a path, as its shop is now, in a folder at another path, at which there must be
 /// nothing.
-fn extract_to<'a, D, F, R, W>(
-    rt: &'a R,
+fn extract_to<F, R, W>(
+    rt: &R,
     choice: Choice,
     path: &str,
-    folder: &'a str,
+    folder: &str,
     out: &mut W,
 ) -> Result<Option<Fault>, Refusal>
 where
-    D: KeptFolder + Drop,
     F: EndedFile + Read + Locks + OpenFile + Drop,
-    R: HostFiles<File = F> + HostFolders<'a, Folder = D> + Input + AllocGlobal,
+    R: HostFiles<File = F> + Input + AllocGlobal,
     W: Write,
     requires image { MayReadImage R.rights rt.now path.now }
     requires folder { MayFill R.rights rt.now folder.now }
-    ensures { OfImage R.rights R.stands rt.now path.now (λ all. RunEnds out.old out.new result
-        (IsExtractedTo D.files D.IsKept D.HasFailed (R.begun rt.now folder.now) W.contents choice
-        (take 174849 all) out.old out.new result)) }
+    ensures { IsExtractedFrom R.rights R.stands W.contents rt.now choice path.now out.old out.new result }
 {
     let image = image_at(rt, path)?;
-    let mut files = rt.new_folder(folder);
+    let mut files = SystemFolder::new(rt, folder);
     let ended = extract_run(rt.alloc(), choice, image.as_slice(), &mut files, out);
     folder_end(ended, files.given_up())
 }
@@ -166,22 +163,20 @@ fn front_of(alloc: Global, path: &str) -> Result<Option<&str>, Refusal>
 }
 
 /// The same of a folder whose path may end with a slash.
-pub fn do_extracting<'a, D, F, R, W>(
-    rt: &'a R,
+pub fn do_extracting<F, R, W>(
+    rt: &R,
     choice: Choice,
     path: &str,
-    folder: &'a str,
+    folder: &str,
     out: &mut W,
 ) -> Result<Option<Fault>, Refusal>
 where
-    D: KeptFolder + Drop,
     F: EndedFile + Read + Locks + OpenFile + Drop,
-    R: HostFiles<File = F> + HostFolders<'a, Folder = D> + Input + AllocGlobal,
+    R: HostFiles<File = F> + Input + AllocGlobal,
     W: Write,
     requires image { MayReadImage R.rights rt.now path.now }
     requires folder { MayFillAt R.rights rt.now folder.now }
-    ensures { IsExtractedFrom R.rights R.stands D.files D.IsKept D.HasFailed R.begun W.contents rt.now
-        choice path.now folder.now out.old out.new result }
+    ensures { IsExtractedFrom R.rights R.stands W.contents rt.now choice path.now out.old out.new result }
 {
     match front_of(rt.alloc(), folder)? {
         Some(front) => extract_to(rt, choice, path, front, out),

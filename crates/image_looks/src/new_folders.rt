@@ -1,11 +1,11 @@
 //! Folders that are made under another name, and get their own when all their files are there and synced.
-ghost use Rattle.std.specs.Prelude.{◌≡◌, IfOk, List, string_bytes, ℕ, ⊤};
+ghost use Rattle.std.specs.Prelude.{◌≡◌, IfOk, string_bytes};
 ghost use Rattle.std.proofs.Props.{props};
 ghost use Rattle.keeper_commands.specs.rescue.Folders.{StaysInside};
 ghost use Rattle.opened_files.specs.Rights.{MayFill, MayTry};
 ghost use Rattle.opened_files.specs.Rights as specs;
 
-use image_file::{EndedFile, HostFiles, NotedRuntime};
+use image_file::{EndedFile, HostFiles};
 use keeper_commands::NewFolder;
 use opened_files::Aside;
 use std::alloc::Global;
@@ -26,34 +26,6 @@ pub trait KeptFolder: NewFolder {
         ensures same { Self.files self.new ≡ Self.files self.old }
         ensures kept { OnOk result (IsKept self.new) }
         ensures cause { OnErr result (HasFailed self.new) };
-
-    /// Removes what was made and isn't kept. Returns whether something stood at the path.
-    fn given_up(&self) -> bool;
-}
-
-/// A host that makes folders. The lifetime is that of its folders.
-pub trait HostFolders<'a>: HostFiles {
-    /// A folder that gets its path when it is kept.
-    type Folder: KeptFolder + Drop;
-
-    // this folder is to get a path, and no file was made in it yet
-    ghost begun: { Self → List ℕ → Self.Folder → Type 0 } = { λ _ _ _. ⊤ };
-
-    /// The folder that is to get this path, which isn't made yet.
-    fn new_folder(&'a self, path: &'a str) -> Self::Folder
-        requires { MayFill Self.rights self.now path.now }
-        ensures { begun self.now path.now result };
-}
-
-impl<'a, 'n: 'a, 'w: 'a, R: HostFiles + AllocGlobal + 'a> HostFolders<'a> for NotedRuntime<'n, 'w, R>
-where
-    R::File: EndedFile,
-{
-    type Folder = SystemFolder<'a, Self>;
-
-    fn new_folder(&'a self, path: &'a str) -> SystemFolder<'a, Self> {
-        SystemFolder::new(self, path)
-    }
 }
 
 /// The path of the file of this name in a folder.
@@ -157,7 +129,7 @@ impl<R: HostFiles> FilledFolder<'_, R> {
 
 /// A folder of the system, which is made when the first file in it is; and whether something stood at its path then.
 #[derive(Drop)]
-pub struct SystemFolder<'a, R: HostFiles> {
+pub(crate) struct SystemFolder<'a, R: HostFiles> {
     rt: &'a R,
     path: &'a str,
     filled: Option<FilledFolder<'a, R>>,
@@ -168,7 +140,7 @@ pub struct SystemFolder<'a, R: HostFiles> {
 
 impl<'a, R: HostFiles> SystemFolder<'a, R> {
     /// The folder at this path, which isn't made yet.
-    pub fn new(rt: &'a R, path: &'a str) -> SystemFolder<'a, R>
+    pub(crate) fn new(rt: &'a R, path: &'a str) -> SystemFolder<'a, R>
         requires { MayFill R.rights rt.now path.now }
     {
         SystemFolder {
@@ -177,6 +149,14 @@ impl<'a, R: HostFiles> SystemFolder<'a, R> {
             filled: None,
             has_stood: false,
         }
+    }
+
+    /// Removes what was made and isn't kept. Returns whether something stood at the path.
+    pub(crate) fn given_up(&self) -> bool {
+        if let Some(folder) = &self.filled {
+            folder.remove();
+        }
+        self.has_stood
     }
 
     /// The error of a folder that can't be made or kept.
@@ -243,12 +223,5 @@ where
             }
             Err(error) => Err(self.unmade(error)),
         }
-    }
-
-    fn given_up(&self) -> bool {
-        if let Some(folder) = &self.filled {
-            folder.remove();
-        }
-        self.has_stood
     }
 }

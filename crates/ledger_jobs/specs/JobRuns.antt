@@ -12,7 +12,6 @@ use Rattle.opened_files.specs.Makings.{IsMakingEnd}
 use Rattle.opened_files.specs.Ends.{JobEnd}
 use Rattle.opened_files.specs.Names.{name_bytes}
 use Rattle.shop_jobs.specs.Replies.{IsShopAt, IsLoggedService}
-use Rattle.keeper_commands.specs.rescue.Folders.{NewFile}
 use Rattle.ledger_jobs.specs.declared.jobs.Job.{Job}
 use Rattle.ledger_jobs.specs.declared.jobs.Job.TheVariants as jobs
 use Rattle.opened_files.specs.declared.refusals.Refusal.TheVariants as refusals
@@ -27,9 +26,8 @@ use Rattle.shop_jobs.specs.ShopRuns.{IsDryOver, IsPlayedOverFile, IsPlayedOverLo
 abbrev pub paths_of : Vec (Bor (List ℕ)) Global → List (List ℕ)
 paths_of images = map (λ image. image.now) (vec_items images)
 
-module _ {H F D W : Type 0} (rights : Rights H) (stands : H → List ℕ → Stands) (traces : Traces H F) (remains : Remains F)
-    (changed : H → (path image : List ℕ) → Changed → Type 0) (files : D → Option (List NewFile)) (is_kept has_failed : D → Type 0)
-    (begun : H → List ℕ → D → Type 0) (contents : W → Option (List ℕ)) (host : H) where
+module _ {H F W : Type 0} (rights : Rights H) (stands : H → List ℕ → Stands) (traces : Traces H F) (remains : Remains F)
+    (changed : H → (path image : List ℕ) → Changed → Type 0) (contents : W → Option (List ℕ)) (host : H) where
   -- a job ended so, over the bytes that the host has at the paths of its words, and left this
   abbrev pub IsJobOver : Job → W → W → JobEnd → Type 0
   IsJobOver (jobs.Look image what) old new end = IsLookedAt rights stands contents host what image.now old new end
@@ -39,8 +37,7 @@ module _ {H F D W : Type 0} (rights : Rights H) (stands : H → List ℕ → Sta
       IsCopiedFrom rights stands traces remains contents host image.now copy.now old new end
   IsJobOver (jobs.Salvage log copy) old new end =
       IsSalvagedFrom rights stands traces remains contents host log.now copy.now old new end
-  IsJobOver (jobs.Extract choice image folder) old new end = IsExtractedFrom rights stands files is_kept has_failed begun
-      contents host choice image.now folder.now old new end
+  IsJobOver (jobs.Extract choice image folder) old new end = IsExtractedFrom rights stands contents host choice image.now old new end
   IsJobOver (jobs.Change image effect edit) old new end =
       IsEditOver rights stands changed contents host effect image.now edit old new end
   IsJobOver (jobs.Format image tills) old new end = IsMakingEnd contents (codes "FORMATTED\n") old new end

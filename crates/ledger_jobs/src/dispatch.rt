@@ -10,9 +10,7 @@ use disk_layout::Fault;
 use folder_changes::HostImages;
 use image_edits::{do_copying, do_edit, do_new, do_salvaging};
 use image_file::{EndedFile, HostFiles, Locks};
-use image_looks::{
-    HostFolders, KeptFolder, do_comparing, do_describing, do_extracting, do_look, do_several, do_sheet,
-};
+use image_looks::{do_comparing, do_describing, do_extracting, do_look, do_several, do_sheet};
 use opened_files::{Older, Refusal};
 use shop_jobs::{
     do_dry, do_format, do_format_new, do_logged_playing, do_logged_serving, do_playing,
@@ -34,20 +32,15 @@ use std::io::{Read, Write};
 /// `serve_logged_guarded`, `salvage`, `change_image`, `show_change`, `extract_run` and `comparing_run`.
 /// `Trim` ends with `File`, since it reports on standard error: call `do_trim`. What is wrong with one of several images is
 /// printed; only a failed output ends the job before the last of them.
-pub fn do_job<'a, D, F, R, W>(
-    rt: &'a R,
-    job: &Job<'a>,
-    out: &mut W,
-) -> Result<Option<Fault>, Refusal>
+pub fn do_job<F, R, W>(rt: &R, job: &Job<'_>, out: &mut W) -> Result<Option<Fault>, Refusal>
 where
-    D: KeptFolder + Drop,
     F: EndedFile + Read + Locks + OpenFile + Drop,
-    R: HostFiles<File = F> + HostImages + HostFolders<'a, Folder = D> + Input + AllocGlobal,
+    R: HostFiles<File = F> + HostImages + Input + AllocGlobal,
     W: Write,
     requires rights { MayDo R.rights rt.now job.now }
     requires fit { IsFit job.now }
-    ensures { IsJobOver R.rights R.stands R.traces F.EndedFile.remains R.changed D.files D.IsKept D.HasFailed R.begun
-        W.contents rt.now job.now out.old out.new result }
+    ensures { IsJobOver R.rights R.stands R.traces F.EndedFile.remains R.changed W.contents rt.now job.now
+        out.old out.new result }
 {
     match *job {
         Job::Format { image, tills } => do_format(rt, image, tills, Older::Replaced, out),

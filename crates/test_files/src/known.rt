@@ -3,7 +3,6 @@ ghost use Rattle.std.specs.Prelude.{◌≡◌, IsErr, Some, refl};
 ghost use Rattle.test_files.specs.Known.{known_rights, known_stands, standing};
 
 use image_file::{EndedFile, HostFiles, Locks, WritesAt, read_image};
-use image_looks::{HostFolders, SystemFolder};
 use std::alloc::{Allocator, Global};
 use std::fs::{Metadata, OpenFile, TryLockError};
 use std::io::{self, BufRead, ErrorKind, Lines, Read, Seek, SeekFrom};
@@ -219,13 +218,5 @@ impl<'a> HostFiles for Known<'a> {
 
     fn is_mounted(&self, _alloc: Global, _path: &str) -> io::Result<bool> {
         Ok(false)
-    }
-}
-
-impl<'a, 'b: 'a> HostFolders<'a> for Known<'b> {
-    type Folder = SystemFolder<'a, Self>;
-
-    fn new_folder(&'a self, path: &'a str) -> SystemFolder<'a, Self> {
-        SystemFolder::new(self, path)
     }
 }

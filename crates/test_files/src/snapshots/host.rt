@@ -6,7 +6,6 @@ ghost use Rattle.test_files.specs.Snapshots.{left_of, snapshot_rights, snapshot_
 use crate::snapshots::open_file::SnapshotFile;
 use crate::snapshots::store::Store;
 use image_file::HostFiles;
-use image_looks::{HostFolders, SystemFolder};
 use std::alloc::{Allocator, Global};
 use std::fs::{Metadata, OpenFile};
 use std::io::{self, BufRead, ErrorKind, Lines};
@@ -164,13 +163,5 @@ impl<'a> HostFiles for Snapshot<'a> {
 
     fn is_mounted(&self, _alloc: Global, _path: &str) -> io::Result<bool> {
         Ok(false)
-    }
-}
-
-impl<'a, 'b: 'a> HostFolders<'a> for Snapshot<'b> {
-    type Folder = SystemFolder<'a, Self>;
-
-    fn new_folder(&'a self, path: &'a str) -> SystemFolder<'a, Self> {
-        SystemFolder::new(self, path)
     }
 }

@@ -23,8 +23,7 @@ pub fn do_over<W: Write>(
     out: &mut W,
 ) -> Result<Option<Fault>, Refusal>
     requires fit { IsFit job.now }
-    ensures { IsJobOver snapshot_rights snapshot_stands untraced unknown (λ _ _ _ _. ⊤) (λ _. None) (λ _. ⊤) (λ _. ⊤)
-        (λ _ _ _. ⊤) W.contents host.now job.now out.old out.new result }
+    ensures { IsJobOver snapshot_rights snapshot_stands untraced unknown (λ _ _ _ _. ⊤) W.contents host.now job.now out.old out.new result }
 {
     do_job(host, job, out)
 }
