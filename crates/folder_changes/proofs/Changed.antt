@@ -57,3 +57,12 @@ printed contents Is Refuses before after made is (Err stop) all part output =
 pub no-device : (r : Result ℕ Stop) → IfErr r (λ stop. stop ≡ stops.Output) → r ≢ Err stops.Device
 no-device (Ok left) output device = cc
 no-device (Err stop) output device = cc
+
+-- what is known of a change and of its refusal may be weakened
+pub told-weaker : {W : Type 0} (contents : W → Option (List ℕ)) (Is Then : Changed → Type 0) (Refuses Why' : Why → Type 0)
+    (old new : W) → ((made : Changed) → Is made → Then made) → ((why : Why) → Refuses why → Why' why)
+    → (r : Result ℕ Stop) → IsToldAs contents Is Refuses old new r → IsToldAs contents Then Why' old new r
+told-weaker contents Is Then Refuses Why' old new f g (Ok left) told = (told.0, f told.0 told.1, told.2, told.3)
+told-weaker contents Is Then Refuses Why' old new f g (Err (stops.Refused why)) told = (g why told.0, told.1)
+told-weaker contents Is Then Refuses Why' old new f g (Err stops.Device) told = told
+told-weaker contents Is Then Refuses Why' old new f g (Err stops.Output) told = (told.0, f told.0 told.1, told.2)

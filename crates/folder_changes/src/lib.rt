@@ -2,8 +2,10 @@
 //! the place of the old one, and then its text is printed.
 #![tactic(auto)]
 
+mod host_images;
 mod image_changing;
 mod stops;
 
+pub use host_images::HostImages;
 pub use image_changing::{change_image, show_change};
 pub use stops::Stop;

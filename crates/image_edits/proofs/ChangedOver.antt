@@ -1,26 +1,14 @@
 -- How a job ends that changes an image, from how the change did.
-use Rattle.std.proofs.Common.{◌≡◌, ◌⊎◌, List, Option, Result, Ok, Err, inl, inr, subst, ℕ}
-use Rattle.disk_changes.specs.declared.changes.Changed.{Changed}
-use Rattle.disk_changes.specs.declared.changes.Why.{Why}
-use Rattle.folder_changes.specs.FolderChanges.{IsToldAs}
-use Rattle.folder_changes.specs.declared.stops.Stop.{Stop}
-use Rattle.folder_changes.specs.declared.stops.Stop.TheVariants as stops
-use Rattle.opened_files.specs.Ends.{JobEnd}
+use Rattle.std.proofs.Common.{◌≡◌, ◌⊎◌, Result, Ok, Err, inl, inr, subst, sym}
+use Rattle.std.specs.Prelude.{IfOk}
+use Rattle.std.specs.declared.io.Error.{Error}
+use Rattle.opened_files.specs.Ends.{JobEnd, told_of}
 use Rattle.opened_files.specs.HostFiles.{IsUnbegun, RunEnds}
 use Rattle.opened_files.specs.Losses.{IsAwayFault}
 use Rattle.opened_files.specs.declared.losses.Loss.{Loss}
 use Rattle.opened_files.specs.declared.refusals.Refusal.{Refusal}
 
--- what is known of a change and of its refusal may be weakened
-pub told-weaker : {W : Type 0} (contents : W → Option (List ℕ)) (Is Then : Changed → Type 0) (Refuses Why' : Why → Type 0)
-    (old new : W) → ((made : Changed) → Is made → Then made) → ((why : Why) → Refuses why → Why' why)
-    → (r : Result ℕ Stop) → IsToldAs contents Is Refuses old new r → IsToldAs contents Then Why' old new r
-told-weaker contents Is Then Refuses Why' old new f g (Ok left) told = (told.0, f told.0 told.1, told.2, told.3)
-told-weaker contents Is Then Refuses Why' old new f g (Err (stops.Refused why)) told = (g why told.0, told.1)
-told-weaker contents Is Then Refuses Why' old new f g (Err stops.Device) told = told
-told-weaker contents Is Then Refuses Why' old new f g (Err stops.Output) told = (told.0, f told.0 told.1, told.2)
-
--- and so what is known of a run
+-- what is known of a run may be weakened
 pub run-weaker : {W : Type 0} (old new : W) (end : JobEnd) (P Q : Type 0) → (P → Q) → RunEnds old new end P
     → RunEnds old new end Q
 run-weaker old new end P Q f (inl run) = inl (f run)
@@ -31,3 +19,8 @@ pub away-as : (Says : Type 0) (asked loss : Loss) (refusal : Refusal) → asked 
     → IsUnbegun refusal ⊎ IsAwayFault asked Says refusal → IsUnbegun refusal ⊎ IsAwayFault loss Says refusal
 away-as Says asked loss refusal same why =
     subst (λ (l : Loss). IsUnbegun refusal ⊎ IsAwayFault l Says refusal) same why
+
+-- what holds of what the system gave
+pub told-ok : {T : Type 0} (P : T → Type 0) (taken : Result T Error) (it : T) → IfOk taken P → Ok it ≡ told_of taken → P it
+told-ok {T} P (Ok got) it ok is = subst (λ (r : Result T Refusal). IfOk r P) (sym is) ok
+told-ok {T} P (Err error) it ok is = cc

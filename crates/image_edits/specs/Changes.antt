@@ -1,5 +1,5 @@
 -- What a job prints that changes files of a disk, or makes an image. Our own.
-use Rattle.std.specs.Prelude.{ℕ, List, None, Option, Result, Ok, Err, if◌then◌else◌, nat_eq}
+use Rattle.std.specs.Prelude.{◌≡◌, ℕ, List, None, Option, Result, Ok, Err, if◌then◌else◌, nat_eq, true}
 use Rattle.command_faults.specs.declared.faults.CommandFault.TheVariants as faults
 use Rattle.disk_changes.specs.declared.changes.Changed.{Changed}
 use Rattle.disk_changes.specs.declared.changes.Why.{Why}
@@ -7,6 +7,7 @@ use Rattle.disk_changes.specs.declared.changes.Why.TheVariants as whys
 use Rattle.folder_changes.specs.FolderChanges.{IsShownAs, IsToldAs}
 use Rattle.folder_changes.specs.declared.stops.Stop.{Stop}
 use Rattle.folder_changes.specs.declared.stops.Stop.TheVariants as stops
+use Rattle.image_file.specs.paths.Rights.{Rights}
 use Rattle.opened_files.specs.Ends.{EndsAs, JobEnd}
 use Rattle.opened_files.specs.declared.refusals.Refusal.{Refusal}
 use Rattle.opened_files.specs.declared.refusals.Refusal.TheVariants as refusals
@@ -32,3 +33,9 @@ IsChangeEnd contents Is Refuses old new end = EndsAs as_change end (IsToldAs con
 -- the same of a job that only prints what a change would print
 abbrev pub IsShownEnd : {W : Type 0} → (W → Option (List ℕ)) → (Changed → Type 0) → (Why → Type 0) → W → W → JobEnd → Type 0
 IsShownEnd contents Is Refuses old new end = EndsAs as_change end (IsShownAs contents Is Refuses old new)
+
+-- the image of these bytes in the file to which a path leads was changed to what the change made
+abbrev pub IsChangedAt : {H : Type 0} → Rights H → (changed : H → (path image : List ℕ) → Changed → Type 0) → H
+    → (path image : List ℕ) → Changed → Type 0
+IsChangedAt rights changed host path image made =
+    (found : List ℕ) × (rights.leads host path found ≡ true) × changed host found image made

@@ -1,17 +1,15 @@
 -- What comes of making an image of a log alone. Our own.
-use Rattle.std.specs.Prelude.{◌≡◌, ◌⊎◌, ◌++◌, ◌-◌, List, ℕ, Option, Result, Ok, Err, codes, decimal, length, replicate, take}
-use Rattle.std.specs.Io.KnownBytes.{Appends}
+use Rattle.std.specs.Prelude.{◌≡◌, ◌⊎◌, ◌++◌, ◌-◌, List, ℕ, Option, Err, codes, decimal, length, replicate, take}
 use Rattle.d64_image.specs.Images.{Image}
 use Rattle.d64_image.specs.Memory.{bytes_of}
-use Rattle.line_text.specs.Handed.{AppendsPart}
-use Rattle.shop_commands.specs.Plays.{IsUntouched}
 use Rattle.shop_log.specs.Recovered.{base_end}
 use Rattle.shop_log.specs.Salvage.{IsSalvaged}
 use Rattle.shop_log.specs.declared.salvaging.Salvaged.{Salvaged}
 use Rattle.command_faults.specs.declared.faults.CommandFault.TheVariants as faults
 use Rattle.image_file.specs.Remains.{Remains}
-use Rattle.image_edits.specs.Copies.{IsCopied}
-use Rattle.opened_files.specs.Ends.{IsMadeEnd, JobEnd}
+use Rattle.image_file.specs.paths.Traces.{Traces}
+use Rattle.opened_files.specs.Ends.{JobEnd}
+use Rattle.opened_files.specs.Makings.{IsMadeAt, IsNewEnd}
 use Rattle.opened_files.specs.declared.refusals.Refusal.{Refusal}
 use Rattle.opened_files.specs.declared.refusals.Refusal.TheVariants as refusals
 
@@ -35,25 +33,9 @@ IsUnsalvaged all refusals.Log = base_end (log_bytes all) ≡ 0
 IsUnsalvaged all (refusals.Fault faults.NoMemory) = Unit
 IsUnsalvaged all _ = ⊥
 
--- The image of a log was copied to a file, and that was said, or one of the two failed; or none was taken, and nothing
--- was done.
-abbrev pub IsSalvageRun : {F W : Type 0} → Remains F → (W → Option (List ℕ)) → (all : List ℕ) → F → F → W → W
-    → Result Unit Refusal → Type 0
-IsSalvageRun r contents all file after old new (Ok _) =
-    IsOfLog all (λ image text. IsCopied r contents text (bytes_of image) file after old new (Ok tt))
-IsSalvageRun r contents all file after old new (Err (refusals.Fault faults.File)) =
-    IsOfLog all (λ image text. IsCopied r contents text (bytes_of image) file after old new (Err faults.File))
-IsSalvageRun r contents all file after old new (Err refusal) =
-    IsUnsalvaged all refusal × IsUntouched file after old new
-
--- what is printed of that, by how it ended
-abbrev pub IsSalvageTold : {W : Type 0} → (W → Option (List ℕ)) → (all : List ℕ) → W → W → Result Unit Refusal → Type 0
-IsSalvageTold contents all old new (Ok _) = IsOfLog all (λ image text. Appends (contents old) (contents new) text)
-IsSalvageTold contents all old new (Err (refusals.Fault faults.File)) =
-    IsOfLog all (λ image text. (new ≡ old) ⊎ AppendsPart (contents old) (contents new) text)
-IsSalvageTold contents all old new (Err refusal) = IsUnsalvaged all refusal × (new ≡ old)
-
--- the image of a log was copied to a file that is made, and its job ended so
-abbrev pub IsSalvageEnd : {W : Type 0} → (W → Option (List ℕ)) → (all : List ℕ) → W → W → JobEnd → Type 0
-IsSalvageEnd contents all old new end =
-    (ended : Result Unit Refusal) × IsSalvageTold contents all old new ended × IsMadeEnd ended end
+-- The image of a log was copied to a path, and that was printed; or the job isn't done, and this may be why.
+abbrev pub IsSalvageEnd : {H F W : Type 0} → Traces H F → Remains F → (W → Option (List ℕ)) → H → (path all : List ℕ)
+    → W → W → JobEnd → Type 0
+IsSalvageEnd traces remains contents host path all old new end =
+    ((refusal : Refusal) × (end ≡ Err refusal) × IsUnsalvaged all refusal × (new ≡ old))
+    ⊎ IsOfLog all (λ image text. IsNewEnd contents (IsMadeAt remains traces host path (bytes_of image)) text old new end)

@@ -1,7 +1,8 @@
 //! The image at a path, changed all or nothing.
-ghost use Rattle.std.specs.Prelude.{◌≡◌, ◌⊎◌, IfErr, IfOk, take, vec_items};
+ghost use Rattle.std.specs.Prelude.{◌≡◌, ◌⊎◌, IfErr, IfOk, string_bytes, take, true, vec_items};
 ghost use Rattle.disk_changes.specs.Changes.{IsChanged, IsFit, IsRefused};
-ghost use Rattle.image_edits.specs.Changes.{IsChangeEnd, as_change, stop_refusal as refusal_of};
+ghost use Rattle.image_edits.specs.Changes.{IsChangeEnd, IsChangedAt, as_change, stop_refusal as refusal_of};
+ghost use Rattle.image_file.specs.paths.Rights.{Look, May};
 ghost use Rattle.opened_files.specs.HostFiles.{IsUnbegun, OfWritten, RunEnds};
 ghost use Rattle.opened_files.specs.Losses.{IsAwayFault};
 ghost use Rattle.opened_files.specs.Rights.{MayChangeImage};
@@ -10,10 +11,10 @@ ghost use Rattle.shop_log.specs.life.Tags.{SaysLogAway};
 use command_faults::CommandFault;
 use disk_changes::{Change, Why};
 use disk_layout::Fault;
-use folder_changes::{Stop, change_image};
+use folder_changes::{HostImages, Stop};
 use image_file::{EndedFile, HostFiles, Locks};
 use opened_files::{Loss, Refusal, opened_and_landed, read_synced, see_untagged, told};
-use shop_log::{ImageFolder, LogNames};
+use shop_log::LogNames;
 use std::fs::OpenFile;
 use std::io::Write;
 
@@ -61,6 +62,15 @@ where
     Ok((image, file))
 }
 
+/// The names of the image at a path and of its log.
+fn names_at<R: HostFiles + AllocGlobal>(rt: &R, path: &str) -> Result<LogNames, Refusal>
+    requires { May R.rights rt.now Look path.now }
+    ensures leads { IfOk result (λ names. R.rights.leads rt.now path.now (string_bytes names.image) ≡ true) }
+    ensures err { IfErr result IsUnbegun }
+{
+    told(LogNames::of(rt, rt.alloc(), path))
+}
+
 /// Changes the image at a path, whose bytes and file these are, all or nothing, and prints the change's text.
 pub(crate) fn change_taken<F, R, W>(
     rt: &R,
@@ -72,15 +82,16 @@ pub(crate) fn change_taken<F, R, W>(
 ) -> Result<Option<Fault>, Refusal>
 where
     F: EndedFile + Locks + OpenFile + Drop,
-    R: HostFiles<File = F> + AllocGlobal,
+    R: HostFiles<File = F> + HostImages + AllocGlobal,
     W: Write,
     requires image { MayChangeImage R.rights rt.now path.now }
     requires owned { F.IsOwned file }
     requires fit { IsFit what.now }
-    ensures { RunEnds out.old out.new result (IsChangeEnd W.contents (IsChanged what.now image.now)
+    ensures { RunEnds out.old out.new result (IsChangeEnd W.contents
+        (λ made. IsChanged what.now image.now made × IsChangedAt R.rights R.changed rt.now path.now image.now made)
         (IsRefused what.now image.now) out.old out.new result) }
 {
-    let names = told(LogNames::of(rt, rt.alloc(), path))?;
-    let mut folder = told(ImageFolder::new(rt, &names, file))?;
-    change_end(change_image(rt.alloc(), &mut folder, image, what, out))
+    let names = names_at(rt, path)?;
+    let ended = told(rt.change_at(rt.alloc(), &names, file, image, what, out))?;
+    change_end(ended)
 }

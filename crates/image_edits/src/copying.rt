@@ -1,53 +1,66 @@
 //! Copies of images, as their shops are now.
 ghost use Rattle.std.specs.Prelude.{◌≡◌, codes, length};
-ghost use Rattle.image_edits.specs.Copies.{IsCopied};
+ghost use Rattle.image_edits.specs.Copies.{IsCopyEnd};
 ghost use Rattle.image_edits.specs.EditRuns.{IsCopiedFrom};
+ghost use Rattle.opened_files.specs.Makings.{IsMadeAt, IsNewEnd};
 ghost use Rattle.opened_files.specs.Rights.{MayMakeImage, MayReadImage};
 
 use command_faults::CommandFault;
 use d64_image::IMAGE_BYTES;
 use disk_layout::Fault;
-use image_file::{EndedFile, HostFiles, Locks, OverwrittenFile, replace_image};
-use opened_files::{AtPath, Older, Refusal, image_at, metadata_of, over_end};
+use image_file::{EndedFile, HostFiles, Locks};
+use opened_files::{Refusal, image_at, make_image, metadata_of, run_end};
 use shop_commands::put_whole;
-use std::fs::OpenFile;
+use std::fs::{Metadata, OpenFile};
 use std::io::{Read, Write};
 
-/// Writes an image over all that a file holds, syncs it, and prints this.
-pub(crate) fn write_copy<F: EndedFile, W: Write>(
+/// Makes an image at a path, as `make_image` does, and prints this.
+pub(crate) fn make_told<F, R, W>(
+    rt: &R,
+    path: &str,
+    like: Option<Metadata>,
     image: &[u8],
     said: &[u8],
-    file: &mut F,
     out: &mut W,
-) -> Result<(), CommandFault>
+) -> Result<Option<Fault>, Refusal>
+where
+    F: EndedFile + Locks + OpenFile + Drop,
+    R: HostFiles<File = F> + AllocGlobal,
+    W: Write,
+    requires makes { MayMakeImage R.rights rt.now path.now }
     requires size { length image.now ≡ 174848 }
-    ensures { IsCopied F.remains W.contents said.now image.now file.old file.new out.old out.new result }
+    ensures { IsNewEnd W.contents (IsMadeAt F.EndedFile.remains R.traces rt.now path.now image.now) said.now
+        out.old out.new result }
 {
-    match replace_image(file, image) {
-        Ok(()) => put_whole(out, said),
-        Err(_) => Err(CommandFault::File),
-    }
+    make_image(rt, path, like, image)?;
+    run_end(put_whole(out, said))
 }
 
-/// Writes an image over all that a file holds, syncs it, and prints `COPIED`. If power goes on the way, the file has what
-/// it could have before, or is no sound disk's, or has the image. `ImageSize`: nothing was done. `File` if the file
-/// failed, which then has a part of the image, and nothing is printed. `File` also if `out` failed, which then has a
-/// prefix of what is printed.
-pub fn copy_run<F: EndedFile, W: Write>(
+/// Makes a copy of this image at a path, and prints `COPIED`. `ImageSize`: nothing was done.
+fn copy_read<F, R, W>(
+    rt: &R,
+    copy: &str,
+    like: Option<Metadata>,
     image: &[u8],
-    file: &mut F,
     out: &mut W,
-) -> Result<(), CommandFault>
-    ensures { IsCopied F.remains W.contents (codes "COPIED\n") image.now file.old file.new out.old out.new result }
+) -> Result<Option<Fault>, Refusal>
+where
+    F: EndedFile + Locks + OpenFile + Drop,
+    R: HostFiles<File = F> + AllocGlobal,
+    W: Write,
+    requires makes { MayMakeImage R.rights rt.now copy.now }
+    ensures { IsCopyEnd R.traces F.EndedFile.remains W.contents rt.now copy.now (codes "COPIED\n") image.now
+        out.old out.new result }
 {
     if image.len() != IMAGE_BYTES {
-        return Err(CommandFault::ImageSize);
+        return Err(Refusal::Fault(CommandFault::ImageSize));
     }
-    write_copy(image, b"COPIED\n", file, out)
+    make_told(rt, copy, like, image, b"COPIED\n", out)
 }
 
-/// Copies the image at a path, as its shop is now, to a file at another path, at which there must be none. The copy is made
-/// for the people who may use the image.
+/// Copies the image at a path, as its shop is now, to a file at another path, at which there must be none, and prints `COPIED`.
+/// The copy is made for the people who may use the image. `ImageSize`: nothing was done. The other errors are those of
+/// `image_at` and of `make_image`; and `File` if `out` failed, which then has a prefix of what is printed.
 pub fn do_copying<F, R, W>(
     rt: &R,
     path: &str,
@@ -60,11 +73,9 @@ where
     W: Write,
     requires image { MayReadImage R.rights rt.now path.now }
     requires copy { MayMakeImage R.rights rt.now copy.now }
-    ensures { IsCopiedFrom R.rights R.stands W.contents rt.now path.now out.old out.new result }
+    ensures { IsCopiedFrom R.rights R.stands R.traces F.EndedFile.remains W.contents rt.now path.now copy.now
+        out.old out.new result }
 {
     let image = image_at(rt, path)?;
-    let like = metadata_of(rt, path);
-    let mut file = OverwrittenFile::new(AtPath::new(rt, copy, Older::Kept, like));
-    let ended = copy_run(image.as_slice(), &mut file, out);
-    over_end(ended, file.given_up().refused())
+    copy_read(rt, copy, metadata_of(rt, path), image.as_slice(), out)
 }

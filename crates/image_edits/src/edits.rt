@@ -20,7 +20,7 @@ use crate::edit::{Columns, Edit, Effect};
 use command_faults::CommandFault;
 use disk_changes::Change;
 use disk_layout::Fault;
-use folder_changes::show_change;
+use folder_changes::{HostImages, show_change};
 use image_file::{EndedFile, HostFiles, Locks};
 use keeper_commands::plain_lines;
 use opened_files::{Loss, Refusal, image_at, script_to_play, see_log_away};
@@ -153,12 +153,12 @@ fn edit_written<F, R, W>(
 ) -> Result<Option<Fault>, Refusal>
 where
     F: EndedFile + Locks + OpenFile + Drop,
-    R: HostFiles<File = F> + Input + AllocGlobal,
+    R: HostFiles<File = F> + HostImages + Input + AllocGlobal,
     W: Write,
     requires image { MayChangeImage R.rights rt.now path.now }
     requires source { MayReadSource R.rights rt.now edit.now }
     requires fit { IsFitEdit edit.now }
-    ensures { IsEditOver R.rights R.stands W.contents rt.now Written path.now edit.now out.old out.new result }
+    ensures { IsEditOver R.rights R.stands R.changed W.contents rt.now Written path.now edit.now out.old out.new result }
 {
     let (image, file) = image_to_change(rt, path, edit.loss())?;
     let text = text_for(rt, edit)?;
@@ -193,12 +193,12 @@ fn edit_shown<F, R, W>(
 ) -> Result<Option<Fault>, Refusal>
 where
     F: Read + Locks + OpenFile + Drop,
-    R: HostFiles<File = F> + Input + AllocGlobal,
+    R: HostFiles<File = F> + HostImages + Input + AllocGlobal,
     W: Write,
     requires image { MayReadImage R.rights rt.now path.now }
     requires source { MayReadSource R.rights rt.now edit.now }
     requires fit { IsFitEdit edit.now }
-    ensures { IsEditOver R.rights R.stands W.contents rt.now Printed path.now edit.now out.old out.new result }
+    ensures { IsEditOver R.rights R.stands R.changed W.contents rt.now Printed path.now edit.now out.old out.new result }
 {
     let image = image_to_show(rt, path, edit.loss())?;
     let text = text_for(rt, edit)?;
@@ -216,12 +216,12 @@ pub fn do_edit<F, R, W>(
 ) -> Result<Option<Fault>, Refusal>
 where
     F: EndedFile + Read + Locks + OpenFile + Drop,
-    R: HostFiles<File = F> + Input + AllocGlobal,
+    R: HostFiles<File = F> + HostImages + Input + AllocGlobal,
     W: Write,
     requires image { MayEdit R.rights rt.now effect path.now }
     requires source { MayReadSource R.rights rt.now edit.now }
     requires fit { IsFitEdit edit.now }
-    ensures { IsEditOver R.rights R.stands W.contents rt.now effect path.now edit.now out.old out.new result }
+    ensures { IsEditOver R.rights R.stands R.changed W.contents rt.now effect path.now edit.now out.old out.new result }
 {
     match effect {
         Effect::Written => edit_written(rt, path, edit, out),

@@ -10,9 +10,9 @@ mod salvaging;
 mod trimming;
 
 pub use changing::change_end;
-pub use copying::{copy_run, do_copying};
+pub use copying::do_copying;
 pub use edit::{Columns, Edit, Effect, Unowned};
 pub use edits::do_edit;
-pub use new_disks::{do_new, new_run};
-pub use salvaging::{do_salvaging, salvage_run};
+pub use new_disks::do_new;
+pub use salvaging::do_salvaging;
 pub use trimming::{do_trim, trim_run};

@@ -4,17 +4,15 @@ ghost use Rattle.image_file.specs.paths.Rights.{MayRead};
 ghost use Rattle.opened_files.specs.HostFiles.{IsUnread, OfWritten};
 ghost use Rattle.image_edits.specs.EditRuns.{IsSalvagedFrom};
 ghost use Rattle.opened_files.specs.Rights.{MayMakeImage};
-ghost use Rattle.image_edits.specs.Salvages.{IsOfLog, IsSalvageRun, IsUnsalvaged, log_bytes, salvage_text as text_of};
+ghost use Rattle.image_edits.specs.Salvages.{IsOfLog, IsUnsalvaged, log_bytes, salvage_text as text_of};
 ghost use Rattle.command_faults.specs.declared.faults.CommandFault.TheVariants as faults;
 ghost use Rattle.opened_files.specs.declared.refusals.Refusal.TheVariants as refusals;
 
-use crate::copying::write_copy;
+use crate::copying::make_told;
 use command_faults::CommandFault;
 use disk_layout::Fault;
-use image_file::{EndedFile, HostFiles, Locks, OverwrittenFile, read_script};
-use opened_files::{
-    AtPath, Older, Refusal, log_refusal, made_end, metadata_of, opened_shared, told,
-};
+use image_file::{EndedFile, HostFiles, Locks, read_script};
+use opened_files::{Refusal, log_refusal, metadata_of, opened_shared, told};
 use shop_log::{Salvaged, image_room, salvage};
 use std::alloc::Global;
 use std::fs::OpenFile;
@@ -66,32 +64,19 @@ fn take_commits(
     }
 }
 
-/// Writes the image of a log's whole commits over all that a file holds, syncs it, and prints `COPIED`, how many commits
-/// these are, the base among them, and how many blocks were left out after them. `log` has the log's bytes; zeros stand
-/// for those that it hasn't, and more aren't read. If power goes on the way, the file has what it could have before, or is
-/// no sound disk's, or has the image.
-///
-/// `Log`: the first commit isn't whole, and nothing was done; nor at `NoMemory`. `File` if the file failed, which then has
-/// a part of the image, and nothing is printed. `File` also if `out` failed, which then has a prefix of what is printed.
-pub fn salvage_run<F: EndedFile, W: Write>(
-    alloc: Global,
-    mut log: Vec<u8>,
-    file: &mut F,
-    out: &mut W,
-) -> Result<(), Refusal>
-    ensures { IsSalvageRun F.remains W.contents (vec_items log) file.old file.new out.old out.new result }
+/// The image of a log's whole commits, and what is printed of that.
+fn salvaged(alloc: Global, log: Vec<u8>) -> Result<(Vec<[u8; 256]>, Vec<u8>), Refusal>
+    ensures ok { IfOk result (λ made. IsOfLog (vec_items log)
+        (λ image said. (image ≡ vec_items made.0) × (vec_items made.1 ≡ said))) }
+    ensures sized { IfOk result (λ made. length (vec_items made.0) ≡ 683) }
+    ensures err { IfErr result (IsUnsalvaged (vec_items log)) }
 {
+    let mut log = log;
     let Ok(mut image) = image_room(alloc) else {
         return Err(Refusal::Fault(CommandFault::NoMemory));
     };
-    let text = match take_commits(alloc, &mut log, image.as_mut_slice()) {
-        Ok(text) => text,
-        Err(refusal) => return Err(refusal),
-    };
-    match write_copy(image.as_slice().as_flattened(), text.as_slice(), file, out) {
-        Ok(()) => Ok(()),
-        Err(fault) => Err(Refusal::Fault(fault)),
-    }
+    let text = take_commits(alloc, &mut log, image.as_mut_slice())?;
+    Ok((image, text))
 }
 
 /// The bytes that a reader has, up to as many as a log has.
@@ -121,8 +106,11 @@ where
     told(read_log_file(rt.alloc(), file))
 }
 
-/// Copies the image of the whole commits of the log at a path to a file at another path, at which there must be none. The
-/// log is only read.
+/// Copies the image of the whole commits of the log at a path to a file at another path, at which there must be none. Prints
+/// `COPIED`, how many commits these are, the base among them, and how many blocks were left out after them. Zeros stand for
+/// the bytes that a shorter file hasn't, and more than a log has aren't read. `Log`: the first commit isn't whole. The other
+/// errors are those of `make_image`; and `File` if the log couldn't be read, or `out` failed, which then has a prefix of
+/// what is printed.
 pub fn do_salvaging<F, R, W>(
     rt: &R,
     path: &str,
@@ -135,11 +123,11 @@ where
     W: Write,
     requires log { MayRead R.rights rt.now path.now }
     requires copy { MayMakeImage R.rights rt.now copy.now }
-    ensures { IsSalvagedFrom R.stands W.contents rt.now path.now out.old out.new result }
+    ensures { IsSalvagedFrom R.rights R.stands R.traces F.EndedFile.remains W.contents rt.now path.now copy.now
+        out.old out.new result }
 {
     let log = log_at(rt, path)?;
-    let like = metadata_of(rt, path);
-    let mut file = OverwrittenFile::new(AtPath::new(rt, copy, Older::Kept, like));
-    let ended = salvage_run(rt.alloc(), log, &mut file, out);
-    made_end(ended, file.given_up().refused())
+    let (image, text) = salvaged(rt.alloc(), log)?;
+    let (image, like) = (image.as_slice().as_flattened(), metadata_of(rt, path));
+    make_told(rt, copy, like, image, text.as_slice(), out)
 }

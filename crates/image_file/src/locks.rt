@@ -1,13 +1,14 @@
 //! Files that one program at a time writes.
 use crate::durability::WritesAt;
 use crate::reading::read_image;
+use crate::remaining::EndedFile;
 use std::alloc::Global;
 use std::fs::{File, TryLockError};
 use std::io::{self, Read};
 
 /// A file that programs lock before they read or write it. The lock isn't waited for, and it falls with the open file,
 /// also if the program dies. It binds programs that ask for it, and no others.
-pub trait Locks: WritesAt + Read {
+pub trait Locks: WritesAt + EndedFile + Read {
     ghost use Rattle.std.specs.Prelude.{◌≡◌, IfOk, IfSome, OnOk, take, vec_items};
 
     /// Locks the file for this program alone. `WouldBlock` if another has a lock on it.
@@ -15,6 +16,7 @@ pub trait Locks: WritesAt + Read {
         ensures owned { OnOk result (Self.IsOwned self.new) }
         ensures shared { OnOk result (Self.IsShared self.new) }
         ensures held { Self.held self.new ≡ Self.held self.old }
+        ensures remains { Self.EndedFile.remains.held self.new ≡ Self.EndedFile.remains.held self.old }
         ensures unread { Self.unread self.new ≡ Self.unread self.old };
 
     /// Locks the file so that others may read it too, and none writes it. `WouldBlock` if another has it alone.

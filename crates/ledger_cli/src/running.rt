@@ -64,7 +64,7 @@ fn obey<F: Write + Seek + Drop, W: Write>(
 /// Five kinds of job end with 3 and `FILE`:
 /// - a job over several images, since only one has its bytes here: call `overview_run` for each;
 /// - `Extract` and `Serve`, since there is no folder: call `extract_run` and `serve_logged` over one and over a log;
-/// - `Salvage`, since there is no log: call `salvage_run` with its bytes;
+/// - `Salvage`, since there is no log;
 /// - `Trim`, which reports on standard error: call `trim_run`.
 ///
 /// `Play` hands the file each sector at 256 times its index, before memory takes it, and nothing else. All other

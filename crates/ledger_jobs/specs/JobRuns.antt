@@ -3,15 +3,21 @@ use Rattle.std.specs.Borrow.{Bor}
 use Rattle.std.specs.Prelude.{◌≡◌, ℕ, Err, List, Option, Vec, codes, map, vec_items}
 use Rattle.std.specs.declared.alloc.Global.{Global}
 use Rattle.command_faults.specs.declared.faults.CommandFault.TheVariants as faults
+use Rattle.disk_changes.specs.declared.changes.Changed.{Changed}
+use Rattle.image_file.specs.Remains.{Remains}
 use Rattle.image_file.specs.paths.Rights.{Rights}
 use Rattle.image_file.specs.paths.Standing.{Stands}
+use Rattle.image_file.specs.paths.Traces.{Traces}
 use Rattle.opened_files.specs.Makings.{IsMakingEnd}
 use Rattle.opened_files.specs.Ends.{JobEnd}
+use Rattle.opened_files.specs.Names.{name_bytes}
 use Rattle.shop_jobs.specs.Replies.{IsShopAt, IsLoggedService}
 use Rattle.ledger_jobs.specs.declared.jobs.Job.{Job}
 use Rattle.ledger_jobs.specs.declared.jobs.Job.TheVariants as jobs
 use Rattle.opened_files.specs.declared.refusals.Refusal.TheVariants as refusals
 use Rattle.image_looks.specs.LookRuns.{IsLookedAt, IsComparedOver, IsExtractedFrom, AreDrawnOnSheet, AreDescribed, AreOverviewed}
+use Rattle.image_edits.specs.NewDisks.{IsNewDiskEnd}
+use Rattle.shop_jobs.specs.NewShops.{IsNewShopEnd}
 use Rattle.image_edits.specs.EditRuns.{IsSalvagedFrom, IsCopiedFrom, IsEditOver}
 use Rattle.shop_jobs.specs.ServiceEnds.{IsNearEnd}
 use Rattle.shop_jobs.specs.ShopRuns.{IsDryOver, IsPlayedOverFile, IsPlayedOverLog}
@@ -20,19 +26,24 @@ use Rattle.shop_jobs.specs.ShopRuns.{IsDryOver, IsPlayedOverFile, IsPlayedOverLo
 abbrev pub paths_of : Vec (Bor (List ℕ)) Global → List (List ℕ)
 paths_of images = map (λ image. image.now) (vec_items images)
 
-module _ {H W : Type 0} (rights : Rights H) (stands : H → List ℕ → Stands) (contents : W → Option (List ℕ)) (host : H) where
-  -- a job ended so, over the bytes that the host has at the paths of its words
+module _ {H F W : Type 0} (rights : Rights H) (stands : H → List ℕ → Stands) (traces : Traces H F) (remains : Remains F)
+    (changed : H → (path image : List ℕ) → Changed → Type 0) (contents : W → Option (List ℕ)) (host : H) where
+  -- a job ended so, over the bytes that the host has at the paths of its words, and left this
   abbrev pub IsJobOver : Job → W → W → JobEnd → Type 0
   IsJobOver (jobs.Look image what) old new end = IsLookedAt rights stands contents host what image.now old new end
   IsJobOver (jobs.Dry script) old new end = IsDryOver stands contents host script.now old new end
   IsJobOver (jobs.Compare before after) old new end = IsComparedOver rights stands contents host before.now after.now old new end
-  IsJobOver (jobs.Copy image copy) old new end = IsCopiedFrom rights stands contents host image.now old new end
-  IsJobOver (jobs.Salvage log copy) old new end = IsSalvagedFrom stands contents host log.now old new end
+  IsJobOver (jobs.Copy image copy) old new end =
+      IsCopiedFrom rights stands traces remains contents host image.now copy.now old new end
+  IsJobOver (jobs.Salvage log copy) old new end =
+      IsSalvagedFrom rights stands traces remains contents host log.now copy.now old new end
   IsJobOver (jobs.Extract choice image folder) old new end = IsExtractedFrom rights stands contents host choice image.now old new end
-  IsJobOver (jobs.Change image effect edit) old new end = IsEditOver rights stands contents host effect image.now edit old new end
+  IsJobOver (jobs.Change image effect edit) old new end =
+      IsEditOver rights stands changed contents host effect image.now edit old new end
   IsJobOver (jobs.Format image tills) old new end = IsMakingEnd contents (codes "FORMATTED\n") old new end
-  IsJobOver (jobs.FormatNew image tills) old new end = IsMakingEnd contents (codes "FORMATTED\n") old new end
-  IsJobOver (jobs.New image name id) old new end = IsMakingEnd contents (codes "FORMATTED\n") old new end
+  IsJobOver (jobs.FormatNew image tills) old new end = IsNewShopEnd traces remains contents host image.now tills old new end
+  IsJobOver (jobs.New image name id) old new end =
+      IsNewDiskEnd traces remains contents host image.now (name_bytes name) id old new end
   IsJobOver (jobs.Play image script loss) old new end = IsNearEnd stands host image.now loss old new end
       × IsPlayedOverFile rights stands contents host image.now script.now old new end
   IsJobOver (jobs.Sheet images) old new end = AreDrawnOnSheet rights stands contents host (paths_of images) old new end

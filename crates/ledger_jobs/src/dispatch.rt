@@ -6,12 +6,13 @@ ghost use Rattle.ledger_jobs.specs.JobRights.{MayDo};
 use crate::jobs::Job;
 use command_faults::CommandFault;
 use disk_layout::Fault;
+use folder_changes::HostImages;
 use image_edits::{do_copying, do_edit, do_new, do_salvaging};
 use image_file::{EndedFile, HostFiles, Locks};
 use image_looks::{do_comparing, do_describing, do_extracting, do_look, do_several, do_sheet};
 use opened_files::{Older, Refusal};
 use shop_jobs::{
-    do_dry, do_format, do_logged_playing, do_logged_serving, do_making, do_playing,
+    do_dry, do_format, do_format_new, do_logged_playing, do_logged_serving, do_playing,
 };
 use std::fs::OpenFile;
 use std::io::{Read, Write};
@@ -26,22 +27,23 @@ use std::io::{Read, Write};
 ///
 /// `InUse` if another program has the image; `Log` if its log gives no image; `LogAway` if that has the rest of a shop and
 /// isn't there, and the job shows, plays, serves or changes an image and accepts no loss; `File` if a file couldn't be opened
-/// or read. The other faults are those of `look`, `dry_run`, `format_image`, `new_run`, `play_durably`, `play_logged`,
-/// `serve_logged_guarded`, `copy_run`, `salvage_run`, `change_image`, `show_change`, `extract_run` and `comparing_run`.
+/// or read. The other faults are those of `look`, `dry_run`, `format_image`, `make_image`, `play_durably`, `play_logged`,
+/// `serve_logged_guarded`, `salvage`, `change_image`, `show_change`, `extract_run` and `comparing_run`.
 /// `Trim` ends with `File`, since it reports on standard error: call `do_trim`. What is wrong with one of several images is
 /// printed; only a failed output ends the job before the last of them.
 pub fn do_job<F, R, W>(rt: &R, job: &Job<'_>, out: &mut W) -> Result<Option<Fault>, Refusal>
 where
     F: EndedFile + Read + Locks + OpenFile + Drop,
-    R: HostFiles<File = F> + Input + AllocGlobal,
+    R: HostFiles<File = F> + HostImages + Input + AllocGlobal,
     W: Write,
     requires rights { MayDo R.rights rt.now job.now }
     requires fit { IsFit job.now }
-    ensures { IsJobOver R.rights R.stands W.contents rt.now job.now out.old out.new result }
+    ensures { IsJobOver R.rights R.stands R.traces F.EndedFile.remains R.changed W.contents rt.now job.now
+        out.old out.new result }
 {
     match *job {
         Job::Format { image, tills } => do_format(rt, image, tills, out),
-        Job::FormatNew { image, tills } => do_making(rt, image, tills, Older::Kept, out),
+        Job::FormatNew { image, tills } => do_format_new(rt, image, tills, out),
         Job::New {
             image,
             ref name,

@@ -1,3 +1,4 @@
 pub mod HostFiles
+pub mod Made
 pub mod Named
 pub mod Near

@@ -1,6 +1,7 @@
 //! Files and folders that are made under another name, and get their own when they are whole.
-ghost use Rattle.std.specs.Prelude.{◌≡◌, IfOk, string_bytes};
+ghost use Rattle.std.specs.Prelude.{◌≡◌, IfOk, OnOk, string_bytes};
 ghost use Rattle.std.proofs.Props.{props};
+ghost use Rattle.image_file.specs.paths.Rights.{Make};
 ghost use Rattle.opened_files.specs.Rights.{MayMakeNew, aside_of};
 
 use crate::image_logs::is_there;
@@ -85,7 +86,10 @@ impl<'a, R: HostFiles> Aside<'a, R> {
     }
 
     /// Makes a file of this name, open to be written.
-    pub(crate) fn make_file(&self, mode: u32) -> io::Result<R::File> {
+    pub(crate) fn make_file(&self, mode: u32) -> io::Result<R::File>
+        ensures { IfOk result (λ file. R.traces.opened self.now.rt.now Make
+            (aside_of self.now.path.now self.now.end.now) file) }
+    {
         self.rt.make_file(self.name.as_str(), mode)
     }
 
@@ -100,7 +104,10 @@ impl<'a, R: HostFiles> Aside<'a, R> {
     }
 
     /// Gives what has the name its own path, at which nothing may stand: `AlreadyExists`; and syncs that.
-    pub fn give_path(&self) -> io::Result<()> {
+    pub fn give_path(&self) -> io::Result<()>
+        ensures { OnOk result (R.traces.moved self.now.rt.now (aside_of self.now.path.now self.now.end.now)
+            self.now.path.now) }
+    {
         self.rt.give_free_name(self.name.as_str(), self.path)?;
         self.rt.sync_folder_of(self.path)
     }

@@ -15,6 +15,7 @@ pub(crate) fn lock_exclusive<F: Locks>(file: &mut F) -> Result<(), Refusal>
     ensures owned { OnOk result (F.IsOwned file.new) }
     ensures shared { OnOk result (F.IsShared file.new) }
     ensures untouched { F.held file.new ≡ F.held file.old }
+    ensures remains { F.EndedFile.remains.held file.new ≡ F.EndedFile.remains.held file.old }
     ensures unread { F.unread file.new ≡ F.unread file.old }
     ensures err { IfErr result IsUnread }
 {

@@ -3,6 +3,7 @@ pub mod Formats
 pub mod LandedRuns
 pub mod LoggedPlays
 pub mod LoggedRuns
+pub mod NewShops
 pub mod Replies
 pub mod Runs
 pub mod ServiceEnds

@@ -120,11 +120,10 @@ where
 
 /// Makes the image at a path, where nothing stands, or over a file that is no image. The log of what is replaced stays until
 /// the image is whole.
-pub fn do_making<F, R, W>(
+fn make_shop<F, R, W>(
     rt: &R,
     path: &str,
     tills: u8,
-    older: Older,
     out: &mut W,
 ) -> Result<Option<Fault>, Refusal>
 where
@@ -132,12 +131,12 @@ where
     R: HostFiles<File = F> + AllocGlobal,
     W: Write,
     requires makes { MayMakeImage R.rights rt.now path.now }
-    requires overwrites { older ≡ Replaced → MayWrite R.rights rt.now path.now }
+    requires overwrites { MayWrite R.rights rt.now path.now }
     requires some { 1 ≤ tills }
     requires few { tills ≤ 64 }
     ensures { IsMakingEnd W.contents (codes "FORMATTED\n") out.old out.new result }
 {
-    let mut file = OverwrittenFile::new(AtPath::new(rt, path, older, None));
+    let mut file = OverwrittenFile::new(AtPath::new(rt, path, Older::Replaced, None));
     let made = format_image(rt.alloc(), tills, &mut file, out);
     over_end(made, file.given_up().refused())
 }
@@ -162,5 +161,5 @@ where
     if size_of(rt, path) == Some(IMAGE_BYTES as u64) {
         return replace_shop(rt, path, tills, out);
     }
-    do_making(rt, path, tills, Older::Replaced, out)
+    make_shop(rt, path, tills, out)
 }

@@ -8,3 +8,4 @@ pub mod Ends
 pub mod Noted
 pub mod SnapshotRights
 pub mod SnapshotPremises
+pub mod OneFile

@@ -7,3 +7,4 @@ pub mod WholeShops
 pub mod Noted
 pub mod Known
 pub mod Snapshots
+pub mod OneFile

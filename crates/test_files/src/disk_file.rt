@@ -6,7 +6,7 @@ ghost use Rattle.image_file.specs.Lasting.{StaysOr};
 ghost use Rattle.test_files.specs.Disks.{disk_bytes, disk_lasting};
 
 use crate::disk::Disk;
-use image_file::{Locks, WritesAt};
+use image_file::{EndedFile, Locks, WritesAt};
 use std::alloc::{AllocError, Global};
 use std::fs::TryLockError;
 use std::io::{self, ErrorKind, Read};
@@ -225,6 +225,25 @@ impl Read for DiskFile {
     // It is read as a whole, by `image`.
     fn read(&mut self, _buf: &mut [u8]) -> io::Result<usize> {
         Err(io::Error::from(io::ErrorKind::Unsupported))
+    }
+}
+
+impl EndedFile for DiskFile {
+    fn put_over(&mut self, bytes: &[u8], at: u64) -> io::Result<()> {
+        self.write_noted(bytes, at)
+    }
+
+    // it has the length of an image
+    fn end_at(&mut self, _bytes: u64) -> io::Result<()> {
+        Err(io::Error::from(io::ErrorKind::Unsupported))
+    }
+
+    fn sync_whole(&mut self) -> io::Result<()> {
+        self.bring_noted()
+    }
+
+    fn finish(&mut self) -> io::Result<()> {
+        Ok(())
     }
 }
 

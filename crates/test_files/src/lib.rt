@@ -17,7 +17,7 @@ pub use known::{Known, KnownFile};
 pub use noting::{NotedLines, NotedReplies, RecordedReply};
 pub use runs::play_in_file;
 pub use snapshots::host::Snapshot;
-pub use snapshots::jobs::{do_over, premises_are_met};
+pub use snapshots::jobs::{do_over, made_images_are_told, premises_are_met};
 pub use snapshots::open_file::SnapshotFile;
 pub use snapshots::store::Store;
 pub use whole_file::WholeFile;

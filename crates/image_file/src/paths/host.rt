@@ -1,7 +1,8 @@
 //! The files of a host, by their paths.
-ghost use Rattle.std.specs.Prelude.{◌≡◌, Bool, IfOk, IsErr, List, ℕ, false, string_bytes, true};
+ghost use Rattle.std.specs.Prelude.{◌≡◌, Bool, IfOk, IsErr, List, OnOk, ℕ, false, string_bytes, true};
 ghost use Rattle.image_file.specs.paths.Rights.{Look, Make, May, Read as ToRead, Remove, Replace, Rights, Use, Write as ToWrite};
 ghost use Rattle.image_file.specs.paths.Standing.{AreOf, IsMissing, Stands, Unsaid};
+ghost use Rattle.image_file.specs.paths.Traces.{Traces, untraced};
 
 use crate::paths::mounts::is_mount_point;
 use std::alloc::Global;
@@ -21,6 +22,9 @@ pub trait HostFiles {
 
     // what stands at its paths, if it says that
     ghost stands: { Self → List ℕ → Stands } = { λ _ _. Unsaid };
+
+    // what it says of calls that were made, if it says that
+    ghost traces: { Traces Self Self.File } = { untraced };
 
     /// What stands at a path.
     fn look_at(&self, path: &str) -> io::Result<Metadata>
@@ -51,7 +55,8 @@ pub trait HostFiles {
     fn open_to_change(&self, path: &str) -> io::Result<Self::File>
         requires { May rights self.now ToWrite path.now }
         ensures missing { IsMissing stands self.now path.now → IsErr result }
-        ensures bytes { IfOk result (λ file. AreOf stands self.now path.now (Self.File.Read.remaining file)) };
+        ensures bytes { IfOk result (λ file. AreOf stands self.now path.now (Self.File.Read.remaining file)) }
+        ensures opened { IfOk result (λ file. traces.opened self.now ToWrite path.now file) };
 
     /// Opens the file at a path to write it; it needn't be readable. It is neither made nor cut.
     fn open_to_write(&self, path: &str) -> io::Result<Self::File>
@@ -60,7 +65,8 @@ pub trait HostFiles {
     /// Makes a file at a path, open to be written, with these of the bits of its mode that the host lets a file have.
     /// `AlreadyExists` if anything stands there.
     fn make_file(&self, path: &str, mode: u32) -> io::Result<Self::File>
-        requires { May rights self.now Make path.now };
+        requires { May rights self.now Make path.now }
+        ensures { IfOk result (λ file. traces.opened self.now Make path.now file) };
 
     /// Gives the file or the folder at a path another name, at which nothing may stand: `AlreadyExists`. A host that gives no
     /// file two names, and each for a folder, first looks whether anything stands there: a file that comes there between the
@@ -68,7 +74,8 @@ pub trait HostFiles {
     fn give_free_name(&self, from: &str, to: &str) -> io::Result<()>
         requires from { May rights self.now Remove from.now }
         requires look { May rights self.now Look to.now }
-        requires to { May rights self.now Make to.now };
+        requires to { May rights self.now Make to.now }
+        ensures { OnOk result (traces.moved self.now from.now to.now) };
 
     /// Takes the name of the empty folder at a path away.
     fn remove_folder(&self, path: &str) -> io::Result<()>

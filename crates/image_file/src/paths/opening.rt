@@ -1,7 +1,7 @@
 //! Files that can be opened without waiting, and that are no devices.
 ghost use Rattle.std.specs.Prelude.{IfOk, IsErr};
 ghost use Rattle.std.specs.Fs.{IsFile, file_type};
-ghost use Rattle.image_file.specs.paths.Rights.{Look, May, MayRead, MayWrite};
+ghost use Rattle.image_file.specs.paths.Rights.{Look, May, MayRead, MayWrite, Write as ToWrite};
 ghost use Rattle.image_file.specs.paths.Standing.{AreOf, IsMissing};
 
 use crate::paths::host::HostFiles;
@@ -47,6 +47,7 @@ pub fn opened_to_change<R: HostFiles>(rt: &R, path: &str) -> io::Result<R::File>
     requires { MayWrite R.rights rt.now path.now }
     ensures missing { IsMissing R.stands rt.now path.now → IsErr result }
     ensures bytes { IfOk result (λ file. AreOf R.stands rt.now path.now (R.File.Read.remaining file)) }
+    ensures opened { IfOk result (λ file. R.traces.opened rt.now ToWrite path.now file) }
 {
     regular_at(rt, path)?;
     rt.open_to_change(path)

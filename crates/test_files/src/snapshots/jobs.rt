@@ -5,6 +5,8 @@ ghost use Rattle.ledger_jobs.specs.JobRuns.{IsJobOver};
 ghost use Rattle.ledger_jobs.specs.Jobs.{IsFit};
 ghost use Rattle.ledger_jobs.specs.declared.jobs.Job as jobs;
 ghost use Rattle.opened_files.specs.HostFiles.{OfImage, OfText, OfWritten};
+ghost use Rattle.opened_files.specs.Makings.{IsMadeAt};
+ghost use Rattle.test_files.specs.OneFile.{one_remains, one_traces};
 ghost use Rattle.test_files.specs.Snapshots.{image_path, snapshot_rights, snapshot_stands, text_path};
 ghost use Rattle.test_files.specs.declared.snapshots.host.Snapshot as hosts;
 
@@ -21,7 +23,7 @@ pub fn do_over<W: Write>(
     out: &mut W,
 ) -> Result<Option<Fault>, Refusal>
     requires fit { IsFit job.now }
-    ensures { IsJobOver snapshot_rights snapshot_stands W.contents host.now job.now out.old out.new result }
+    ensures { IsJobOver snapshot_rights snapshot_stands untraced unknown (λ _ _ _ _. ⊤) W.contents host.now job.now out.old out.new result }
 {
     do_job(host, job, out)
 }
@@ -39,4 +41,12 @@ pub fn premises_are_met()
     ensures text { (host : hosts.Snapshot) (bytes : List ℕ)
         → OfText snapshot_stands host text_path (λ all. bytes ≡ all) → bytes ≡ host.text.now }
     ensures rights { (host : hosts.Snapshot) (job : jobs.Job) → MayDo snapshot_rights host job }
+{}
+
+/// What is said of an image that a job makes can hold, and on a host where one file was made it holds of its path and its bytes
+/// alone.
+pub fn made_images_are_told()
+    ensures met { (path image : List ℕ) → IsMadeAt (one_remains path image) (one_traces path image) tt path image }
+    ensures only { (path image other bytes : List ℕ)
+        → IsMadeAt (one_remains path image) (one_traces path image) tt other bytes → (other ≡ path) × (bytes ≡ image) }
 {}

@@ -1,21 +1,18 @@
--- The change of the folder's image, as the job's end.
+-- The change of the image at the path, as the job's end.
 use Rattle.std.proofs.Common.{inl}
 use Rattle.disk_changes.specs.Changes.{IsChanged, IsRefused}
-use Rattle.folder_changes.specs.FolderChanges.{IsLeft, IsMade}
-use Rattle.image_edits.proofs.ChangedOver.{told-weaker}
+use Rattle.folder_changes.proofs.Changed.{told-weaker}
+use Rattle.image_edits.proofs.ChangedOver.{told-ok}
 use Rattle.image_edits.proofs.changing.change_taken.Goals as goal
-use Rattle.shop_log.specs.life.Unknown.{unknown_folder}
 
 pub returns : goal.returns
 returns g c =
     let what = c.args.what.now in
     let image = c.args.image.now in
-    let old = c.in_ok-folder.folder in
-    let new = c.change_image.new.folder in
     inl (
-      c.change_image.result,
+      c.in_ok-ended.ended,
       c.change_end.ensures,
-      told-weaker g.W.Write.contents (IsMade unknown_folder what image old new) (IsChanged what image)
-          (IsLeft unknown_folder what image old new) (IsRefused what image) c.args.out.now c.change_image.new.out
-          (λ made is. is.0) (λ why is. is.0) c.change_image.result c.change_image.ensures.run,
+      told-weaker g.W.Write.contents _ _ (IsRefused what image) (IsRefused what image) c.args.out.now c.change_at.new.out
+          (λ made is. (is.0, (_, c.in_ok-names.ensures.leads, is.1))) (λ why is. is) c.in_ok-ended.ended
+          (told-ok _ _ _ c.change_at.ensures.run c.in_ok-ended.ensures),
     )

@@ -2,7 +2,8 @@
 use Rattle.std.proofs.Common.{◌∙◌, Err, List, ap, inl, subst, sym, ℕ}
 use Rattle.std.specs.Prelude.{take, vec_items}
 use Rattle.std.proofs.lemmas.Result.{err_from_is_err_and}
-use Rattle.image_edits.proofs.ChangedOver.{away-as, told-weaker}
+use Rattle.image_edits.proofs.ChangedOver.{away-as}
+use Rattle.folder_changes.proofs.Changed.{told-weaker}
 use Rattle.image_edits.specs.Edits.{IsTextFor, loss_of}
 use Rattle.opened_files.proofs.Near.{not-near}
 use Rattle.opened_files.specs.HostFiles.{OfImage}

@@ -2,7 +2,8 @@
 use Rattle.std.proofs.Common.{◌∙◌, Err, List, ap, inl, subst, sym, ℕ}
 use Rattle.std.specs.Prelude.{take}
 use Rattle.std.proofs.lemmas.Result.{err_from_is_err_and}
-use Rattle.image_edits.proofs.ChangedOver.{away-as, run-weaker, told-weaker}
+use Rattle.image_edits.proofs.ChangedOver.{away-as, run-weaker}
+use Rattle.folder_changes.proofs.Changed.{told-weaker}
 use Rattle.image_edits.specs.Edits.{IsTextFor, loss_of}
 use Rattle.opened_files.proofs.Near.{not-near}
 use Rattle.opened_files.specs.HostFiles.{OfWritten}
@@ -37,7 +38,7 @@ returns g c =
       (
         run.0,
         run.1,
-        told-weaker g.W.Write.contents _ _ _ _ old new (c.change-what.ensures.made image)
+        told-weaker g.W.Write.contents _ _ _ _ old new (λ made is. (c.change-what.ensures.made image made is.0, is.1))
             (c.change-what.ensures.refused image) run.0 run.2,
       ),
     )) c.change_taken.ensures)

@@ -1,83 +1,54 @@
 -- What is said of what was done with the files is said of the job.
-use Rattle.std.proofs.Common.{List, map, subst, sym, ℕ}
+use Rattle.std.proofs.Common.{List, map, subst, ℕ}
 use Rattle.std.specs.Borrow.{Bor}
 use Rattle.image_looks.specs.LookRuns.{AreDescribed, AreDrawnOnSheet, AreOverviewed}
-use Rattle.ledger_jobs.specs.JobRuns.{IsJobOver}
-use Rattle.ledger_jobs.specs.declared.jobs.Job.{Job}
 use Rattle.ledger_jobs.proofs.dispatch.do_job.Goals as goal
 
 pub returns-in-Look : goal.returns-in-Look
-returns-in-Look g c =
-    subst (λ (job : Job). IsJobOver g.R.HostFiles.rights g.R.HostFiles.stands g.W.Write.contents c.args.rt.now job
-    c.args.out.now c.do_look.new.out c.do_look.result) (sym c.in-Look.is) c.do_look.ensures
+returns-in-Look g c = rw c.in-Look.is c.do_look.ensures
 
 pub returns-in-Dry : goal.returns-in-Dry
-returns-in-Dry g c =
-    subst (λ (job : Job). IsJobOver g.R.HostFiles.rights g.R.HostFiles.stands g.W.Write.contents c.args.rt.now job
-    c.args.out.now c.do_dry.new.out c.do_dry.result) (sym c.in-Dry.is) c.do_dry.ensures
+returns-in-Dry g c = rw c.in-Dry.is c.do_dry.ensures
 
 pub returns-in-New : goal.returns-in-New
-returns-in-New g c =
-    subst (λ (job : Job). IsJobOver g.R.HostFiles.rights g.R.HostFiles.stands g.W.Write.contents c.args.rt.now job
-    c.args.out.now c.do_new.new.out c.do_new.result) (sym c.in-New.is) c.do_new.ensures
+returns-in-New g c = rw c.in-New.is c.do_new.ensures
 
 pub returns-in-Play : goal.returns-in-Play
 returns-in-Play g c =
-    subst (λ (job : Job). IsJobOver g.R.HostFiles.rights g.R.HostFiles.stands g.W.Write.contents c.args.rt.now job
-    c.args.out.now c.do_playing.new.out c.do_playing.result) (sym c.in-Play.is)
-    (c.do_playing.ensures.near, c.do_playing.ensures.played)
+    rw c.in-Play.is (c.do_playing.ensures.near, c.do_playing.ensures.played)
 
 pub returns-in-PlayLogged : goal.returns-in-PlayLogged
-returns-in-PlayLogged g c =
-    subst (λ (job : Job). IsJobOver g.R.HostFiles.rights g.R.HostFiles.stands g.W.Write.contents c.args.rt.now job
-    c.args.out.now c.do_logged_playing.new.out c.do_logged_playing.result) (sym c.in-PlayLogged.is)
-    c.do_logged_playing.ensures
+returns-in-PlayLogged g c = rw c.in-PlayLogged.is c.do_logged_playing.ensures
 
 pub returns-in-Copy : goal.returns-in-Copy
-returns-in-Copy g c =
-    subst (λ (job : Job). IsJobOver g.R.HostFiles.rights g.R.HostFiles.stands g.W.Write.contents c.args.rt.now job
-    c.args.out.now c.do_copying.new.out c.do_copying.result) (sym c.in-Copy.is) c.do_copying.ensures
+returns-in-Copy g c = rw c.in-Copy.is c.do_copying.ensures
 
 pub returns-in-Salvage : goal.returns-in-Salvage
-returns-in-Salvage g c =
-    subst (λ (job : Job). IsJobOver g.R.HostFiles.rights g.R.HostFiles.stands g.W.Write.contents c.args.rt.now job
-    c.args.out.now c.do_salvaging.new.out c.do_salvaging.result) (sym c.in-Salvage.is) c.do_salvaging.ensures
+returns-in-Salvage g c = rw c.in-Salvage.is c.do_salvaging.ensures
 
 pub returns-in-Extract : goal.returns-in-Extract
-returns-in-Extract g c =
-    subst (λ (job : Job). IsJobOver g.R.HostFiles.rights g.R.HostFiles.stands g.W.Write.contents c.args.rt.now job
-    c.args.out.now c.do_extracting.new.out c.do_extracting.result) (sym c.in-Extract.is) c.do_extracting.ensures
+returns-in-Extract g c = rw c.in-Extract.is c.do_extracting.ensures
 
 pub returns-in-Change : goal.returns-in-Change
-returns-in-Change g c =
-    subst (λ (job : Job). IsJobOver g.R.HostFiles.rights g.R.HostFiles.stands g.W.Write.contents c.args.rt.now job
-    c.args.out.now c.do_edit.new.out c.do_edit.result) (sym c.in-Change.is) c.do_edit.ensures
+returns-in-Change g c = rw c.in-Change.is c.do_edit.ensures
 
 pub returns-in-Compare : goal.returns-in-Compare
-returns-in-Compare g c =
-    subst (λ (job : Job). IsJobOver g.R.HostFiles.rights g.R.HostFiles.stands g.W.Write.contents c.args.rt.now job
-    c.args.out.now c.do_comparing.new.out c.do_comparing.result) (sym c.in-Compare.is) c.do_comparing.ensures
+returns-in-Compare g c = rw c.in-Compare.is c.do_comparing.ensures
 
 pub returns-in-Sheet : goal.returns-in-Sheet
 returns-in-Sheet g c =
-    subst (λ (job : Job). IsJobOver g.R.HostFiles.rights g.R.HostFiles.stands g.W.Write.contents c.args.rt.now job
-    c.args.out.now c.do_sheet.new.out c.do_sheet.result) (sym c.in-Sheet.is)
-    (subst (λ (paths : List (Bor (List ℕ))). AreDrawnOnSheet g.R.HostFiles.rights g.R.HostFiles.stands g.W.Write.contents
+    rw c.in-Sheet.is (subst (λ (paths : List (Bor (List ℕ))). AreDrawnOnSheet g.R.HostFiles.rights g.R.HostFiles.stands g.W.Write.contents
     c.args.rt.now (map (λ path. path.now) paths) c.args.out.now c.do_sheet.new.out c.do_sheet.result) c.as_slice.ensures.value
     c.do_sheet.ensures)
 
 pub returns-in-Describe : goal.returns-in-Describe
 returns-in-Describe g c =
-    subst (λ (job : Job). IsJobOver g.R.HostFiles.rights g.R.HostFiles.stands g.W.Write.contents c.args.rt.now job
-    c.args.out.now c.do_describing.new.out c.do_describing.result) (sym c.in-Describe.is)
-    (subst (λ (paths : List (Bor (List ℕ))). AreDescribed g.R.HostFiles.rights g.R.HostFiles.stands g.W.Write.contents
+    rw c.in-Describe.is (subst (λ (paths : List (Bor (List ℕ))). AreDescribed g.R.HostFiles.rights g.R.HostFiles.stands g.W.Write.contents
     c.args.rt.now (map (λ path. path.now) paths) c.args.out.now c.do_describing.new.out c.do_describing.result) c.as_slice-in-Describe.ensures.value
     c.do_describing.ensures)
 
 pub returns-in-Several : goal.returns-in-Several
 returns-in-Several g c =
-    subst (λ (job : Job). IsJobOver g.R.HostFiles.rights g.R.HostFiles.stands g.W.Write.contents c.args.rt.now job
-    c.args.out.now c.do_several.new.out c.do_several.result) (sym c.in-Several.is)
-    (subst (λ (paths : List (Bor (List ℕ))). AreOverviewed g.R.HostFiles.rights g.R.HostFiles.stands g.W.Write.contents
+    rw c.in-Several.is (subst (λ (paths : List (Bor (List ℕ))). AreOverviewed g.R.HostFiles.rights g.R.HostFiles.stands g.W.Write.contents
     c.args.rt.now c.in-Several.what (map (λ path. path.now) paths) c.args.out.now c.do_several.new.out c.do_several.result) c.as_slice-in-Several.ensures.value
     c.do_several.ensures)

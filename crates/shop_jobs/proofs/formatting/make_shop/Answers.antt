@@ -1,6 +1,6 @@
 -- What was printed, by how the run ended.
 use Rattle.shop_jobs.proofs.FormatTold.{format-told}
-use Rattle.shop_jobs.proofs.formatting.do_making.Goals as goal
+use Rattle.shop_jobs.proofs.formatting.make_shop.Goals as goal
 
 pub returns : goal.returns
 returns g c = (

@@ -1,0 +1,58 @@
+//! Images of a host that are changed at their paths.
+ghost use Rattle.std.specs.Prelude.{◌≡◌, IfOk, IsErr, List, string_bytes, ℕ, ⊤};
+ghost use Rattle.disk_changes.specs.Changes.{IsChanged, IsFit, IsRefused};
+ghost use Rattle.disk_changes.specs.declared.changes.Changed.{Changed};
+ghost use Rattle.folder_changes.specs.FolderChanges.{IsToldAs};
+ghost use Rattle.shop_log.specs.life.LogRights.{MayKeepLogOf};
+
+use crate::image_changing::change_image;
+use crate::stops::Stop;
+use disk_changes::Change;
+use image_file::{EndedFile, HostFiles};
+use shop_log::{ImageFolder, LogNames};
+use std::alloc::Global;
+use std::fs::OpenFile;
+use std::io::{self, Write};
+
+/// A host that changes the images at its paths, all or nothing.
+pub trait HostImages: HostFiles {
+    // of the image of these bytes at a path this was made, and stands there, if the host says that
+    ghost changed: { Self → (path image : List ℕ) → Changed → Type 0 } = { λ _ _ _ _. ⊤ };
+
+    /// Changes the image of these names, whose open file and bytes these are, and prints the change's text. No log is beside
+    /// it, and both are synced. Returns what `change_image` does over its folder. The error is that of a file that is no regular
+    /// one, or has a second name: nothing was done.
+    fn change_at<W: Write>(
+        &self,
+        alloc: Global,
+        names: &LogNames,
+        file: Self::File,
+        image: &[u8],
+        what: &Change<'_>,
+        out: &mut W,
+    ) -> io::Result<Result<u16, Stop>>
+        requires log { MayKeepLogOf Self.rights self.now (string_bytes names.now.image) }
+        requires fit { IsFit what.now }
+        ensures run { IfOk result (IsToldAs W.contents
+            (λ made. IsChanged what.now image.now made × changed self.now (string_bytes names.now.image) image.now made)
+            (IsRefused what.now image.now) out.old out.new) }
+        ensures quiet { IsErr result → out.new ≡ out.old };
+}
+
+impl<R: HostFiles> HostImages for R
+where
+    R::File: EndedFile + OpenFile,
+{
+    fn change_at<W: Write>(
+        &self,
+        alloc: Global,
+        names: &LogNames,
+        file: R::File,
+        image: &[u8],
+        what: &Change<'_>,
+        out: &mut W,
+    ) -> io::Result<Result<u16, Stop>> {
+        let mut folder = ImageFolder::new(self, names, file)?;
+        Ok(change_image(alloc, &mut folder, image, what, out))
+    }
+}

@@ -1,0 +1,25 @@
+-- What a host says of calls that were made. Our own.
+use Rattle.std.specs.Prelude.{◌≡◌, [], ℕ, List, Some, ⊤}
+use Rattle.image_file.specs.Remains.{Remains}
+use Rattle.image_file.specs.Replacing.{NowAll}
+use Rattle.image_file.specs.paths.Rights.{Make, Use}
+
+-- Facts that only calls of a host give.
+pub record Traces (H F : Type 0) : Type 1 where
+  -- this file was opened in this way at a path, or made there, and is as it was then
+  pub opened : H → Use → List ℕ → F → Type 0
+  -- what had the first path got the second one, at which nothing stood
+  pub moved : H → (from to : List ℕ) → Type 0
+
+-- of a host that says nothing
+abbrev pub untraced : {H F : Type 0} → Traces H F
+untraced = record { opened = λ _ _ _ _. ⊤; moved = λ _ _ _. ⊤ }
+
+-- A file was made at a path, which is empty then. It was left so that it holds these bytes, and they remain if power goes.
+pub record IsWrittenAt {H F : Type 0} (remains : Remains F) (traces : Traces H F) (host : H) (path bytes : List ℕ)
+    : Type 0 where
+  pub made : F
+  pub left : F
+  pub at : traces.opened host Make path made
+  pub held : remains.held made ≡ Some [] → remains.held left ≡ Some bytes
+  pub lasting : remains.held made ≡ Some [] → NowAll remains left (λ s. s ≡ bytes)

@@ -1,0 +1,50 @@
+-- An image that was made at a path, and how its job ends, from what came of each step.
+use Rattle.std.proofs.Common.{◌≡◌, [], ℕ, List, None, Option, Result, Ok, Err, Some, ap, inl, inr, refl, subst, sym, ◌∙◌}
+use Rattle.std.specs.Prelude.{IfErr, IfOk, OnOk}
+use Rattle.std.specs.Io.KnownBytes.{Appends}
+use Rattle.command_faults.specs.declared.faults.CommandFault.{CommandFault}
+use Rattle.command_faults.specs.declared.faults.CommandFault.TheVariants as faults
+use Rattle.image_file.specs.Remains.{Remains}
+use Rattle.image_file.specs.Replacing.{NowAll}
+use Rattle.image_file.specs.paths.Rights.{Make}
+use Rattle.image_file.specs.paths.Traces.{Traces}
+use Rattle.line_text.specs.Handed.{AppendsPart}
+use Rattle.opened_files.specs.Ends.{JobEnd, as_run}
+use Rattle.opened_files.specs.Makings.{IsMadeAt, IsNewEnd}
+use Rattle.opened_files.specs.Rights.{aside_of}
+use Rattle.opened_files.specs.declared.refusals.Refusal.{Refusal}
+use Rattle.opened_files.specs.declared.refusals.Refusal.TheVariants as refusals
+
+-- what holds of the value of a call, if that is Ok
+pub at-ok : {T E : Type 0} (P : T → Type 0) (result : Result T E) (it : T) → IfOk result P → result ≡ Ok it → P it
+at-ok {T} {E} P result it known is = subst (λ (r : Result T E). IfOk r P) is known
+
+-- it was made under another name, filled, and got its path
+pub made-at : {H F E : Type 0} (remains : Remains F) (traces : Traces H F) (host at : H) (path to end image : List ℕ)
+    (made left : F) (result : Result Unit E) → at ≡ host → to ≡ path → traces.opened at Make (aside_of to end) made
+    → OnOk result (remains.held made ≡ Some [] → remains.held left ≡ Some image)
+    → OnOk result (NowAll remains left (λ s. s ≡ image)) → OnOk result (traces.moved at (aside_of to end) to)
+    → OnOk result (IsMadeAt remains traces host path image)
+made-at remains traces host at path to end image made left (Ok _) same along opened held lasting moved =
+    subst (λ h. IsMadeAt remains traces h path image) same
+    (subst (λ p. IsMadeAt remains traces at p image) along (record {
+      end = end;
+      written = record { made = made; left = left; at = opened; held = held; lasting = λ empty. lasting };
+      moved = moved;
+    }))
+made-at remains traces host at path to end image made left (Err _) same along opened held lasting moved = tt
+
+module _ {W : Type 0} (contents : W → Option (List ℕ)) (Made : Type 0) (text : List ℕ) (old new : W) (end : JobEnd) where
+  -- it was made, and that was said, or a part of it
+  pub new-end : (put : Result Unit CommandFault) → end ≡ as_run put → Made
+      → OnOk put (Appends (contents old) (contents new) text)
+      → IfErr put (λ fault. (fault ≡ faults.File) × AppendsPart (contents old) (contents new) text)
+      → IsNewEnd contents Made text old new end
+  new-end (Ok _) ended made said part = subst (IsNewEnd contents Made text old new) (sym ended) (made, said)
+  new-end (Err fault) ended made said part = subst (IsNewEnd contents Made text old new) (sym ended)
+      (inr (ap refusals.Fault part.0, made, part.1))
+
+-- it wasn't made
+pub unmade : {W : Type 0} (contents : W → Option (List ℕ)) (Made : Type 0) (text : List ℕ) (out : W) (end : JobEnd)
+    (refusal : Refusal) → end ≡ Err refusal → IsNewEnd contents Made text out out end
+unmade contents Made text out end refusal ended = subst (IsNewEnd contents Made text out out) (sym ended) (inl refl)

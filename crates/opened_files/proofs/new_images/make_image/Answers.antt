@@ -1,0 +1,11 @@
+-- The steps, one after another.
+use Rattle.opened_files.proofs.Made.{at-ok, made-at}
+use Rattle.opened_files.proofs.new_images.make_image.Goals as goal
+
+pub returns : goal.returns
+returns g c =
+    let aside = at-ok _ _ _ c.free.ensures c.in_ok-aside.ensures in
+    let file = at-ok _ _ _ c.made_file.ensures c.in_ok-file.ensures in
+    made-at g.F.EndedFile.remains g.R.HostFiles.traces c.args.rt.now _ c.args.path.now _ _ c.args.image.now
+    c.in_ok-file.file c.fill-filled.new.file c.fill-filled.result aside.0 aside.1 file
+    c.fill-filled.ensures.held c.fill-filled.ensures.lasting c.fill-filled.ensures.moved
