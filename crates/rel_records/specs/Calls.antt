@@ -4,7 +4,6 @@ use Rattle.std.specs.Prelude.{Result, Some, length, slice_get}
 use Rattle.d64_image.specs.History.{Changes, History, OnlyReads, TellsFailure, WritesNothing}
 use Rattle.d64_image.specs.Images.{Image, Sector, sector}
 use Rattle.d64_image.specs.declared.faults.DeviceFault.{DeviceFault}
-use Rattle.d64_image.specs.declared.place.Place.{Place}
 use Rattle.disk_layout.specs.Clean.{IsClean}
 use Rattle.disk_layout.specs.Directory.{map_place}
 use Rattle.disk_layout.specs.Layout.{File, IsLayout, Layout, record_length}
@@ -181,12 +180,11 @@ pub record GrowsBy {D : Type 0} (S : History D) (old new : D) (l : Layout) (n : 
   pub ok : OnOk result done
   pub moments : Changes S old new most (IsGrowingBy (S.image old) l n f more)
 
--- A file of this name was made as the site has it, with its entry in the directory sector at p.
+-- A file of this name was made as the site has it.
 pub record MakesFile {D : Type 0} (S : History D) (old new : D) (l : Layout) (name : List ℕ) (size : ℕ) (s : Site)
-    (p : Place) (most : ℕ)
     (result : Result (Unit {0}) DeviceFault) : Type 0 where
-  pub ok : OnOk result (HasFileAt (S.image old) l name size s p (S.image new))
-  pub moments : Changes S old new most (IsCreating (S.image old) l name size)
+  pub ok : OnOk result (HasFileAt (S.image old) l name size s (S.image new))
+  pub moments : Changes S old new (creation_writes l) (IsCreating (S.image old) l name size)
 
 -- A new file of this name is refused for a cause, each exactly, or isn't.
 pub record RefusesName {T : Type 0} (img : Image) (l : Layout) (name : List ℕ) (result : Result T RelFault) : Type 0

@@ -20,7 +20,7 @@ pub returns-in_err-list_slots : goal.returns-in_err-list_slots
 returns-in_err-list_slots g c =
     let S = g.D.Sectors.history in
     let d = c.args.disk.now in
-    let Is = IsSite (S.image d) in
+    let Is = λ (l : Layout). IsSite (S.image d) l 2 in
     passes (λ r. Chooses S d c.list_slots.new.disk c.args.name.now r Is) c.from_residual.result _
     c.from_residual.ensures.1
     (no-site {T = Site} S d c.list_slots.new.disk c.args.name.now _ Is c.in_err-list_slots.ensures.err
@@ -61,7 +61,7 @@ pub returns-in_err-room : goal.returns-in_err-room
 returns-in_err-room g c =
     let S = g.D.Sectors.history in
     let d = c.args.disk.now in
-    let Is = IsSite (S.image d) in
+    let Is = λ (l : Layout). IsSite (S.image d) l 2 in
     passes (λ r. Chooses S d c.read_room.new.disk c.args.name.now r Is) c.from_residual-in_err-room.result _
     c.from_residual-in_err-room.ensures.1
     (no-site {T = Site} S d c.read_room.new.disk c.args.name.now _ Is c.in_err-room.ensures.err
@@ -71,7 +71,7 @@ returns-in_err-room g c =
 pub returns-in_default : goal.returns-in_default
 returns-in_default g c =
     let S = g.D.Sectors.history in
-    no-site {T = Site} S c.args.disk.now c.read.new.disk c.args.name.now _ (IsSite (S.image c.args.disk.now)) refl
+    no-site {T = Site} S c.args.disk.now c.read.new.disk c.args.name.now _ (λ (l : Layout). IsSite (S.image c.args.disk.now) l 2) refl
     (no_write_then S _ _ _ (reads_no_write S _ _ 18 c.list_slots.ensures.reads)
     (no_write_then S _ _ _ c.read_room.ensures.quiet (reads_no_write S _ _ 1 c.read.ensures.reads)))
     (failed_later S _ _ _ (c.in_ok-room.ensures.failures ∙ c.in_ok-list_slots.ensures.failures)

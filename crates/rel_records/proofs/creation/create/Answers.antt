@@ -3,14 +3,15 @@ mod Failed
 use Rattle.std.proofs.Common.{arith, subst, sym, ◌∙◌}
 use Rattle.d64_image.specs.Images.{Image}
 use Rattle.rel_records.proofs.lemmas.creation.Made.{changed-others, made-file, then-moments}
-use Rattle.rel_records.specs.creation.Site.{HasFileAt, IsSite, sector_of}
+use Rattle.rel_records.proofs.lemmas.creation.NewEntry.{site-taking}
+use Rattle.rel_records.specs.creation.Site.{HasFileAt, IsSite}
 use Rattle.rel_records.proofs.creation.create.Goals as goal
 use Rattle.rel_records.proofs.creation.create.Answers.Failed as failed
 
 pub write_file-requires-clause-site : goal.write_file-requires-clause-site
 write_file-requires-clause-site g c =
     let (l, clean) = c.requires.clean in
-    let P : Image → Type 0 = λ i. IsSite i l c.in_ok-site.site in
+    let P : Image → Type 0 = λ i. IsSite i l 2 c.in_ok-site.site in
     (l, subst P (sym c.choose_site.ensures.quiet.image) (c.in_ok-site.ensures.ok l clean.layout))
 
 pub returns : goal.returns
@@ -20,10 +21,9 @@ returns g c =
           let S = g.D.Sectors.history in
           let same = c.choose_site.ensures.quiet.image in
           let site = c.in_ok-site.site in
-          let P : Image → Type 0 = λ i. IsSite i l site in
+          let P : Image → Type 0 = λ i. IsSite i l 2 site in
           let Q : Image
-          → Type 0 = λ i. HasFileAt i l c.args.name.now c.args.size site (sector_of site)
-          (S.image c.write_file.new.disk) in
+          → Type 0 = λ i. HasFileAt i l c.args.name.now c.args.size site (S.image c.write_file.new.disk) in
           record {
             ok =
                 made-file (S.image c.args.disk.now) l c.args.name.now c.args.size site (S.image c.write_file.new.disk)
@@ -31,7 +31,7 @@ returns g c =
                 (subst Q same ((c.in-Ok.ensures.file l (subst P (sym same) (c.in_ok-site.ensures.ok l h))).ok))
                 c.file_at.ensures;
             moments =
-                let P : Image → Type 0 = λ i. IsSite i l c.in_ok-site.site in
+                let P : Image → Type 0 = λ i. IsSite i l 2 c.in_ok-site.site in
                 then-moments S c.args.disk.now c.choose_site.new.disk c.choose_site.ensures.quiet l c.args.name.now
                 c.args.size h c.write_file.new.disk
                 ((c.write_file.ensures.file l
@@ -51,7 +51,7 @@ returns g c =
       reads = omega (arith, c.in-Ok.ensures.reads, c.in_ok-site.ensures.reads);
       others = λ v l n f of.
           let S = g.D.Sectors.history in
-          let P : Image → Type 0 = λ i. IsSite i l c.in_ok-site.site in
+          let P : Image → Type 0 = λ i. IsSite i l 2 c.in_ok-site.site in
           changed-others S c.args.disk.now c.write_file.new.disk _ l c.args.name.now c.args.size
           (then-moments S c.args.disk.now c.choose_site.new.disk c.choose_site.ensures.quiet l c.args.name.now
           c.args.size of.layout c.write_file.new.disk
@@ -69,8 +69,14 @@ write_file-requires-clause-name g c = c.requires.name
 pub write_file-requires-clause-size : goal.write_file-requires-clause-size
 write_file-requires-clause-size g c = record { low = c.requires.low; high = c.requires.high }
 
-pub file_at-requires : goal.file_at-requires
-file_at-requires g c = record { low = c.requires.low; high = c.requires.high }
+pub file_at-requires-clause-size : goal.file_at-requires-clause-size
+file_at-requires-clause-size g c = record { low = c.requires.low; high = c.requires.high }
+
+pub file_at-requires-clause-two : goal.file_at-requires-clause-two
+file_at-requires-clause-two g c =
+    let (l, clean) = c.requires.clean in
+    (site-taking (g.D.Sectors.history.image c.args.disk.now) l 2 c.in_ok-site.site
+    (c.in_ok-site.ensures.ok l clean.layout)).count
 
 pub returns-in_err-site : goal.returns-in_err-site
 returns-in_err-site = failed.returns-in_err-site

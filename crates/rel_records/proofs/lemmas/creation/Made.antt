@@ -33,13 +33,13 @@ use Rattle.disk_layout.specs.Layout.{File, IsLayout, Layout, is_rel_type}
 use Rattle.disk_layout.specs.Same.{Stays, stays_of}
 use Rattle.rel_records.specs.File.{IsFileOf}
 use Rattle.rel_records.specs.creation.Made.{HasFileMore, HasFilesOf, IsCreating, IsMade, StaysOf, creation_writes}
-use Rattle.rel_records.specs.creation.Site.{HasFileAt, IsFileAt, sector_of}
+use Rattle.rel_records.specs.creation.Site.{HasFileAt, IsFileAt}
 use Rattle.rel_records.specs.declared.creation.site.Site.{Site}
 use Rattle.rel_records.specs.declared.rel_file.RelFile.{RelFile}
 
 -- the new file, and what is kept of it
 pub made-file : (a : Image) (l : Layout) (name : List ℕ) (L : ℕ) (st : Site) (c : Image) (v : RelFile)
-    → HasFileAt a l name L st (sector_of st) c → IsFileAt L st v → IsMade a l name L c v
+    → HasFileAt a l name L st c → IsFileAt L st v → IsMade a l name L c v
 made-file a l name L st c v h at = record {
   more = h.more;
   of = record {

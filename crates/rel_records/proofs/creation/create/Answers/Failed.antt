@@ -44,7 +44,7 @@ returns-in_default g c =
     record {
       layout = λ l h.
           let S = g.D.Sectors.history in
-          let P : Image → Type 0 = λ i. IsSite i l c.in_ok-site.site in
+          let P : Image → Type 0 = λ i. IsSite i l 2 c.in_ok-site.site in
           record {
             ok = tt;
             moments =
@@ -68,7 +68,7 @@ returns-in_default g c =
       reads = tt;
       others = λ v l n f of.
           let S = g.D.Sectors.history in
-          let P : Image → Type 0 = λ i. IsSite i l c.in_ok-site.site in
+          let P : Image → Type 0 = λ i. IsSite i l 2 c.in_ok-site.site in
           changed-others S c.args.disk.now c.write_file.new.disk _ l c.args.name.now c.args.size
           (then-moments S c.args.disk.now c.choose_site.new.disk c.choose_site.ensures.quiet l c.args.name.now
           c.args.size of.layout c.write_file.new.disk

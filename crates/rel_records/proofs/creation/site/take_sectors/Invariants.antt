@@ -1,7 +1,7 @@
 use Rattle.std.proofs.Common.{◌≡◌, ◌+◌, length}
 use Rattle.disk_layout.specs.View.{blocks_free}
-use Rattle.file_changes.specs.PutSites.{TakesSectors}
-use Rattle.file_changes.proofs.put_site.take_sectors.Given as goal
+use Rattle.rel_records.specs.creation.Site.{TakesSectors}
+use Rattle.rel_records.proofs.creation.site.take_sectors.Given as goal
 
 abbrev pub invariant-loop : goal.invariant-loop
 invariant-loop l = record {

@@ -9,8 +9,8 @@ use Rattle.disk_layout.proofs.lemmas.lists.Count.{places-few}
 use Rattle.disk_layout.proofs.lemmas.lists.Once.{Contains-cases, Contains-here, Contains-nil, Contains-there, EachOnce-push}
 use Rattle.disk_layout.proofs.lemmas.lists.Once.{insert-in, insert-out}
 use Rattle.disk_layout.specs.Map.{IsMapOf}
-use Rattle.file_changes.specs.PutSites.{TakesSectors}
-use Rattle.rel_records.proofs.lemmas.creation.NewClean.{map-same}
+use Rattle.rel_records.specs.creation.Site.{TakesSectors}
+use Rattle.rel_records.proofs.lemmas.creation.Unowned.{map-same}
 use Rattle.rel_records.specs.growth.Steps.{TakesNext}
 
 pub takes-none : (old : Sector) → TakesSectors old old []

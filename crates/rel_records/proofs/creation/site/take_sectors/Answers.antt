@@ -1,9 +1,9 @@
 -- One sector after another.
 use Rattle.std.proofs.Common.{◌∙◌, List, arith, length-append, lit<, sym, subst, ap, length, ◌∷◌, []}
 use Rattle.d64_image.specs.declared.place.Place.{Place}
-use Rattle.file_changes.proofs.TakenSectors.{still-few, takes-more}
-use Rattle.file_changes.specs.PutSites.{TakesSectors}
-use Rattle.file_changes.proofs.put_site.take_sectors.Goals as goal
+use Rattle.rel_records.proofs.lemmas.creation.TakenSectors.{still-few, takes-more}
+use Rattle.rel_records.specs.creation.Site.{TakesSectors}
+use Rattle.rel_records.proofs.creation.site.take_sectors.Goals as goal
 
 pub push-requires : goal.push-requires
 push-requires c = let (owned, is) = c.requires.map in (
