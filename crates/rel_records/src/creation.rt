@@ -6,7 +6,7 @@ ghost use Rattle.disk_layout.specs.Layout.{IsLayout, IsSound, Layout};
 ghost use Rattle.rel_records.specs.Calls.{Chooses, Creates};
 ghost use Rattle.rel_records.specs.Faults.{TellsRelFault};
 ghost use Rattle.rel_records.specs.File.{IsLength};
-ghost use Rattle.rel_records.specs.creation.Site.{IsFileAt, IsRoomOf, IsSite};
+ghost use Rattle.rel_records.specs.creation.Site.{IsFileAt, IsRoomOf};
 ghost use Rattle.rel_records.specs.declared.faults.RelFault.TheVariants.{Device};
 
 pub(crate) mod directory_room;
@@ -26,7 +26,7 @@ use disk_layout::{Bam, directory_start, padded_name, walk_chain};
 
 /// Finds the directory's room for an entry on a sound disk. `Device` if the device failed, the only error. Nothing is
 /// written.
-pub fn read_room<D: Sectors>(disk: &mut D) -> Result<Room, RelFault>
+fn read_room<D: Sectors>(disk: &mut D) -> Result<Room, RelFault>
     requires sound { IsSound (D.history.image disk.old) }
     ensures ok { (l : Layout) → IsLayout (D.history.image disk.old) l
         → IfOk result (IsRoomOf (D.history.image disk.old) l) }
@@ -46,11 +46,14 @@ pub fn read_room<D: Sectors>(disk: &mut D) -> Result<Room, RelFault>
     Ok(room)
 }
 
-/// Chooses what a new file of this name takes, or refuses it; nothing is written.
-fn choose_site<D: Sectors>(disk: &mut D, name: &[u8]) -> Result<Site, RelFault>
+/// Chooses what a new file of this name takes of a clean disk: this number of sectors, and an entry's slot. `Exists` if an
+/// entry has the name, of whatever type; otherwise `Full` if fewer blocks are free, or if the directory has neither a free
+/// slot nor a free sector; `Device` if the device failed. Nothing is written. At most fifty-five sectors are read, unless
+/// the device fails.
+pub fn choose_site<D: Sectors>(disk: &mut D, name: &[u8], count: usize) -> Result<Site, RelFault>
     requires clean { IsClean (D.history.image disk.old) }
     requires name { length name.now ≤ 16 }
-    ensures { Chooses D.history disk.old disk.new name.now result (λ l. IsSite (D.history.image disk.old) l 2) }
+    ensures { Chooses D.history disk.old disk.new name.now count result }
 {
     let mut used = ArrayVec::new();
     list_slots(disk, &mut used)?;
@@ -61,7 +64,7 @@ fn choose_site<D: Sectors>(disk: &mut D, name: &[u8]) -> Result<Site, RelFault>
     let Ok(map) = Bam::read(disk) else {
         return Err(RelFault::Device);
     };
-    let Some(site) = take_site(map, room, 2) else {
+    let Some(site) = take_site(map, room, count) else {
         return Err(RelFault::Full);
     };
     Ok(site)
@@ -104,7 +107,7 @@ pub fn create<D: Sectors>(disk: &mut D, name: &[u8], size: u8) -> Result<RelFile
     requires high { size ≤ 254 }
     ensures { Creates D.history disk.old disk.new name.now size result }
 {
-    let site = choose_site(disk, name)?;
+    let site = choose_site(disk, name, 2)?;
     let Ok(()) = write_file(disk, &site, name, size) else {
         return Err(RelFault::Device);
     };

@@ -14,11 +14,10 @@ mod growth;
 mod creation;
 
 pub use creation::create;
-// What a new file of any type takes: a slot of the directory, and sectors of the map.
-pub use creation::directory_room::Room;
+// What a new file of any type takes, and the write of its entry, which makes it.
+pub use creation::choose_site;
 pub use creation::new_file::write_entry;
-pub use creation::read_room;
-pub use creation::site::{Site, take_site};
+pub use creation::site::Site;
 pub use faults::RelFault;
 pub use growth::grow_to;
 pub use reading::counting::{has_records, records};

@@ -25,15 +25,15 @@ use disk_layout::{EntryView, Slot};
 /// directory sector that is written last for it, with its bytes and the number of sectors before it: the one of that
 /// slot, or the directory's last.
 #[derive(Drop)]
-pub struct Room {
+pub(crate) struct Room {
     /// The directory sector that is written last for the entry.
-    pub place: Place,
+    pub(crate) place: Place,
     /// Its bytes.
-    pub bytes: [u8; 256],
+    pub(crate) bytes: [u8; 256],
     /// The number of directory sectors before it.
-    pub before: usize,
+    pub(crate) before: usize,
     /// The number of the first free slot, from 0 to 7. None if all slots of the directory are used.
-    pub number: Option<u8>,
+    pub(crate) number: Option<u8>,
 }
 
 /// The number of a directory sector's first free slot.

@@ -52,7 +52,7 @@ fn take_sectors(map: &mut Bam, count: usize) -> ArrayVec<Place, SECTORS>
 
 /// Takes a new file's sectors, this number of them, in the map of a clean disk, and one more for the directory if it is
 /// full. None if they aren't free.
-pub fn take_site(mut map: Bam, room: Room, count: usize) -> Option<Site>
+pub(crate) fn take_site(mut map: Bam, room: Room, count: usize) -> Option<Site>
     requires of { (img : Image) × (l : Layout) × IsCleanLayout img l × (map.bytes ≡ sector img map_place)
         × IsRoomOf img l room }
     ensures { (img : Image) → (l : Layout) → IsCleanLayout img l → map.bytes ≡ sector img map_place
