@@ -7,7 +7,7 @@ use Rattle.disk_layout.proofs.lemmas.layouts.Layouts.{get-contains}
 use Rattle.rel_records.proofs.lemmas.Told.{not-done, tells-failed}
 use Rattle.rel_records.proofs.lemmas.steps.Sided.{get-there}
 use Rattle.file_changes.proofs.Chained.{IsWrittenFrom, beside-more, from-more, from-none}
-use Rattle.file_changes.specs.PutSites.{SameBeside}
+use Rattle.file_changes.specs.PutWrites.{SameBeside}
 use Rattle.file_changes.proofs.put_sectors.write_blocks.Goals as goal
 
 pub loop-written-init : goal.loop-written-init
