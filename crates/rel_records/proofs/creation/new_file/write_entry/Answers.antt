@@ -60,8 +60,12 @@ returns-in_ok-write-in-Some g c =
       held = then S _ _ _ _
           (weaker S _ _ _ _ (λ x h. elim h [ inl e ↦ inl e | inr e ↦ inr (inl e) ]) c.write.ensures.held)
           (weaker S _ _ _ _ (λ x h. inr (subst (λ i. P i x) now.ok h)) c.write-in-Some.ensures.held);
-      writes = omega (arith, now.counted, counted_once S _ _ c.write-in-Some.result c.write-in-Some.ensures.counted
-          c.write-in-Some.ensures.uncounted);
+      writes = omega (
+        arith,
+        now.counted,
+        counted_once S _ _ c.write-in-Some.result c.write-in-Some.ensures.counted
+            c.write-in-Some.ensures.uncounted,
+      );
       reads = omega (arith, c.write-in-Some.ensures.reads, now.reads);
       failures = tells-after S _ _ _ now.failures c.write-in-Some.result c.write-in-Some.ensures.failures;
     }
