@@ -12,9 +12,6 @@ use Rattle.rel_records.specs.Calls.{Chooses}
 use Rattle.rel_records.specs.declared.creation.site.Site.{Site}
 use Rattle.rel_records.proofs.creation.choose_site.Goals as goal
 
-pub list_slots-requires : goal.list_slots-requires
-list_slots-requires g c = record { sound = let (l, clean) = c.requires.clean in (l, clean.layout) }
-
 pub returns-in_err-list_slots : goal.returns-in_err-list_slots
 returns-in_err-list_slots g c =
     let S = g.D.Sectors.history in
@@ -23,9 +20,6 @@ returns-in_err-list_slots g c =
     c.from_residual.ensures.1
     (no-site S d c.list_slots.new.disk c.args.name.now c.args.count _ c.in_err-list_slots.ensures.err
     (reads_no_write S d c.list_slots.new.disk 18 c.list_slots.ensures.reads) c.in_err-list_slots.ensures.failures)
-
-pub padded_name-requires : goal.padded_name-requires
-padded_name-requires g c = c.requires.name
 
 pub returns-then-has_name : goal.returns-then-has_name
 returns-then-has_name g c =

@@ -60,18 +60,6 @@ returns g c =
           of;
     }
 
-pub choose_site-requires : goal.choose_site-requires
-choose_site-requires g c = record { clean = c.requires.clean; name = c.requires.name }
-
-pub write_file-requires-clause-name : goal.write_file-requires-clause-name
-write_file-requires-clause-name g c = c.requires.name
-
-pub write_file-requires-clause-size : goal.write_file-requires-clause-size
-write_file-requires-clause-size g c = record { low = c.requires.low; high = c.requires.high }
-
-pub file_at-requires-clause-size : goal.file_at-requires-clause-size
-file_at-requires-clause-size g c = record { low = c.requires.low; high = c.requires.high }
-
 pub file_at-requires-clause-two : goal.file_at-requires-clause-two
 file_at-requires-clause-two g c =
     let (l, clean) = c.requires.clean in

@@ -63,9 +63,3 @@ add_blocks-requires-clause-room = asked.add_blocks-requires-clause-room
 
 pub renew-requires : goal.renew-requires
 renew-requires = asked.renew-requires
-
-pub read_parts-requires : goal.read_parts-requires
-read_parts-requires g c = record { clean = c.requires.clean; of = c.requires.of; map = c.requires.map }
-
-pub add_blocks-requires-clause-few : goal.add_blocks-requires-clause-few
-add_blocks-requires-clause-few g c = c.requires.few

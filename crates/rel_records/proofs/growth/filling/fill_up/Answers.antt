@@ -54,25 +54,6 @@ fill_before-requires-clause-from g c =
       other = c.if-had-total.false;
     })
 
-pub returns-then-had-total-clause-failures : goal.returns-then-had-total-clause-failures
-returns-then-had-total-clause-failures g c = refl
-
-pub returns-in_err-fill_before-clause-failures : goal.returns-in_err-fill_before-clause-failures
-returns-in_err-fill_before-clause-failures g c = tells-failed g.D.Sectors.history _ _ _ refl c.from_residual.result _
-    c.from_residual.ensures.1 c.in_err-fill_before.ensures.failures
-
-pub returns-clause-failures : goal.returns-clause-failures
-returns-clause-failures g c = tells-after g.D.Sectors.history _ _ _ c.in_ok-fill_before.ensures.failures c.write.result
-    c.write.ensures.failures
-
-pub fill_before-requires-clause-some : goal.fill_before-requires-clause-some
-fill_before-requires-clause-some g c = let (l, n, f, at) = c.requires.at in
-    at-some (g.D.Sectors.history.image c.args.disk.now) l n f c.args.parts.now at
-
-pub last_place-requires : goal.last_place-requires
-last_place-requires g c = let (l, n, f, at) = c.requires.at in
-    at-some (g.D.Sectors.history.image c.args.disk.now) l n f c.args.parts.now at
-
 pub fill_last-requires-clause-some : goal.fill_last-requires-clause-some
 fill_last-requires-clause-some g c = let (l, n, f, at) = c.requires.at in
     omega (
@@ -87,21 +68,6 @@ returns-in_err-fill_before-clause-file = filled.returns-in_err-fill_before-claus
 pub returns-clause-file : goal.returns-clause-file
 returns-clause-file = filled.returns-clause-file
 
-pub returns-then-had-total-clause-reads : goal.returns-then-had-total-clause-reads
-returns-then-had-total-clause-reads g c = omega arith
-
-pub returns-in_err-fill_before-clause-reads : goal.returns-in_err-fill_before-clause-reads
-returns-in_err-fill_before-clause-reads g c = c.in_err-fill_before.ensures.reads
-
-pub returns-clause-reads : goal.returns-clause-reads
-returns-clause-reads g c = omega (arith, c.write.ensures.reads, c.in_ok-fill_before.ensures.reads)
-
-pub overflow_cast-count : goal.overflow_cast-count
-overflow_cast-count g c = omega (arith, c.len-count.ensures.value, c.requires.few)
-
-pub full_records-total-requires : goal.full_records-total-requires
-full_records-total-requires g c = c.args.parts.now.size_low
-
 pub fill_before-requires-clause-total : goal.fill_before-requires-clause-total
 fill_before-requires-clause-total g c = omega (
   arith,
@@ -110,14 +76,8 @@ fill_before-requires-clause-total g c = omega (
   records-few c.args.parts.now.size c.len-count.result c.full_records-total.result c.full_records-total.ensures,
 )
 
-pub fill_last-requires-clause-few : goal.fill_last-requires-clause-few
-fill_last-requires-clause-few g c = omega (arith, c.len-count.ensures.value, c.requires.few)
-
 pub fill_last-requires-clause-length : goal.fill_last-requires-clause-length
 fill_last-requires-clause-length g c = record {
   low = c.args.parts.now.size_low;
   high = c.args.parts.now.size_high;
 }
-
-pub write-requires : goal.write-requires
-write-requires g c κs = λ h. h

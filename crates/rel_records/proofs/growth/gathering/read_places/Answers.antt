@@ -21,9 +21,6 @@ returns-clause-blocks g c l n f of =
     (omega (arith, c.loop-side-test.false, ap length c.as_slice-side-items.ensures.value))
     (c.loop-side.invariant.listed l n f of)
 
-pub returns-clause-failures : goal.returns-clause-failures
-returns-clause-failures g c = c.loop-side.invariant.failures
-
 pub loop-side-init : goal.loop-side-init
 loop-side-init g c = record {
   listed = λ l n f of. c.requires.no_blocks;
@@ -31,15 +28,6 @@ loop-side-init g c = record {
   reads = no_reads g.D.Sectors.history _;
   failures = refl;
 }
-
-pub offset_bounds-side-items-side-index : goal.offset_bounds-side-items-side-index
-offset_bounds-side-items-side-index g c = omega (arith, c.loop-side-test.true, c.as_slice-side-items.type_inv.1)
-
-pub bounds-side-items-side-index : goal.bounds-side-items-side-index
-bounds-side-items-side-index g c = c.loop-side-test.true
-
-pub list_blocks-requires-clause-few : goal.list_blocks-requires-clause-few
-list_blocks-requires-clause-few g c = omega (arith, c.min-count.ensures)
 
 pub list_blocks-requires-clause-room : goal.list_blocks-requires-clause-room
 list_blocks-requires-clause-room g c =
@@ -62,18 +50,11 @@ push-requires g c =
       ),
     )
 
-pub loop-side-smaller : goal.loop-side-smaller
-loop-side-smaller g c = omega (arith, c.loop-side-test.true)
-
 pub returns-clause-sides : goal.returns-clause-sides
 returns-clause-sides g c l n f of =
     let all : length c.args.file.now.sides.items ≤ c.loop-side.side-index =
     omega (arith, c.loop-side-test.false, ap length c.as_slice-side-items.ensures.value) in
     c.loop-side.invariant.sides ∙ take_all c.loop-side.side-index c.args.file.now.sides.items all ∙ of.shows.sides
-
-pub returns-clause-reads : goal.returns-clause-reads
-returns-clause-reads g c = reads_weaker g.D.Sectors.history _ _ c.loop-side.side-index 6
-    (omega (arith, c.loop-side.auto.side-index-end, c.as_slice-side-items.ensures.fits)) c.loop-side.invariant.reads
 
 pub returns-in_err-read-clause-sides : goal.returns-in_err-read-clause-sides
 returns-in_err-read-clause-sides = failed.returns-in_err-read-clause-sides
@@ -92,6 +73,3 @@ list_blocks-requires-clause-named = listed.list_blocks-requires-clause-named
 
 pub loop-side-preserved : goal.loop-side-preserved
 loop-side-preserved = listed.loop-side-preserved
-
-pub read-requires : goal.read-requires
-read-requires g c κs = λ h. h

@@ -54,28 +54,6 @@ returns-clause-file g c l n f at up =
           c.in_ok-write-2.ensures.held c.in_ok-write-2.ensures.counted;
     }
 
-pub returns-clause-failures : goal.returns-clause-failures
-returns-clause-failures g c = c.in_ok-write-2.ensures.failures ∙ c.in_ok-write.ensures.failures
-    ∙ c.in_ok-prepare.ensures.failures
-
-pub last_place-old-requires : goal.last_place-old-requires
-last_place-old-requires g c = let (l, n, f, at) = c.requires.at in
-    at-some (g.D.Sectors.history.image c.args.disk.now) l n f c.args.parts.now at
-
-pub lay_out-fresh-requires-clause-room : goal.lay_out-fresh-requires-clause-room
-lay_out-fresh-requires-clause-room g c = c.requires.room
-
-pub lay_out-fresh-requires-clause-some : goal.lay_out-fresh-requires-clause-some
-lay_out-fresh-requires-clause-some g c = let (l, n, f, at) = c.requires.at in
-    at-some (g.D.Sectors.history.image c.args.disk.now) l n f c.args.parts.now at
-
-pub lay_out-fresh-requires-clause-few : goal.lay_out-fresh-requires-clause-few
-lay_out-fresh-requires-clause-few g c = c.requires.few
-
-pub lay_out-fresh-requires-clause-sides : goal.lay_out-fresh-requires-clause-sides
-lay_out-fresh-requires-clause-sides g c = let (l, n, f, at) = c.requires.at in
-    at-sides (g.D.Sectors.history.image c.args.disk.now) l n f c.args.parts.now at
-
 pub lay_out-fresh-requires-clause-map : goal.lay_out-fresh-requires-clause-map
 lay_out-fresh-requires-clause-map g c =
     let (l, n, f, at) = c.requires.at in
@@ -100,10 +78,6 @@ returns-in_err-write-clause-failures = failed.returns-in_err-write-clause-failur
 pub returns-in_err-write-2-clause-failures : goal.returns-in_err-write-2-clause-failures
 returns-in_err-write-2-clause-failures = failed.returns-in_err-write-2-clause-failures
 
-pub returns-clause-reads : goal.returns-clause-reads
-returns-clause-reads g c = omega
-    (arith, c.in_ok-write-2.ensures.reads, c.in_ok-write.ensures.reads, c.in_ok-prepare.ensures.reads)
-
 pub returns-in_err-prepare-clause-reads : goal.returns-in_err-prepare-clause-reads
 returns-in_err-prepare-clause-reads = failed.returns-in_err-prepare-clause-reads
 
@@ -112,9 +86,3 @@ returns-in_err-write-clause-reads = failed.returns-in_err-write-clause-reads
 
 pub returns-in_err-write-2-clause-reads : goal.returns-in_err-write-2-clause-reads
 returns-in_err-write-2-clause-reads = failed.returns-in_err-write-2-clause-reads
-
-pub write-requires : goal.write-requires
-write-requires g c κs = λ h. h
-
-pub write-requires-2 : goal.write-requires-2
-write-requires-2 g c κs = λ h. h

@@ -69,26 +69,8 @@ returns-in_err-bring-clause-text = text.returns-in_err-bring-clause-text
 pub returns-in_err-go_on-clause-text : goal.returns-in_err-go_on-clause-text
 returns-in_err-go_on-clause-text = text.returns-in_err-go_on-clause-text
 
-pub overflow_sub-start : goal.overflow_sub-start
-overflow_sub-start g c = c.requires.low
-
 pub overflow_mul-start : goal.overflow_mul-start
 overflow_mul-start g c =
     let fits = inside-of _ c.args.file.now c.args.number c.requires.of (g.D.Sectors.history.whole c.args.disk.now)
     c.requires.low c.requires.high in
     omega (arith, fits, c.args.file.now.few)
-
-pub bring-requires-clause-of : goal.bring-requires-clause-of
-bring-requires-clause-of g c = c.requires.of
-
-pub bring-requires-clause-kept : goal.bring-requires-clause-kept
-bring-requires-clause-kept g c = c.requires.kept
-
-pub overflow_add-start : goal.overflow_add-start
-overflow_add-start g c = start-fits _ _ c.args.file.now.size_high
-
-pub fill_record-requires : goal.fill_record-requires
-fill_record-requires g c = record { start = start-low _; size = c.args.file.now.size_high }
-
-pub fill_record-requires-2 : goal.fill_record-requires-2
-fill_record-requires-2 g c = record { start = start-low _; size = c.args.file.now.size_high }
