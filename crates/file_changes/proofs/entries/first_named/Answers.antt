@@ -1,8 +1,8 @@
 -- Entry by entry: none has the name yet, or this one is the first.
-use Rattle.std.proofs.Common.{arith, length, refl, subst, sym, ◌∙◌}
+use Rattle.std.proofs.Common.{length, refl, subst, sym, ◌∙◌}
 use borrow.Author.Count.{below_more}
 use Rattle.std.proofs.lemmas.Bool.{false≢true}
-use Rattle.std.proofs.lemmas.Option.{slice_get_read, slice_get_within}
+use Rattle.std.proofs.lemmas.Option.{slice_get_read}
 use Rattle.disk_layout.specs.declared.slot.Slot.{Slot}
 use Rattle.rel_records.proofs.lemmas.reading.Found.{same-slot}
 use Rattle.file_changes.specs.Entries.{HasName}
@@ -29,7 +29,3 @@ returns-then-has_name c = (
     first = λ k s lt at. c.loop-number.invariant.none k lt s at;
   },
 )
-
-pub returns : goal.returns
-returns c = λ k s at. c.loop-number.invariant.none k
-    (omega (arith, c.loop-number-test.false, slice_get_within c.args.entries.now k s at)) s at

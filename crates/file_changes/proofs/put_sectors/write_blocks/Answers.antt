@@ -23,13 +23,6 @@ loop-written-init g c =
       failures = refl;
     }
 
-pub write_block-requires-clause-block : goal.write_block-requires-clause-block
-write_block-requires-clause-block g c = omega (arith, c.loop-written-test.true)
-
-pub write_block-requires-clause-content : goal.write_block-requires-clause-content
-write_block-requires-clause-content g c =
-    omega (arith, c.loop-written-test.true, c.requires.count.low)
-
 pub returns-in_err-write_block : goal.returns-in_err-write_block
 returns-in_err-write_block g c =
     let S = g.D.Sectors.history in
