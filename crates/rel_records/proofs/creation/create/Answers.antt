@@ -1,12 +1,83 @@
 -- What is refused, and the file that is written.
-mod Failed
-use Rattle.std.proofs.Common.{arith, subst, sym, ◌∙◌}
+use Rattle.std.proofs.Common.{arith, subst, sym, ◌∙◌, inr, refl}
 use Rattle.d64_image.specs.Images.{Image}
-use Rattle.rel_records.proofs.lemmas.creation.Made.{changed-others, made-file, then-moments}
+use Rattle.rel_records.proofs.lemmas.creation.Made.{changed-others, made-file, then-moments, quiet-moments}
 use Rattle.rel_records.proofs.lemmas.creation.NewEntry.{site-taking}
 use Rattle.rel_records.specs.creation.Site.{HasFileAt, IsSite}
 use Rattle.rel_records.proofs.creation.create.Goals as goal
-use Rattle.rel_records.proofs.creation.create.Answers.Failed as failed
+use Rattle.std.proofs.lemmas.Result.{err_from_is_err_and}
+use Rattle.d64_image.proofs.Moments.{failed_later}
+use Rattle.rel_records.proofs.lemmas.Told.{device-not-exists, device-not-full, none-done, not-done, passed-on}
+
+-- No site was chosen, or the device fails while the file is written.
+pub returns-in_err-site : goal.returns-in_err-site
+returns-in_err-site g c =
+    let told = err_from_is_err_and c.from_residual.result c.from_residual.ensures.1 in
+    record {
+      layout = λ l h.
+          record {
+            ok = none-done c.from_residual.result _ c.from_residual.ensures.1 _;
+            moments = quiet-moments g.D.Sectors.history c.args.disk.now c.choose_site.new.disk
+                c.choose_site.ensures.quiet l c.args.name.now c.args.size h;
+          };
+      refuses = record {
+        layout = λ l h.
+            let told = err_from_is_err_and c.from_residual.result c.from_residual.ensures.1 in
+            record {
+              exists = rw (told.1, told.2) ((c.in_err-site.ensures.refuses.layout l h).exists);
+              full = rw (told.1, told.2) ((c.in_err-site.ensures.refuses.layout l h).full);
+              fits = not-done c.from_residual.result _ c.from_residual.ensures.1 _;
+            };
+        told = rw (told.1, told.2) c.in_err-site.ensures.refuses.told;
+        refused = rw (told.1, told.2) c.in_err-site.ensures.refuses.refused;
+        failures = passed-on g.D.Sectors.history _ _ _ refl c.from_residual.result _ c.from_residual.ensures.1
+            c.in_err-site.ensures.refuses.failures;
+      };
+      reads = not-done c.from_residual.result _ c.from_residual.ensures.1 _;
+      others = λ v l n f of.
+          let S = g.D.Sectors.history in
+          changed-others S c.args.disk.now c.choose_site.new.disk _ l c.args.name.now c.args.size
+          (quiet-moments S c.args.disk.now c.choose_site.new.disk c.choose_site.ensures.quiet l c.args.name.now
+          c.args.size of.layout) n f v of;
+    }
+
+pub returns-in_default : goal.returns-in_default
+returns-in_default g c =
+    record {
+      layout = λ l h.
+          let S = g.D.Sectors.history in
+          let P : Image → Type 0 = λ i. IsSite i l 2 c.in_ok-site.site in
+          record {
+            ok = tt;
+            moments =
+                then-moments S c.args.disk.now c.choose_site.new.disk c.choose_site.ensures.quiet l c.args.name.now
+                c.args.size h c.write_file.new.disk
+                ((c.write_file.ensures.file l
+                (subst P (sym c.choose_site.ensures.quiet.image) (c.in_ok-site.ensures.ok l h))).moments);
+          };
+      refuses = record {
+        layout = λ l h.
+            record {
+              exists = λ e. device-not-exists _ refl e;
+              full = λ e. device-not-full _ refl e;
+              fits = tt;
+            };
+        told = inr (inr refl);
+        refused = λ ne. absurd (ne refl);
+        failures = failed_later g.D.Sectors.history _ _ _ c.in_ok-site.ensures.refuses.failures
+            c.in_default.ensures.failures;
+      };
+      reads = tt;
+      others = λ v l n f of.
+          let S = g.D.Sectors.history in
+          let P : Image → Type 0 = λ i. IsSite i l 2 c.in_ok-site.site in
+          changed-others S c.args.disk.now c.write_file.new.disk _ l c.args.name.now c.args.size
+          (then-moments S c.args.disk.now c.choose_site.new.disk c.choose_site.ensures.quiet l c.args.name.now
+          c.args.size of.layout c.write_file.new.disk
+          ((c.write_file.ensures.file l
+          (subst P (sym c.choose_site.ensures.quiet.image) (c.in_ok-site.ensures.ok l of.layout))).moments)) n f v
+          of;
+    }
 
 pub write_file-requires-clause-site : goal.write_file-requires-clause-site
 write_file-requires-clause-site g c =
@@ -65,9 +136,3 @@ file_at-requires-clause-two g c =
     let (l, clean) = c.requires.clean in
     (site-taking (g.D.Sectors.history.image c.args.disk.now) l 2 c.in_ok-site.site
     (c.in_ok-site.ensures.ok l clean.layout)).count
-
-pub returns-in_err-site : goal.returns-in_err-site
-returns-in_err-site = failed.returns-in_err-site
-
-pub returns-in_default : goal.returns-in_default
-returns-in_default = failed.returns-in_default
