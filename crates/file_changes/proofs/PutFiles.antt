@@ -19,7 +19,8 @@ use Rattle.file_changes.proofs.PlainEntries.{IsPlainEntry, is-plain, plain-exact
 use Rattle.file_changes.specs.PutWrites.{Fills, HasBlocks}
 use Rattle.file_changes.specs.Puts.{HasPut, HoldsChain, IsPutting, data_of, plain_entry, sectors_for}
 use Rattle.file_changes.specs.declared.file_type.FileType.{FileType}
-use Rattle.rel_records.proofs.lemmas.creation.NewEntry.{HasEntered, IsEntering, IsFileBy, IsSlotOf}
+use Rattle.rel_records.proofs.lemmas.creation.Entering.{IsEntering}
+use Rattle.rel_records.proofs.lemmas.creation.NewEntry.{HasEntered, IsFileBy, IsSlotOf}
 use Rattle.rel_records.specs.creation.Site.{IsTaking}
 use Rattle.rel_records.specs.declared.creation.site.Site.{Site}
 

@@ -1,5 +1,6 @@
 -- A new file.
 pub mod Creating
+pub mod Entering
 pub mod InSector
 pub mod InSlot
 pub mod Made

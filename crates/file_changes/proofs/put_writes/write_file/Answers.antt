@@ -13,7 +13,7 @@ use Rattle.file_changes.proofs.PutFiles.{plain-by, put-of, putting-of, site-apar
 use Rattle.file_changes.specs.PutWrites.{HasBlocks}
 use Rattle.file_changes.specs.Puts.{plain_entry, sectors_for}
 use Rattle.rel_records.proofs.lemmas.Told.{not-done}
-use Rattle.rel_records.proofs.lemmas.creation.NewEntry.{entry-done, entry-moments, puts-few, site-taking, still}
+use Rattle.rel_records.proofs.lemmas.creation.Entering.{entry-done, entry-moments, puts-few, site-taking, still}
 use Rattle.rel_records.specs.creation.NewFile.{ChangesOnly}
 use Rattle.rel_records.specs.creation.Site.{PutsEntry}
 use Rattle.file_changes.proofs.put_writes.write_file.Goals as goal

@@ -2,7 +2,7 @@
 use Rattle.std.proofs.Common.{arith, subst, sym, ◌∙◌, inr, refl}
 use Rattle.d64_image.specs.Images.{Image}
 use Rattle.rel_records.proofs.lemmas.creation.Made.{changed-others, made-file, then-moments, quiet-moments}
-use Rattle.rel_records.proofs.lemmas.creation.NewEntry.{site-taking}
+use Rattle.rel_records.proofs.lemmas.creation.Entering.{site-taking}
 use Rattle.rel_records.specs.creation.Site.{HasFileAt, IsSite}
 use Rattle.rel_records.proofs.creation.create.Goals as goal
 use Rattle.std.proofs.lemmas.Result.{err_from_is_err_and}

@@ -25,7 +25,7 @@ use Rattle.rel_records.proofs.lemmas.creation.Unowned.{IsUnowned, once-with, own
 use Rattle.rel_records.proofs.lemmas.directory.NewSlots.{used_before, used_behind, used_slots-free, used_slots-new}
 use Rattle.rel_records.specs.creation.Made.{HasFilesOf}
 
-same-entry : (s t : Slot) → t ≡ s → SameEntry s t
+pub same-entry : (s t : Slot) → t ≡ s → SameEntry s t
 same-entry s t e = record {
   face = record {
     kind = ap (λ x. slice_index x.bytes 2) (sym e);

@@ -16,7 +16,8 @@ use Rattle.disk_layout.specs.Layout.{File, Layout, owners, record_length}
 use Rattle.disk_layout.specs.Records.{empty_record, filler, records}
 use Rattle.disk_layout.specs.Side.{side_sector}
 use Rattle.disk_layout.specs.declared.slot.Slot.{Slot}
-use Rattle.rel_records.proofs.lemmas.creation.NewEntry.{HasEntered, IsEntering, IsFileBy, IsSlotOf, site-taking}
+use Rattle.rel_records.proofs.lemmas.creation.Entering.{IsEntering, site-taking}
+use Rattle.rel_records.proofs.lemmas.creation.NewEntry.{HasEntered, IsFileBy, IsSlotOf}
 use Rattle.rel_records.proofs.lemmas.creation.NewFiles.{IsNewFile, new-exact, new-is_file, new-records, new_file}
 use Rattle.rel_records.proofs.lemmas.directory.Entered.{IsEntry, is-entry, rel-used}
 use Rattle.rel_records.proofs.lemmas.filling.Fulls.{full-inside}

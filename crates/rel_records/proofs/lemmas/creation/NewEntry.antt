@@ -1,47 +1,41 @@
--- A new file's sectors are written, and then its entry, of whatever type the file is: the last write makes the file.
-use Rattle.std.proofs.Common.{◌≡◌, ◌⊎◌, ℕ, ◌+◌, ◌<◌, ◌≤◌, inl, inr, false, true, List, [], ◌∷◌, ◌++◌, ap, append-nil, append_assoc}
-use Rattle.std.proofs.Common.{arith, length, map, refl, slice_index, subst, sym, ◌∙◌, ◌*◌, ◌≢◌, IsTrue, None, Option, Some}
-use Rattle.std.specs.Prelude.{Contains, MatchOption, OnOk, Result, flat_map, nat_eq, not, slice_get, ◌↔◌}
+-- A new file's entry, of whatever type the file is, put into a free slot or linked: this write makes the file.
+use Rattle.std.proofs.Common.{◌≡◌, ℕ, ◌+◌, ◌<◌, inl, inr, false, true, List, [], ◌∷◌, ◌++◌, ap, append-nil}
+use Rattle.std.proofs.Common.{arith, length, map, refl, slice_index, subst, sym, ◌∙◌, ◌*◌, ◌≢◌, IsTrue, None, Some}
+use Rattle.std.specs.Prelude.{Contains, flat_map, nat_eq, not, slice_get}
 use Rattle.std.proofs.lemmas.List.{length-map}
-use Rattle.std.proofs.lemmas.Result.{on_ok_weaker}
-use Rattle.std.proofs.lemmas.List.Elements.{Contains-append_cases, Contains-append_left, Contains-append_right}
-use Rattle.d64_image.proofs.Images.{length-put, sector-put_other, sector-put_same}
-use Rattle.d64_image.proofs.Moments.{at_end, changes_then, changes_weaker, weaker}
-use Rattle.d64_image.specs.History.{Changes, History}
+use Rattle.std.proofs.lemmas.List.Elements.{Contains-append_left}
+use Rattle.d64_image.proofs.Images.{sector-put_other}
 use Rattle.d64_image.specs.Images.{Image, Sector, put, sector}
-use Rattle.d64_image.specs.declared.faults.DeviceFault.{DeviceFault}
 use Rattle.d64_image.specs.declared.place.Place.{Place}
 use Rattle.disk_layout.proofs.lemmas.chains.Chains.{AgreeAt}
 use Rattle.disk_layout.proofs.lemmas.counts.CountWrites.{slot-byte}
-use Rattle.disk_layout.proofs.lemmas.counts.Recounts.{reread, slot-of}
+use Rattle.disk_layout.proofs.lemmas.counts.Recounts.{reread, reslot, slot-of}
 use Rattle.disk_layout.proofs.lemmas.growth.GrowthRecords.{get-seam}
 use Rattle.disk_layout.proofs.lemmas.growth.LongerDirectory.{IsRelinked}
 use Rattle.disk_layout.proofs.lemmas.lists.Lists.{snoc-last}
-use Rattle.disk_layout.proofs.lemmas.lists.Once.{Contains-cases, Contains-here, Contains-there, EachOnce-apart, insert-in}
-use Rattle.disk_layout.proofs.lemmas.lists.Once.{insert-out}
+use Rattle.disk_layout.proofs.lemmas.lists.Once.{Contains-there, EachOnce-apart}
 use Rattle.disk_layout.specs.Chain.{EachOnce}
 use Rattle.disk_layout.specs.Clean.{IsCleanLayout, IsExactFile}
-use Rattle.disk_layout.specs.Directory.{is_used, map_place, slot_in, type_byte}
+use Rattle.disk_layout.specs.Directory.{is_used, map_place, slot_in}
 use Rattle.disk_layout.specs.Layout.{File, IsFile, Layout, count_field, file_owns, is_rel, owners}
 use Rattle.disk_layout.specs.Map.{IsFirstOn, IsMapOf}
 use Rattle.disk_layout.specs.Same.{AddsFile}
 use Rattle.disk_layout.specs.Whole.{IsWhole}
 use Rattle.disk_layout.specs.declared.slot.Slot.{Slot}
-use Rattle.rel_records.proofs.lemmas.creation.Creating.{with_new}
-use Rattle.rel_records.proofs.lemmas.creation.InSector.{linked-adds, linked-clean}
-use Rattle.rel_records.proofs.lemmas.creation.InSlot.{Made, TakesSlot, made, not_file, slot-stays, with_file}
-use Rattle.rel_records.proofs.lemmas.creation.NewWrites.{before-same, changes-more, changes-one, files-before}
-use Rattle.rel_records.proofs.lemmas.creation.StillClean.{made-clean}
-use Rattle.rel_records.proofs.lemmas.creation.Unowned.{IsUnowned, map-same, once-linked, owners-with}
+use Rattle.rel_records.proofs.lemmas.creation.Creating.{SameEntry, with_new}
+use Rattle.rel_records.proofs.lemmas.creation.InSector.{linked-adds, linked-layout}
+use Rattle.rel_records.proofs.lemmas.creation.InSlot.{Made, TakesSlot, made, not_file, same-entry, slot-stays, with_file}
+use Rattle.rel_records.proofs.lemmas.creation.NewWrites.{before-same, files-before}
+use Rattle.rel_records.proofs.lemmas.creation.StillClean.{still-clean}
+use Rattle.rel_records.proofs.lemmas.creation.Unowned.{IsUnowned, among, among-directory, map-same, once-linked, owners-with}
 use Rattle.rel_records.proofs.lemmas.directory.AnyEntry.{entry-apart, entry-links, entry-used}
-use Rattle.rel_records.proofs.lemmas.directory.FullSlots.{files-full, five-writes, four-writes, slots-before}
-use Rattle.rel_records.proofs.lemmas.whole.Created.{IsLong, before-whole, linked-stays, more-whole}
-use Rattle.rel_records.specs.Puts.{IsPutSoFar, put_each}
-use Rattle.rel_records.specs.creation.Made.{HasFilesOf, IsNewSlot, creation_writes}
+use Rattle.rel_records.proofs.lemmas.directory.FullSlots.{files-full, slots-before}
+use Rattle.rel_records.proofs.lemmas.whole.Created.{IsLong, linked-stays, more-whole}
+use Rattle.rel_records.specs.creation.Made.{HasFilesOf, IsNewSlot}
 use Rattle.rel_records.specs.creation.NewFile.{ChangesOnly, IsEntered, IsLinkedTo, IsNewDirectory}
 use Rattle.rel_records.specs.creation.Room.{AreFullSectors, IsFirstRoom, IsFirstSlot, IsFullDirectory}
 use Rattle.rel_records.specs.creation.Room.{IsFullSector}
-use Rattle.rel_records.specs.creation.Site.{ArePutsOf, IsSectorSite, IsSite, IsSlotSite, IsTaking, PutsEntry, sector_of}
+use Rattle.rel_records.specs.creation.Site.{IsTaking, sector_of}
 use Rattle.rel_records.specs.creation.Site.{sector_or}
 use Rattle.rel_records.specs.declared.creation.site.Site.{Site}
 
@@ -86,55 +80,6 @@ pub record HasEntered (a c : Image) (l : Layout) (st : Site) (entry : List ℕ) 
 abbrev pub IsMadeBy : Image → Image → Layout → Site → List ℕ → (Slot → File) → Image → Type 0
 IsMadeBy a c l st entry k b = HasEntered a c l st entry k b × (IsWhole a → IsWhole b)
 
--- places among others, or before them
-among : (X ys ps : List Place) (q : Place) → Contains (ps ++ (X ++ ys)) q ↔ Contains (X ++ (ps ++ ys)) q
-among X ys ps q = (
-  λ c. elim (Contains-append_cases ps (X ++ ys) q c) [
-    | inl d ↦ Contains-append_right X (ps ++ ys) q (Contains-append_left ps ys q d)
-    | inr d ↦ elim (Contains-append_cases X ys q d) [
-      | inl f ↦ Contains-append_left X (ps ++ ys) q f
-      | inr f ↦ Contains-append_right X (ps ++ ys) q (Contains-append_right ps ys q f)
-    ]
-  ],
-  λ c. elim (Contains-append_cases X (ps ++ ys) q c) [
-    | inl d ↦ Contains-append_right ps (X ++ ys) q (Contains-append_left X ys q d)
-    | inr d ↦ elim (Contains-append_cases ps ys q d) [
-      | inl f ↦ Contains-append_left ps (X ++ ys) q f
-      | inr f ↦ Contains-append_right ps (X ++ ys) q (Contains-append_right X ys q f)
-    ]
-  ],
-)
-
--- a new directory sector and places among the others, or before them
-among-directory : (dir F ps : List Place) (fresh q : Place) → Contains (fresh ∷ (ps ++ map_place ∷ (dir ++ F))) q
-    ↔ Contains (map_place ∷ (((dir ++ fresh ∷ []) ++ F) ++ (ps ++ []))) q
-among-directory dir F ps fresh q =
-    let all : List Place = map_place ∷ ((dir ++ fresh ∷ []) ++ F) in
-    let here = among all [] ps q in
-    let shape : ps ++ (all ++ []) ≡ (ps ++ map_place ∷ dir) ++ fresh ∷ F = simp (append_assoc, append-nil) in
-    let back : ps ++ map_place ∷ (dir ++ F) ≡ (ps ++ map_place ∷ dir) ++ F = simp append_assoc in
-    let P : List Place → Type 0 = λ xs. Contains xs q in (
-      λ c. here.0 (subst P (sym shape) (elim (Contains-cases q fresh (ps ++ map_place ∷ (dir ++ F)) c) [
-        | inl e ↦ (let Q : Place → Type 0 = Contains ((ps ++ map_place ∷ dir) ++ fresh ∷ F) in
-            subst Q e (Contains-append_right (ps ++ map_place ∷ dir) (fresh ∷ F) fresh (Contains-here fresh F)))
-        | inr d ↦ insert-in (ps ++ map_place ∷ dir) F fresh q (subst P back d)
-      ])),
-      λ c. elim (insert-out (ps ++ map_place ∷ dir) F fresh q (subst P shape (here.1 c))) [
-        | inl e ↦ (let Q : Place → Type 0 = Contains (fresh ∷ (ps ++ map_place ∷ (dir ++ F))) in
-            subst Q e (Contains-here fresh (ps ++ map_place ∷ (dir ++ F))))
-        | inr d ↦ Contains-there q fresh (ps ++ map_place ∷ (dir ++ F)) (subst P (sym back) d)
-      ],
-    )
-
--- a new directory sector is no more owned than the file's
-beside-unowned : (l : Layout) (ps : List Place) (fresh : Place)
-    → ((q : Place) → Contains ps q → ¬ (Contains (map_place ∷ owners l) q)) → ¬ (Contains (map_place ∷ owners l) fresh)
-    → (q : Place) → Contains (fresh ∷ ps) q → ¬ (Contains (owners l) q)
-beside-unowned l ps fresh none no_fresh q c own = elim (Contains-cases q fresh ps c) [
-  | inl e ↦ no_fresh (subst (λ x. Contains (map_place ∷ owners l) x) (sym e) (Contains-there q map_place (owners l) own))
-  | inr d ↦ none q d (Contains-there q map_place (owners l) own)
-]
-
 -- In d the sectors are written, qs and no others; the last write is that of the directory sector of the site.
 module _ (a c d : Image) (l : Layout) (n : ℕ) (st : Site) (entry : List ℕ) (k : Slot → File) (qs : List Place)
     (full : length d ≡ 683) (map_is : sector d map_place ≡ st.map.bytes) (by : IsFileBy c st.blocks.items entry k)
@@ -166,6 +111,9 @@ module _ (a c d : Image) (l : Layout) (n : ℕ) (st : Site) (entry : List ℕ) (
   kept : AgreeAt c (put d st.place bytes) st.blocks.items
   kept q e = agree q e ∙ sym (sector-put_other d p q bytes (λ x. h.unowned q e
       (Contains-there q map_place (owners l) (subst (λ y. Contains (owners l) y) x (in-dir p listed)))))
+
+  no-map : st.place ≢ map_place
+  no-map e = was.layout.directory.not_map (subst (λ x. Contains l.directory x) e listed)
 
   unowned : (s : Slot) → IsUnowned l (k s)
   unowned s = record {
@@ -226,9 +174,16 @@ module _ (a c d : Image) (l : Layout) (n : ℕ) (st : Site) (entry : List ℕ) (
         (map_place ∷ (xs ++ (ps ++ ys))) (among (map_place ∷ xs) ys ps)
         (subst (λ os. IsMapOf st.map.bytes (ps ++ map_place ∷ os)) e map_of)))
 
+    stays : (f : File) → Contains l.files f → SameEntry f.slot (reslot (put d st.place bytes) f.slot)
+        × (count_field (reslot (put d st.place bytes) f.slot) ≡ count_field f.slot)
+    stays f e = let still = slot-stays takes f.slot (slot-of d l f was.layout e) in
+        (same-entry f.slot (reslot b f.slot) still, ap count_field still)
+
     slot-clean : IsCleanLayout (put d st.place bytes)
         (with_file (put d st.place bytes) l it.before it.after (k (slot_in st.place bytes st.number)))
-    slot-clean = made-clean takes h.clean same right.exact map-there it
+    slot-clean = still-clean a d l p bytes same (not_file takes) stays l.directory it.before it.after (k s) h.clean it.split
+        it.layout right.exact no-map (subst (λ os. IsMapOf (sector d map_place) (map_place ∷ os)) (sym it.has)
+        (map-there (l.directory ++ flat_map file_owns it.before) (flat_map file_owns it.after) it.had))
 
     -- the slots before it are as they were, all used
     place-of : length (map (reread (put d st.place bytes)) it.before) ≡ st.entry
@@ -239,7 +194,7 @@ module _ (a c d : Image) (l : Layout) (n : ℕ) (st : Site) (entry : List ℕ) (
         let first : IsFirstSlot p (sector d p) st.number = subst (λ x. IsFirstSlot p x st.number) here room.slot in
         length-map it.before (reread b) ∙ it.count ∙ slots-before d room.front p st.number still first ∙ sym at
 
-    slot-made : IsMadeBy a c l st entry k (put d st.place bytes)
+    pub slot-made : IsMadeBy a c l st entry k (put d st.place bytes)
     slot-made = (
       record {
         layout = with_file b l it.before it.after (k s);
@@ -255,9 +210,7 @@ module _ (a c d : Image) (l : Layout) (n : ℕ) (st : Site) (entry : List ℕ) (
         kept = kept;
       },
       more-whole a d p bytes l _ it.before it.after (k s) h.clean.layout it.split refl slot-clean same
-          (not_file takes)
-          (λ f e. let still = slot-stays takes f.slot (slot-of d l f was.layout e) in
-          (ap count_field still, sym (ap type_byte still))) right.long,
+          (not_file takes) stays right.long,
     )
 
   -- it links a new directory sector, in which the entry stands
@@ -329,10 +282,12 @@ module _ (a c d : Image) (l : Layout) (n : ℕ) (st : Site) (entry : List ℕ) (
         (map-same st.map.bytes _ _ (among-directory l.directory F ps fresh) map_of)))
 
     sector-clean : IsCleanLayout (put d st.place bytes) m
-    sector-clean = linked-clean d l p bytes full relinked a was.layout was is_last fresh (k t) (by.slot t) linked.link
-        made_of.ends lowest.track no_fresh used free new-right.file once h.clean same new-right.exact sector-map
+    sector-clean = still-clean a d l p bytes same not-file (linked-stays d l p bytes full relinked was.layout)
+        (l.directory ++ fresh ∷ []) l.files [] (k t) h.clean (sym (append-nil l.files))
+        (linked-layout d l p bytes full relinked a was.layout was is_last fresh (k t) (by.slot t) linked.link
+        made_of.ends lowest.track no_fresh used free new-right.file once) new-right.exact no-map sector-map
 
-    sector-made : IsMadeBy a c l st entry k (put d st.place bytes)
+    pub sector-made : IsMadeBy a c l st entry k (put d st.place bytes)
     sector-made = (
       record {
         layout = m;
@@ -352,117 +307,3 @@ module _ (a c d : Image) (l : Layout) (n : ℕ) (st : Site) (entry : List ℕ) (
       more-whole a d p bytes l _ l.files [] (k t) h.clean.layout (sym (append-nil l.files)) refl sector-clean same
           not-file (linked-stays d l p bytes full relinked was.layout) new-right.long,
     )
-
--- what is held from when the file's first sector is written: the files of before, or one more
-abbrev pub IsEntering : Image → Image → Layout → Site → List ℕ → (Slot → File) → Image → Type 0
-IsEntering a c l st entry k b = (HasFilesOf a l b ⊎ HasEntered a c l st entry k b) × (IsWhole a → IsWhole b)
-
-taking-in : (a : Image) (l : Layout) (n : ℕ) (st : Site) (o : Option Place)
-    → MatchOption o (IsSlotSite a l n st) (IsSectorSite a l n st) → IsTaking a l n st
-taking-in a l n st None h = h.taking
-taking-in a l n st (Some fresh) h = h.taking
-
-pub site-taking : (a : Image) (l : Layout) (n : ℕ) (st : Site) → IsSite a l n st → IsTaking a l n st
-site-taking a l n st h = taking-in a l n st st.fresh h
-
--- while sectors are written that nobody owned, the files are there as before
-still-of : (a b : Image) (l : Layout) (n : ℕ) (st : Site) (ps : List Place) → IsTaking a l n st
-    → ((q : Place) → Contains ps q → ¬ (Contains (owners l) q)) → ChangesOnly a st.map.bytes ps b
-    → HasFilesOf a l b × (IsWhole a → IsWhole b)
-still-of a b l n st ps h unowned changes =
-    let layout = h.clean.layout in
-    let was = files-before a b st.map.bytes ps l layout unowned h.header changes in
-    (was, before-whole a b l h.clean was.layout (before-same a b st.map.bytes ps l layout unowned changes))
-
-pub still : (a b : Image) (l : Layout) (n : ℕ) (st : Site) → IsTaking a l n st
-    → ChangesOnly a st.map.bytes st.blocks.items b → HasFilesOf a l b × (IsWhole a → IsWhole b)
-still a b l n st h changes = still-of a b l n st st.blocks.items h
-    (λ q d own. h.unowned q d (Contains-there q map_place (owners l) own)) changes
-
-module _ (a c : Image) (l : Layout) (n : ℕ) (st : Site) (entry : List ℕ) (k : Slot → File) where
-  module _ (full : length c ≡ 683) (map_is : sector c map_place ≡ st.map.bytes)
-      (changes : ChangesOnly a st.map.bytes st.blocks.items c) (by : IsFileBy c st.blocks.items entry k) where
-    -- what is held while the entry is put, and what is there then
-    abbrev Enters : List (Place × Sector) → Type 0
-    Enters puts = ((b : Image) → IsPutSoFar puts c b → IsEntering a c l st entry k b)
-        × HasEntered a c l st entry k (put_each puts c)
-
-    enters : (o : Option Place) → o ≡ st.fresh → MatchOption o (IsSlotSite a l n st) (IsSectorSite a l n st)
-        → (puts : List (Place × Sector)) → ArePutsOf st entry o puts → Enters puts
-    enters None none h puts (bytes, entered, is) =
-        let on = subst (λ qs. Contains qs st.place) (sym h.room.split)
-        (Contains-append_right h.room.front (st.place ∷ h.room.back) st.place (Contains-here st.place h.room.back)) in
-        let now = slot-made a c c l n st entry k st.blocks.items full map_is by h.taking
-        (λ q d own. h.taking.unowned q d (Contains-there q map_place (owners l) own)) changes (λ q d. refl) on bytes
-        h.room h.map h.entry none entered in
-        let as_before = still a c l n st h.taking changes in
-        let P : Image → Type 0 = IsEntering a c l st entry k in
-        subst Enters (sym is) (
-          λ b so_far. elim so_far [
-            | inl e ↦ subst P (sym e) (inl as_before.0, as_before.1)
-            | inr e ↦ subst P (sym e) (inr now.0, now.1)
-          ],
-          now.0,
-        )
-    enters (Some fresh) some h puts (first, last, made_of, linked, is) =
-        let d : Image = put c fresh first in
-        let no_map : fresh ≢ map_place = λ e. h.no_fresh (subst (λ x. Contains (x ∷ owners l) fresh) e
-        (Contains-here fresh (owners l))) in
-        let none = beside-unowned l st.blocks.items fresh h.taking.unowned h.no_fresh in
-        let more : ChangesOnly a st.map.bytes (fresh ∷ st.blocks.items) d =
-        changes-one a c st.map.bytes (fresh ∷ st.blocks.items) fresh first (Contains-here fresh st.blocks.items) no_map
-        (changes-more a st.map.bytes st.blocks.items fresh c changes) in
-        let on = subst (λ qs. Contains qs st.place) (sym h.full.split)
-        (Contains-append_right h.full.front (st.place ∷ []) st.place (Contains-here st.place [])) in
-        let now = sector-made a c d l n st entry k (fresh ∷ st.blocks.items) (length-put c fresh first ∙ full)
-        (sector-put_other c fresh map_place first no_map ∙ map_is) by h.taking none more
-        (λ q on. sym (sector-put_other c fresh q first (λ e. h.apart (subst (λ x. Contains st.blocks.items x) (sym e) on))))
-        on last fresh h.full h.map h.entry h.number h.lowest h.no_fresh h.apart some
-        (subst (λ x. IsNewDirectory x entry) (sym (sector-put_same c fresh first full)) made_of) linked in
-        let as_before = still a c l n st h.taking changes in
-        let with_sector = still-of a d l n st (fresh ∷ st.blocks.items) h.taking none more in
-        let P : Image → Type 0 = IsEntering a c l st entry k in
-        subst Enters (sym is) (
-          λ b so_far. elim so_far [
-            | inl e ↦ subst P (sym e) (inl as_before.0, as_before.1)
-            | inr then ↦ elim then [
-              | inl e ↦ subst P (sym e) (inl with_sector.0, with_sector.1)
-              | inr e ↦ subst P (sym e) (inr now.0, now.1)
-            ]
-          ],
-          now.0,
-        )
-
-module _ {D : Type 0} (S : History D) (d e f : D) (l : Layout) (n : ℕ) (st : Site) (entry : List ℕ) (k : Slot → File)
-    (m : ℕ) (h : IsSite (S.image d) l n st)
-    (prepared : Changes S d e m (ChangesOnly (S.image d) st.map.bytes st.blocks.items))
-    (map_is : sector (S.image e) map_place ≡ st.map.bytes) (by : IsFileBy (S.image e) st.blocks.items entry k)
-    (r : Result (Unit {0}) DeviceFault) (puts : PutsEntry S e f st entry r) where
-  both : ((b : Image) → IsPutSoFar puts.puts (S.image e) b → IsEntering (S.image d) (S.image e) l st entry k b)
-      × HasEntered (S.image d) (S.image e) l st entry k (put_each puts.puts (S.image e))
-  both = enters (S.image d) (S.image e) l n st entry k (S.whole e).size map_is (at_end S d e _ prepared.held) by st.fresh
-      refl h puts.puts puts.are
-
-  pub entry-moments : Changes S d f (m + length puts.puts) (IsEntering (S.image d) (S.image e) l st entry k)
-  entry-moments = changes_then S d e f m (length puts.puts) _ _ (omega arith)
-      (changes_weaker S d e m m _ _ (omega arith) (λ b x.
-      let as_before = still (S.image d) b l n st (site-taking (S.image d) l n st h) x in
-      (inl as_before.0, as_before.1)) prepared)
-      (record { held = weaker S e f _ _ both.0 puts.held; writes = puts.writes })
-
-  pub entry-done : OnOk r (HasEntered (S.image d) (S.image e) l st entry k (S.image f))
-  entry-done = on_ok_weaker r (λ is. subst (λ i. HasEntered (S.image d) (S.image e) l st entry k i) (sym is) both.1) puts.ok
-
--- one write into a free slot, two for a new directory sector
-pub puts-few : (st : Site) (entry : List ℕ) (o : Option Place) (puts : List (Place × Sector)) → ArePutsOf st entry o puts
-    → length puts ≤ 2
-puts-few st entry None puts (bytes, entered, is) = omega (arith, ap length is)
-puts-few st entry (Some fresh) puts (first, last, made_of, linked, is) = omega (arith, ap length is)
-
-pub puts-counted : (a : Image) (l : Layout) (n : ℕ) (st : Site) (entry : List ℕ) (o : Option Place)
-    → MatchOption o (IsSlotSite a l n st) (IsSectorSite a l n st) → (puts : List (Place × Sector))
-    → ArePutsOf st entry o puts → 3 + length puts ≡ creation_writes l
-puts-counted a l n st entry None h puts (bytes, entered, is) = omega
-    (arith, ap length is, four-writes a l st.place st.number h.taking.clean.layout h.room)
-puts-counted a l n st entry (Some fresh) h puts (first, last, made_of, linked, is) = omega
-    (arith, ap length is, five-writes a l h.taking.clean.layout h.full.full)

@@ -7,8 +7,8 @@ use Rattle.std.proofs.lemmas.List.Elements.{Contains-append_cases, Contains-appe
 use Rattle.d64_image.specs.Images.{Image, Sector}
 use Rattle.d64_image.specs.declared.place.Place.{Place}
 use Rattle.disk_layout.proofs.lemmas.counts.Recounts.{reread, reread-owns}
-use Rattle.disk_layout.proofs.lemmas.lists.Once.{EachOnce-apart, EachOnce-insert}
-use Rattle.disk_layout.proofs.lemmas.lists.Once.{EachOnce-join, EachOnce-left, EachOnce-right, insert-out}
+use Rattle.disk_layout.proofs.lemmas.lists.Once.{Contains-cases, Contains-here, Contains-there, EachOnce-apart, EachOnce-insert}
+use Rattle.disk_layout.proofs.lemmas.lists.Once.{EachOnce-join, EachOnce-left, EachOnce-right, insert-in, insert-out}
 use Rattle.disk_layout.specs.Chain.{EachOnce}
 use Rattle.disk_layout.specs.Directory.{map_place}
 use Rattle.disk_layout.specs.Layout.{File, Layout, file_owns, owners}
@@ -98,3 +98,43 @@ map-same bytes xs ys same map = record {
   marked = λ q. (λ free c. (map.marked q).0 free ((same q).1 c), λ none. (map.marked q).1 (λ c. none ((same q).0 c)));
   counts = map.counts;
 }
+
+-- places among others, or before them
+pub among : (X ys ps : List Place) (q : Place) → Contains (ps ++ (X ++ ys)) q ↔ Contains (X ++ (ps ++ ys)) q
+among X ys ps q = (
+  λ c. elim (Contains-append_cases ps (X ++ ys) q c) [
+    | inl d ↦ Contains-append_right X (ps ++ ys) q (Contains-append_left ps ys q d)
+    | inr d ↦ elim (Contains-append_cases X ys q d) [
+      | inl f ↦ Contains-append_left X (ps ++ ys) q f
+      | inr f ↦ Contains-append_right X (ps ++ ys) q (Contains-append_right ps ys q f)
+    ]
+  ],
+  λ c. elim (Contains-append_cases X (ps ++ ys) q c) [
+    | inl d ↦ Contains-append_right ps (X ++ ys) q (Contains-append_left X ys q d)
+    | inr d ↦ elim (Contains-append_cases ps ys q d) [
+      | inl f ↦ Contains-append_left ps (X ++ ys) q f
+      | inr f ↦ Contains-append_right ps (X ++ ys) q (Contains-append_right X ys q f)
+    ]
+  ],
+)
+
+-- a new directory sector and places among the others, or before them
+pub among-directory : (dir F ps : List Place) (fresh q : Place) → Contains (fresh ∷ (ps ++ map_place ∷ (dir ++ F))) q
+    ↔ Contains (map_place ∷ (((dir ++ fresh ∷ []) ++ F) ++ (ps ++ []))) q
+among-directory dir F ps fresh q =
+    let all : List Place = map_place ∷ ((dir ++ fresh ∷ []) ++ F) in
+    let here = among all [] ps q in
+    let shape : ps ++ (all ++ []) ≡ (ps ++ map_place ∷ dir) ++ fresh ∷ F = simp (append_assoc, append-nil) in
+    let back : ps ++ map_place ∷ (dir ++ F) ≡ (ps ++ map_place ∷ dir) ++ F = simp append_assoc in
+    let P : List Place → Type 0 = λ xs. Contains xs q in (
+      λ c. here.0 (subst P (sym shape) (elim (Contains-cases q fresh (ps ++ map_place ∷ (dir ++ F)) c) [
+        | inl e ↦ (let Q : Place → Type 0 = Contains ((ps ++ map_place ∷ dir) ++ fresh ∷ F) in
+            subst Q e (Contains-append_right (ps ++ map_place ∷ dir) (fresh ∷ F) fresh (Contains-here fresh F)))
+        | inr d ↦ insert-in (ps ++ map_place ∷ dir) F fresh q (subst P back d)
+      ])),
+      λ c. elim (insert-out (ps ++ map_place ∷ dir) F fresh q (subst P shape (here.1 c))) [
+        | inl e ↦ (let Q : Place → Type 0 = Contains (fresh ∷ (ps ++ map_place ∷ (dir ++ F))) in
+            subst Q e (Contains-here fresh (ps ++ map_place ∷ (dir ++ F))))
+        | inr d ↦ Contains-there q fresh (ps ++ map_place ∷ (dir ++ F)) (subst P (sym back) d)
+      ],
+    )

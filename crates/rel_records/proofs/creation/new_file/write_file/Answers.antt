@@ -10,7 +10,8 @@ use Rattle.disk_layout.specs.declared.slot.Slot.{Slot}
 use Rattle.rel_records.proofs.creation.new_file.write_file.Goals as goal
 use Rattle.rel_records.proofs.lemmas.Told.{not-done}
 use Rattle.rel_records.proofs.lemmas.creation.NewClean.{apart-of, both-of, creating-of, file-more, rel-by, some-writes}
-use Rattle.rel_records.proofs.lemmas.creation.NewEntry.{IsFileBy, entry-done, entry-moments, puts-counted, site-taking, still}
+use Rattle.rel_records.proofs.lemmas.creation.Entering.{entry-done, entry-moments, puts-counted, site-taking, still}
+use Rattle.rel_records.proofs.lemmas.creation.NewEntry.{IsFileBy}
 use Rattle.rel_records.proofs.lemmas.creation.NewFiles.{new_file}
 use Rattle.rel_records.specs.creation.NewFile.{ChangesOnly}
 use Rattle.rel_records.specs.creation.Site.{PutsEntry}
