@@ -12,6 +12,7 @@ pub mod PlainEnds
 pub mod PlainEntries
 pub mod PutCalls
 pub mod PutFiles
+pub mod Refused
 pub mod Renamed
 pub mod RenamedWhole
 pub mod Reslotted
