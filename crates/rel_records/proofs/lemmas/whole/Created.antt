@@ -34,7 +34,7 @@ IsLong img y = (IsTrue (is_plain y.slot) → count_field y.slot ≤ length y.blo
     × (IsTrue (is_rel y.slot || is_plain y.slot) → HasEnd img y)
 
 -- so and with exact side sectors all files are whole
-exact-long : (img : Image) (m : Layout) → IsLayout img m
+pub exact-long : (img : Image) (m : Layout) → IsLayout img m
     → ((k : ℕ) (y : File) → slice_get m.files k ≡ Some y → IsTrue (is_rel y.slot) → AreExact img y)
     → ((y : File) → Contains m.files y → IsLong img y) → IsWhole img
 exact-long img m now exact long k' is' =
