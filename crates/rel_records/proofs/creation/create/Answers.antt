@@ -1,83 +1,55 @@
 -- What is refused, and the file that is written.
-use Rattle.std.proofs.Common.{arith, subst, sym, ◌∙◌, inr, refl}
-use Rattle.d64_image.specs.Images.{Image}
-use Rattle.rel_records.proofs.lemmas.creation.Made.{changed-others, made-file, then-moments, quiet-moments}
-use Rattle.rel_records.proofs.lemmas.creation.Entering.{site-taking}
-use Rattle.rel_records.specs.creation.Site.{HasFileAt, IsSite}
-use Rattle.rel_records.proofs.creation.create.Goals as goal
+use Rattle.std.proofs.Common.{arith, inr, refl, subst, sym, ◌∙◌}
 use Rattle.std.proofs.lemmas.Result.{err_from_is_err_and}
 use Rattle.d64_image.proofs.Moments.{failed_later}
+use Rattle.d64_image.specs.Images.{Image}
+use Rattle.rel_records.proofs.creation.create.Goals as goal
 use Rattle.rel_records.proofs.lemmas.Told.{device-not-exists, device-not-full, none-done, not-done, passed-on}
+use Rattle.rel_records.proofs.lemmas.creation.Entering.{site-taking}
+use Rattle.rel_records.proofs.lemmas.creation.Made.{creates-of, made-file, made-then, quiet-moments}
+use Rattle.rel_records.specs.creation.Site.{IsSite}
 
--- No site was chosen, or the device fails while the file is written.
+-- no site was chosen
 pub returns-in_err-site : goal.returns-in_err-site
 returns-in_err-site g c =
+    let S = g.D.Sectors.history in
+    let d = c.args.disk.now in
+    let e = c.choose_site.new.disk in
     let told = err_from_is_err_and c.from_residual.result c.from_residual.ensures.1 in
-    record {
+    creates-of S d e c.args.name.now c.args.size c.from_residual.result (λ l h. record {
+      ok = none-done c.from_residual.result _ c.from_residual.ensures.1 _;
+      moments = quiet-moments S d e c.choose_site.ensures.quiet l c.args.name.now c.args.size h;
+    })
+    (record {
       layout = λ l h.
+          let told = err_from_is_err_and c.from_residual.result c.from_residual.ensures.1 in
           record {
-            ok = none-done c.from_residual.result _ c.from_residual.ensures.1 _;
-            moments = quiet-moments g.D.Sectors.history c.args.disk.now c.choose_site.new.disk
-                c.choose_site.ensures.quiet l c.args.name.now c.args.size h;
+            exists = rw (told.1, told.2) ((c.in_err-site.ensures.refuses.layout l h).exists);
+            full = rw (told.1, told.2) ((c.in_err-site.ensures.refuses.layout l h).full);
+            fits = not-done c.from_residual.result _ c.from_residual.ensures.1 _;
           };
-      refuses = record {
-        layout = λ l h.
-            let told = err_from_is_err_and c.from_residual.result c.from_residual.ensures.1 in
-            record {
-              exists = rw (told.1, told.2) ((c.in_err-site.ensures.refuses.layout l h).exists);
-              full = rw (told.1, told.2) ((c.in_err-site.ensures.refuses.layout l h).full);
-              fits = not-done c.from_residual.result _ c.from_residual.ensures.1 _;
-            };
-        told = rw (told.1, told.2) c.in_err-site.ensures.refuses.told;
-        refused = rw (told.1, told.2) c.in_err-site.ensures.refuses.refused;
-        failures = passed-on g.D.Sectors.history _ _ _ refl c.from_residual.result _ c.from_residual.ensures.1
-            c.in_err-site.ensures.refuses.failures;
-      };
-      reads = not-done c.from_residual.result _ c.from_residual.ensures.1 _;
-      others = λ v l n f of.
-          let S = g.D.Sectors.history in
-          changed-others S c.args.disk.now c.choose_site.new.disk _ l c.args.name.now c.args.size
-          (quiet-moments S c.args.disk.now c.choose_site.new.disk c.choose_site.ensures.quiet l c.args.name.now
-          c.args.size of.layout) n f v of;
-    }
+      told = rw (told.1, told.2) c.in_err-site.ensures.refuses.told;
+      refused = rw (told.1, told.2) c.in_err-site.ensures.refuses.refused;
+      failures = passed-on S _ _ _ refl c.from_residual.result _ c.from_residual.ensures.1
+          c.in_err-site.ensures.refuses.failures;
+    })
+    (not-done c.from_residual.result _ c.from_residual.ensures.1 _)
 
+-- the device fails while the file is written
 pub returns-in_default : goal.returns-in_default
 returns-in_default g c =
-    record {
+    let S = g.D.Sectors.history in
+    let made = made-then S c.args.disk.now c.choose_site.new.disk c.write_file.new.disk c.args.name.now c.args.size
+    c.in_ok-site.site c.in_ok-site.ensures _ c.in_default.ensures.file in
+    creates-of S c.args.disk.now c.write_file.new.disk c.args.name.now c.args.size _
+    (λ l h. record { ok = tt; moments = (made l h).moments })
+    (record {
       layout = λ l h.
-          let S = g.D.Sectors.history in
-          let P : Image → Type 0 = λ i. IsSite i l 2 c.in_ok-site.site in
-          record {
-            ok = tt;
-            moments =
-                then-moments S c.args.disk.now c.choose_site.new.disk c.choose_site.ensures.quiet l c.args.name.now
-                c.args.size h c.write_file.new.disk
-                ((c.write_file.ensures.file l
-                (subst P (sym c.choose_site.ensures.quiet.image) (c.in_ok-site.ensures.ok l h))).moments);
-          };
-      refuses = record {
-        layout = λ l h.
-            record {
-              exists = λ e. device-not-exists _ refl e;
-              full = λ e. device-not-full _ refl e;
-              fits = tt;
-            };
-        told = inr (inr refl);
-        refused = λ ne. absurd (ne refl);
-        failures = failed_later g.D.Sectors.history _ _ _ c.in_ok-site.ensures.refuses.failures
-            c.in_default.ensures.failures;
-      };
-      reads = tt;
-      others = λ v l n f of.
-          let S = g.D.Sectors.history in
-          let P : Image → Type 0 = λ i. IsSite i l 2 c.in_ok-site.site in
-          changed-others S c.args.disk.now c.write_file.new.disk _ l c.args.name.now c.args.size
-          (then-moments S c.args.disk.now c.choose_site.new.disk c.choose_site.ensures.quiet l c.args.name.now
-          c.args.size of.layout c.write_file.new.disk
-          ((c.write_file.ensures.file l
-          (subst P (sym c.choose_site.ensures.quiet.image) (c.in_ok-site.ensures.ok l of.layout))).moments)) n f v
-          of;
-    }
+          record { exists = λ e. device-not-exists _ refl e; full = λ e. device-not-full _ refl e; fits = tt };
+      told = inr (inr refl);
+      refused = λ ne. absurd (ne refl);
+      failures = failed_later S _ _ _ c.in_ok-site.ensures.refuses.failures c.in_default.ensures.failures;
+    }) tt
 
 pub write_file-requires-clause-site : goal.write_file-requires-clause-site
 write_file-requires-clause-site g c =
@@ -87,49 +59,23 @@ write_file-requires-clause-site g c =
 
 pub returns : goal.returns
 returns g c =
-    record {
-      layout = λ l h.
-          let S = g.D.Sectors.history in
-          let same = c.choose_site.ensures.quiet.image in
-          let site = c.in_ok-site.site in
-          let P : Image → Type 0 = λ i. IsSite i l 2 site in
-          let Q : Image
-          → Type 0 = λ i. HasFileAt i l c.args.name.now c.args.size site (S.image c.write_file.new.disk) in
-          record {
-            ok =
-                made-file (S.image c.args.disk.now) l c.args.name.now c.args.size site (S.image c.write_file.new.disk)
-                c.file_at.result
-                (subst Q same ((c.in-Ok.ensures.file l (subst P (sym same) (c.in_ok-site.ensures.ok l h))).ok))
-                c.file_at.ensures;
-            moments =
-                let P : Image → Type 0 = λ i. IsSite i l 2 c.in_ok-site.site in
-                then-moments S c.args.disk.now c.choose_site.new.disk c.choose_site.ensures.quiet l c.args.name.now
-                c.args.size h c.write_file.new.disk
-                ((c.write_file.ensures.file l
-                (subst P (sym c.choose_site.ensures.quiet.image) (c.in_ok-site.ensures.ok l h))).moments);
-          };
-      refuses = record {
-        layout = λ l h.
-            record {
-              exists = tt;
-              full = tt;
-              fits = (c.in_ok-site.ensures.refuses.layout l h).fits;
-            };
-        told = tt;
-        refused = tt;
-        failures = c.in-Ok.ensures.failures ∙ c.in_ok-site.ensures.refuses.failures;
-      };
-      reads = omega (arith, c.in-Ok.ensures.reads, c.in_ok-site.ensures.reads);
-      others = λ v l n f of.
-          let S = g.D.Sectors.history in
-          let P : Image → Type 0 = λ i. IsSite i l 2 c.in_ok-site.site in
-          changed-others S c.args.disk.now c.write_file.new.disk _ l c.args.name.now c.args.size
-          (then-moments S c.args.disk.now c.choose_site.new.disk c.choose_site.ensures.quiet l c.args.name.now
-          c.args.size of.layout c.write_file.new.disk
-          ((c.write_file.ensures.file l
-          (subst P (sym c.choose_site.ensures.quiet.image) (c.in_ok-site.ensures.ok l of.layout))).moments)) n f v
-          of;
-    }
+    let S = g.D.Sectors.history in
+    let site = c.in_ok-site.site in
+    let made = made-then S c.args.disk.now c.choose_site.new.disk c.write_file.new.disk c.args.name.now c.args.size site
+    c.in_ok-site.ensures _ c.in-Ok.ensures.file in
+    creates-of S c.args.disk.now c.write_file.new.disk c.args.name.now c.args.size _
+    (λ l h. record {
+      ok = made-file (S.image c.args.disk.now) l c.args.name.now c.args.size site (S.image c.write_file.new.disk)
+          c.file_at.result (made l h).ok c.file_at.ensures;
+      moments = (made l h).moments;
+    })
+    (record {
+      layout = λ l h. record { exists = tt; full = tt; fits = (c.in_ok-site.ensures.refuses.layout l h).fits };
+      told = tt;
+      refused = tt;
+      failures = c.in-Ok.ensures.failures ∙ c.in_ok-site.ensures.refuses.failures;
+    })
+    (omega (arith, c.in-Ok.ensures.reads, c.in_ok-site.ensures.reads))
 
 pub file_at-requires-clause-two : goal.file_at-requires-clause-two
 file_at-requires-clause-two g c =
