@@ -16,6 +16,7 @@ mod creation;
 pub use creation::create;
 // What a new file of any type takes, and the write of its entry, which makes it.
 pub use creation::choose_site;
+pub use creation::directory_room::has_padded_name;
 pub use creation::new_file::write_entry;
 pub use creation::site::Site;
 pub use faults::RelFault;

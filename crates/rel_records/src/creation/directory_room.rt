@@ -80,8 +80,8 @@ pub(crate) fn find_room<D: Sectors>(disk: &mut D, places: &[Place]) -> Result<Ro
     })
 }
 
-/// Whether the entry has the name.
-pub(crate) fn has_padded_name(slot: &Slot, padded: &[u8; 16]) -> bool
+/// Whether the entry has the name: its sixteen bytes are these.
+pub fn has_padded_name(slot: &Slot, padded: &[u8; 16]) -> bool
     ensures { IsTrue result ↔ (slice_range slot.now.bytes 5 21 ≡ padded.now) }
 {
     EntryView::new(&slot.bytes).has_padded_name(padded)
