@@ -1,1 +1,0 @@
--- The element at the end.
