@@ -11,11 +11,12 @@ use Rattle.disk_changes.specs.Puts.{IsPut, IsPutRefusal}
 use Rattle.disk_changes.specs.declared.changes.Changed.{Changed}
 use Rattle.disk_changes.specs.declared.changes.Why.TheVariants as whys
 use Rattle.disk_layout.specs.Clean.{IsCleanLayout}
-use Rattle.file_changes.specs.Puts.{HasNoRoomFor, HasPut, Puts, sectors_for, stored}
+use Rattle.file_changes.specs.Puts.{HasPut, Puts, sectors_for, stored}
 use Rattle.file_changes.specs.declared.faults.ChangeFault.{ChangeFault}
 use Rattle.file_changes.specs.declared.faults.ChangeFault.TheVariants as change
 use Rattle.file_changes.specs.declared.file_type.FileType.{FileType}
 use Rattle.disk_changes.specs.Judged.{edit_fault}
+use Rattle.rel_records.specs.creation.Made.{HasNoRoomFor}
 
 no-missing : (change.NotFound ≡ change.Exists) ⊎ ((change.NotFound ≡ change.Full) ⊎ (change.NotFound ≡ change.Device)) → ⊥
 no-missing told = ⊎_elim (λ e. cc) (⊎_elim (λ e. cc) (λ e. cc)) told

@@ -7,8 +7,9 @@ use Rattle.disk_changes.specs.Judged.{IsCleanBut, IsCleanDisk, IsUnclean}
 use Rattle.disk_changes.specs.declared.changes.Changed.{Changed}
 use Rattle.disk_changes.specs.declared.changes.Why.{Why}
 use Rattle.disk_changes.specs.declared.changes.Why.TheVariants as whys
-use Rattle.file_changes.specs.Puts.{HasNoRoomFor, HasPut, IsNewName, sectors_for, stored}
+use Rattle.file_changes.specs.Puts.{HasPut, IsNewName, sectors_for, stored}
 use Rattle.file_changes.specs.declared.file_type.FileType.{FileType}
+use Rattle.rel_records.specs.creation.Made.{HasNoRoomFor}
 
 -- The file is there on the disk that comes of it; and what is printed.
 pub record IsPut (image name : List ℕ) (kind : FileType) (content : List ℕ) (made : Changed) : Type 0 where

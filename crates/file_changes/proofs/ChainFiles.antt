@@ -9,7 +9,7 @@ use Rattle.disk_layout.proofs.lemmas.records.Joined.{joined-cons, joined-nil}
 use Rattle.disk_layout.specs.Chain.{EachOnce, EndsAt, IsChain, Leads}
 use Rattle.disk_layout.specs.Records.{joined}
 use Rattle.disk_layout.specs.Side.{padded}
-use Rattle.file_changes.specs.PutSites.{Fills}
+use Rattle.file_changes.specs.PutWrites.{Fills}
 use Rattle.file_changes.specs.Puts.{HoldsChain}
 
 -- the index of the last used byte of n bytes in so many sectors

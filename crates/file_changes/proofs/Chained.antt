@@ -14,7 +14,7 @@ use Rattle.disk_layout.proofs.lemmas.layouts.Layouts.{get-contains}
 use Rattle.disk_layout.proofs.lemmas.lists.Lists.{get-drop}
 use Rattle.disk_layout.proofs.lemmas.lists.Once.{Contains-here, Contains-there, EachOnce-right}
 use Rattle.disk_layout.specs.Chain.{EachOnce}
-use Rattle.file_changes.specs.PutSites.{SameBeside}
+use Rattle.file_changes.specs.PutWrites.{SameBeside}
 use Rattle.file_changes.specs.Puts.{HoldsChain, chain_sector}
 
 -- these sectors hold what they held

@@ -1,7 +1,6 @@
 -- The lemmas of this crate.
 pub mod ChainFiles
 pub mod Chained
-pub mod ChosenSites
 pub mod DeleteCalls
 pub mod Formatted
 pub mod Mapped
@@ -12,13 +11,10 @@ pub mod RenameCalls
 pub mod PlainEnds
 pub mod PlainEntries
 pub mod PutCalls
-pub mod PutInSector
-pub mod PutInSlot
-pub mod PutMoments
-pub mod PutNames
+pub mod PutFiles
+pub mod Refused
 pub mod Renamed
 pub mod RenamedWhole
 pub mod Reslotted
-pub mod TakenSectors
 pub mod Unlisted
 pub mod UnlistedWhole

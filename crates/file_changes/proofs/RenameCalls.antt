@@ -1,5 +1,5 @@
 -- The entry to be renamed is found, and then one write renames it.
-use Rattle.std.proofs.Common.{◌≡◌, ◌⊎◌, ⊎_elim, ℕ, ◌≤◌, ◌<◌, ◌+◌, ◌*◌, List, Err, Ok, Result, ap, ap₂, arith, inl, inr, length, refl}
+use Rattle.std.proofs.Common.{◌≡◌, ◌⊎◌, ℕ, ◌≤◌, ◌<◌, ◌+◌, ◌*◌, List, Err, Ok, Result, ap, ap₂, arith, inl, inr, length, refl}
 use Rattle.std.proofs.Common.{subst, sym, ◌∙◌}
 use Rattle.std.specs.Prelude.{IfErr, IfOk}
 use Rattle.d64_image.proofs.Moments.{failed_later, reading, then, writing}
@@ -12,102 +12,57 @@ use Rattle.disk_layout.specs.declared.slot.Slot.{Slot}
 use Rattle.rel_records.proofs.lemmas.reading.Found.{slot-file}
 use Rattle.file_changes.proofs.RenamedWhole.{is-renamed}
 use Rattle.file_changes.proofs.Reslotted.{place}
+use Rattle.file_changes.proofs.Refused.{not-device, told-more}
 use Rattle.file_changes.specs.Entries.{IsFirstNamed, IsFreeName, entries_of}
 use Rattle.file_changes.specs.Patches.{PatchesSector, patched}
 use Rattle.file_changes.specs.Renames.{FindsRenamable, HasNewName, IsRenamable, IsRenamed, Renames}
 use Rattle.file_changes.specs.declared.faults.ChangeFault.{ChangeFault}
-use Rattle.file_changes.specs.declared.faults.ChangeFault.TheVariants.{Device, Exists, Full, Locked, NotFound}
-
--- no third fault
-no-device : (Device ≡ NotFound) ⊎ (Device ≡ Exists) → ⊥
-no-device told = ⊎_elim (λ e. cc) (λ e. cc) told
-
-no-locked : (Locked ≡ NotFound) ⊎ (Locked ≡ Exists) → ⊥
-no-locked told = ⊎_elim (λ e. cc) (λ e. cc) told
-
-no-full : (Full ≡ NotFound) ⊎ (Full ≡ Exists) → ⊥
-no-full told = ⊎_elim (λ e. cc) (λ e. cc) told
-
-not-exists : NotFound ≡ Exists → ⊥
-not-exists e = cc
-
-not-not-found : Exists ≡ NotFound → ⊥
-not-not-found e = cc
+use Rattle.file_changes.specs.declared.faults.ChangeFault.TheVariants.{Device, Exists, NotFound}
 
 module _ {D : Type 0} (S : History D) (a b : D) (from to : List ℕ) (slots : List Slot) (padded other : List ℕ)
     (old : padded ≡ slot_name from) (new : other ≡ slot_name to)
     (listed : (l : Layout) → IsLayout (S.image a) l → slots ≡ entries_of l) (reads : OnlyReads S a b 18)
     (fine : S.failures b ≡ S.failures a) where
-  free-in : (l : Layout) → IsLayout (S.image a) l → (xs name : List ℕ) → xs ≡ slot_name name → IsFreeName slots xs
-      → IsFreeName (entries_of l) (slot_name name)
-  free-in l h xs name e free =
-      let P : List ℕ → Type 0 = IsFreeName (entries_of l) in
-      let Q : List Slot → Type 0 = λ es. IsFreeName es xs in
-      subst P e (subst Q (listed l h) free)
-
-  taken-in : (l : Layout) → IsLayout (S.image a) l → (xs name : List ℕ) → xs ≡ slot_name name → ¬ (IsFreeName slots xs)
-      → ¬ (IsFreeName (entries_of l) (slot_name name))
-  taken-in l h xs name e taken free =
-      let P : List ℕ → Type 0 = IsFreeName (entries_of l) in
-      let Q : List Slot → Type 0 = λ es. IsFreeName es xs in
-      taken (subst Q (sym (listed l h)) (subst P (sym e) free))
+  there : (P : List Slot → List ℕ → List ℕ → Type 0) → P slots padded other → (l : Layout) → IsLayout (S.image a) l
+      → P (entries_of l) (slot_name from) (slot_name to)
+  there P h l is = subst (P (entries_of l) (slot_name from)) new (subst (λ xs. P (entries_of l) xs other) old
+      (subst (λ es. P es padded other) (listed l is) h))
 
   pub found : (r : Result Slot ChangeFault)
       → IfOk r (λ s. (n : ℕ) × IsFirstNamed slots padded n s × IsFreeName slots other)
       → IfErr r (λ e. e ≡ NotFound → IsFreeName slots padded)
       → IfErr r (λ e. e ≡ Exists → ¬ (IsFreeName slots padded) × ¬ (IsFreeName slots other))
       → IfErr r (λ e. (e ≡ NotFound) ⊎ (e ≡ Exists)) → FindsRenamable S a b from to r
-  found (Ok s) (n, first, free) missing exists told = record {
-    ok = λ l h.
-        let P : List ℕ → Type 0 = λ xs. IsFirstNamed (entries_of l) xs n s in
-        let Q : List Slot → Type 0 = λ es. IsFirstNamed es padded n s in
-        let named : IsFirstNamed (entries_of l) (slot_name from) n s = subst P old (subst Q (listed l h) first) in
-        let (f, at, same) = slot-file l slots n s (listed l h) first.there in
-        let R : Slot → Type 0 = λ x. IsFirstNamed (entries_of l) (slot_name from) n x in (
-          n,
-          f,
-          record { file = at; first = subst R (sym same) named; free = free-in l h other to new free },
-          same,
-        );
-    not_found = λ l h. tt;
-    exists = λ l h. tt;
-    told = tt;
+  found r first missing exists told = record {
+    ok = there (λ es f t. IfOk r (λ s. (n : ℕ) × IsFirstNamed es f n s × IsFreeName es t)) first;
+    not_found = there (λ es f t. IfErr r (λ e. e ≡ NotFound → IsFreeName es f)) missing;
+    exists = there (λ es f t. IfErr r (λ e. e ≡ Exists → ¬ (IsFreeName es f) × ¬ (IsFreeName es t))) exists;
+    told = told-more r Exists told;
     reads = reads;
-    failures = fine;
+    failures = not-device S a b r Exists refl fine told;
   }
-  found (Err NotFound) first missing exists told = record {
-    ok = λ l h. tt;
-    not_found = λ l h e. free-in l h padded from old (missing refl);
-    exists = λ l h e. absurd (not-exists e);
-    told = inl refl;
-    reads = reads;
-    failures = fine;
-  }
-  found (Err Exists) first missing exists told = record {
-    ok = λ l h. tt;
-    not_found = λ l h e. absurd (not-not-found e);
-    exists = λ l h e. (taken-in l h padded from old (exists refl).0, taken-in l h other to new (exists refl).1);
-    told = inr (inl refl);
-    reads = reads;
-    failures = fine;
-  }
-  found (Err Device) first missing exists told = absurd (no-device told)
-  found (Err Locked) first missing exists told = absurd (no-locked told)
-  found (Err Full) first missing exists told = absurd (no-full told)
+
+-- the file of the entry
+renamable : (l : Layout) (s : Slot) (from to : List ℕ)
+    → (n : ℕ) × IsFirstNamed (entries_of l) (slot_name from) n s × IsFreeName (entries_of l) (slot_name to)
+    → (n : ℕ) × (f : File) × IsRenamable l from to n f × (f.slot ≡ s)
+renamable l s from to (n, first, free) =
+    let (f, at, same) = slot-file l (entries_of l) n s refl first.there in
+    (n, f, record { file = at; first = subst (IsFirstNamed (entries_of l) (slot_name from) n) (sym same) first; free = free }, same)
 
 -- the entry's number
 pub entry-low : (img : Image) (l : Layout) (s : Slot) (from to : List ℕ) → IsLayout img l
-    → (n : ℕ) × (f : File) × IsRenamable l from to n f × (f.slot ≡ s) → s.number < 8
-entry-low img l s from to h (n, f, of, same) =
-    let P : Slot → Type 0 = λ x. x.number < 8 in
-    subst P same (place img l n f h of.file).1
+    → (n : ℕ) × IsFirstNamed (entries_of l) (slot_name from) n s × IsFreeName (entries_of l) (slot_name to) → s.number < 8
+entry-low img l s from to h named =
+    let (n, f, of, same) = renamable l s from to named in
+    subst (λ x. x.number < 8) same (place img l n f h of.file).1
 
 module _ {D : Type 0} (S : History D) (a b c : D) (from to : List ℕ) (few : length to ≤ 16) (s : Slot) (padded : List ℕ)
     (new : padded ≡ slot_name to) (finds : FindsRenamable S a b from to (Ok s)) where
   named : (l : Layout) → IsLayout (S.image a) l → (img : Image)
       → img ≡ patched (S.image b) s.sector (32 * s.number + 5) padded → HasNewName (S.image a) l from to img
   named l h img e =
-      let (n, f, of, same) = finds.ok l h in
+      let (n, f, of, same) = renamable l s from to (finds.ok l h) in
       let P : Image → Type 0 = IsRenamed (S.image a) l n f to in
       record {
         number = n;

@@ -1,5 +1,5 @@
 -- A disk stays clean, and its files whole, when an entry gets another name.
-use Rattle.std.proofs.Common.{◌≡◌, ℕ, ◌≤◌, ◌-◌, inl, List, ◌∷◌, ◌++◌, IsTrue, ap, arith, drop, length, map}
+use Rattle.std.proofs.Common.{◌≡◌, ℕ, ◌≤◌, ◌-◌, List, ◌∷◌, ◌++◌, IsTrue, ap, arith, drop, length, map}
 use Rattle.std.proofs.Common.{refl, subst, suc, sym, take, ◌*◌, ◌+◌, ◌∙◌}
 use Rattle.std.proofs.lemmas.Grind.{flat_map-append}
 use Rattle.std.proofs.lemmas.List.{map-append}
@@ -10,17 +10,17 @@ use Rattle.d64_image.proofs.Images.{sector-put_other}
 use Rattle.d64_image.specs.Images.{Image, IsImage, sector}
 use Rattle.d64_image.specs.declared.place.Place.{Place}
 use Rattle.disk_layout.proofs.lemmas.growth.Commit.{all-join, all-left, all-right}
-use Rattle.disk_layout.proofs.lemmas.layouts.Layouts.{IsLayout-one, get-contains}
+use Rattle.disk_layout.proofs.lemmas.layouts.Layouts.{get-contains}
 use Rattle.disk_layout.proofs.lemmas.layouts.Unclean.{clean-of}
-use Rattle.disk_layout.proofs.lemmas.lists.Lists.{all-map, alike}
+use Rattle.disk_layout.proofs.lemmas.lists.Lists.{all-map, alike, contains-get}
 use Rattle.disk_layout.proofs.lemmas.lists.Once.{Contains-there}
-use Rattle.disk_layout.proofs.lemmas.whole.Files.{clean-exact, exact-ends, none-behind}
+use Rattle.disk_layout.proofs.lemmas.whole.Files.{clean-exact}
 use Rattle.disk_layout.specs.Clean.{IsClean, IsCleanLayout, IsExactFile}
 use Rattle.disk_layout.specs.Directory.{map_place, type_byte}
 use Rattle.disk_layout.specs.Layout.{File, IsLayout, Layout, count_field, file_owns, is_rel, owners}
 use Rattle.disk_layout.specs.Side.{side_sector}
-use Rattle.disk_layout.specs.Whole.{IsWhole, IsWholeFile}
-use Rattle.rel_records.proofs.lemmas.reading.Opened.{rel-of}
+use Rattle.disk_layout.specs.Whole.{IsWhole}
+use Rattle.rel_records.proofs.lemmas.whole.Created.{IsLong, exact-long}
 use Rattle.file_changes.proofs.Renamed.{count-same, files-now, kind-same, length-same, rel-same, renamed-layout, stays}
 use Rattle.file_changes.proofs.Reslotted.{own, place, split}
 use Rattle.file_changes.specs.Entries.{renamed, with_file}
@@ -122,30 +122,25 @@ module _ (a : Image) (l : Layout) (n : ℕ) (f : File) (to : List ℕ) (h : IsLa
   abbrev is_plain_type : ℕ → Type 0
   is_plain_type t = IsTrue ((nat_le 129 t && nat_le t 131) || (nat_le 193 t && nat_le t 195))
 
-  whole-file : IsCleanLayout c m → IsWhole a → (j : ℕ) (y : File) → slice_get m.files j ≡ Some y → IsWholeFile c m y
-  whole-file clean w j y there =
+  long : IsWhole a → (y : File) → Contains m.files y → IsLong c y
+  long w y on =
+      let (j, there) = contains-get m.files y on in
       let (z, was, e) = alike traits traits m.files l.files j y same-traits there in
-      let old = w l h j z was in
-      let ends = λ (rel : IsTrue (is_rel y.slot)) (q : Place).
-      exact-ends c y (rel-of c m j y now there rel) (clean-exact c m j y clean there rel) q in
-      record {
-        listed = λ rel q last. inl (ends rel q last);
-        behind = λ rel q s last. none-behind c m q _ (ends rel q last) s;
-        counted = λ t.
+      let old = w l h j z was in (
+        λ t.
             let plain = subst is_plain_type (sym (ap (λ (x : Traits). x.kind) e)) t in
-            omega (arith, old.counted plain, ap (λ (x : Traits). x.count) e, ap (λ (x : Traits). length x.blocks) e);
-        ended = λ t q last zeros.
+            omega (arith, old.counted plain, ap (λ (x : Traits). x.count) e, ap (λ (x : Traits). length x.blocks) e),
+        λ t q last zeros.
             let kind = subst has_end (sym (ap (λ (x : Traits). x.kind) e)) t in
             let last' : slice_get z.blocks (length z.blocks - 1) ≡ Some q =
             ap (λ (ps : List Place). slice_get ps (length ps - 1)) (ap (λ (x : Traits). x.blocks) e) ∙ last in
             old.ended kind q last' (sym (stays a l n f to h at image few z q (get-contains l.files j z was)
-            (Contains-append_left z.blocks z.sides q (get-contains z.blocks _ q last'))) ∙ zeros);
-      }
+            (Contains-append_left z.blocks z.sides q (get-contains z.blocks _ q last'))) ∙ zeros),
+      )
 
   pub renamed-whole : IsClean a → IsWhole a → IsWhole c
-  renamed-whole clean w k' is' =
-      let P : Layout → Type 0 = λ z. (k : ℕ) (y : File) → slice_get z.files k ≡ Some y → IsWholeFile c z y in
-      subst P (IsLayout-one c m k' now is') (whole-file (renamed-clean (clean-of a l h clean)) w)
+  renamed-whole clean w = exact-long c m now
+      (λ j y there. clean-exact c m j y (renamed-clean (clean-of a l h clean)) there) (long w)
 
   pub is-renamed : IsRenamed a l n f to c
   is-renamed = record {

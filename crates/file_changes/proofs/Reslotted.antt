@@ -1,15 +1,12 @@
 -- One entry of the directory rewritten: the layout has it in the place of the old one.
-use Rattle.std.proofs.Common.{◌≡◌, ◌≢◌, ℕ, ◌<◌, inl, inr, List, ◌∷◌, ◌++◌, ap, drop, length, map, slice_index}
+use Rattle.std.proofs.Common.{◌≡◌, ◌≢◌, ℕ, ◌<◌, List, ◌∷◌, ◌++◌, ap, drop, length, map, slice_index}
 use Rattle.std.proofs.Common.{subst, suc, sym, take, true, ◌∙◌}
 use Rattle.std.proofs.lemmas.Grind.{flat_map-append}
 use Rattle.std.proofs.lemmas.List.{map-append}
 use Rattle.std.specs.List.{AllByRecursion}
 use Rattle.std.specs.Prelude.{Contains, Some, flat_map, nat_eq, not, slice_get}
-use Rattle.d64_image.proofs.Images.{sector-put_same}
-use Rattle.d64_image.proofs.Places.{same_or_other}
 use Rattle.d64_image.specs.Images.{Image, Sector, put, sector}
 use Rattle.d64_image.specs.declared.place.Place.{Place}
-use Rattle.disk_layout.proofs.lemmas.chains.Chains.{SameLinks}
 use Rattle.disk_layout.proofs.lemmas.counts.Faces.{IsFile-slot, IsLayout-directory, SameFace, with_slot}
 use Rattle.disk_layout.proofs.lemmas.counts.Recount.{around, slot-there, split-one, used_slots-one}
 use Rattle.disk_layout.proofs.lemmas.counts.Recounts.{slot-of}
@@ -22,6 +19,7 @@ use Rattle.disk_layout.specs.Directory.{is_used, slot_in, used_slots}
 use Rattle.disk_layout.specs.Layout.{File, IsFile, IsLayout, Layout, file_owns, owners}
 use Rattle.disk_layout.specs.declared.slot.Slot.{Slot}
 use Rattle.layout_check.proofs.lemmas.finding.Listed.{entries-once}
+use Rattle.rel_records.proofs.lemmas.creation.InSlot.{put-links}
 
 abbrev pub slots_of : List File → List Slot
 slots_of fs = map (λ f. f.slot) fs
@@ -98,18 +96,6 @@ module _ (a : Image) (l : Layout) (n : ℕ) (f : File) (h : IsLayout a l) (at : 
         let both = split-one xs ys (slots_of before) (slots_of behind) f.slot old not-before not-behind in
         d ∙ ap (λ zs. zs ++ new ∷ ys) both.0 ∙ ap (λ zs. slots_of before ++ new ∷ zs) both.1
 
-    same-links : SameLinks a (put a p b) l.directory
-    same-links q c = elim (same_or_other p q) [
-      | inl e ↦
-          let there : sector (put a p b) q ≡ b = ap (sector (put a p b)) (sym e) ∙ sector-put_same a p b full in
-          let was : sector a q ≡ sector a p = ap (sector a) (sym e) in (
-            ap (λ x. slice_index x 0) was ∙ links.0 ∙ ap (λ x. slice_index x 0) (sym there),
-            ap (λ x. slice_index x 1) was ∙ links.1 ∙ ap (λ x. slice_index x 1) (sym there),
-          )
-      | inr ne ↦ let same : sector a q ≡ sector (put a p b) q = unless-same a p q b ne in
-          (ap (λ s. slice_index s 0) same, ap (λ s. slice_index s 1) same)
-    ]
-
     same-owns : flat_map file_owns (before ++ g ∷ behind) ≡ flat_map file_owns l.files
     same-owns = flat_map-append file_owns before (g ∷ behind)
         ∙ sym (ap (flat_map file_owns) split ∙ flat_map-append file_owns before (f ∷ behind))
@@ -122,7 +108,7 @@ module _ (a : Image) (l : Layout) (n : ℕ) (f : File) (h : IsLayout a l) (at : 
         let now : AllByRecursion (IsFile (put a p b)) (before ++ f ∷ behind) =
         rw split at (files-frame a (put a p b) l.files (keeps-other a p b l.files unowned) h.files) in
         let right = all-right (IsFile (put a p b)) before (f ∷ behind) now in
-        IsLayout-directory a (put a p b) l (before ++ g ∷ behind) h same-links
+        IsLayout-directory a (put a p b) l (before ++ g ∷ behind) h (put-links a p b full links l.directory)
         (map-append (λ (x : File). x.slot) before (g ∷ behind) ∙ sym slots-now)
         (all-join (IsFile (put a p b)) before (g ∷ behind)
         (all-left (IsFile (put a p b)) before (f ∷ behind) now)

@@ -7,19 +7,19 @@ use Rattle.std.proofs.lemmas.List.Elements.{Contains-append_cases, Contains-appe
 use Rattle.std.specs.List.{AllByRecursion}
 use Rattle.std.specs.Prelude.{Some, flat_map, nat_eq, not, slice_get, slice_range}
 use Rattle.d64_image.proofs.Images.{is_sector, length-put, put-put, put-sector, sector-put_same}
-use Rattle.d64_image.proofs.Places.{same_or_other}
 use Rattle.d64_image.specs.Images.{Image, IsImage, Sector, put, sector}
 use Rattle.d64_image.specs.Offsets.{overwritten}
 use Rattle.d64_image.specs.declared.place.Place.{Place}
-use Rattle.disk_layout.proofs.lemmas.chains.Chains.{IsChain-frame, SameLinks}
+use Rattle.disk_layout.proofs.lemmas.chains.Chains.{IsChain-frame}
 use Rattle.disk_layout.proofs.lemmas.counts.CountWrites.{slot-byte}
 use Rattle.disk_layout.proofs.lemmas.counts.Recount.{split-at, split-one}
 use Rattle.disk_layout.proofs.lemmas.growth.Commit.{all-join, all-left, all-right, keeps-other}
-use Rattle.disk_layout.proofs.lemmas.layouts.Frames.{files-frame, unless-same}
+use Rattle.disk_layout.proofs.lemmas.layouts.Frames.{files-frame}
 use Rattle.disk_layout.proofs.lemmas.lists.Once.{EachOnce-right}
 use Rattle.disk_layout.specs.Chain.{EachOnce}
 use Rattle.disk_layout.specs.Directory.{directory_start, is_used, map_place, slot_in, type_byte, used_slots}
 use Rattle.disk_layout.specs.Layout.{File, IsFile, IsLayout, Layout, file_owns, owners}
+use Rattle.rel_records.proofs.lemmas.creation.InSlot.{put-links}
 use Rattle.rel_records.proofs.lemmas.directory.NewSlots.{used_before, used_behind, used_slots-free, used_slots-new}
 use Rattle.file_changes.proofs.Overwritten.{over-before, over-in, over-slots}
 use Rattle.file_changes.proofs.Reslotted.{not-before, not-behind, place, slots-split, slots_of, split, unowned}
@@ -106,20 +106,6 @@ module _ (a : Image) (l : Layout) (n : ℕ) (f : File) (h : IsLayout a l) (at : 
       put-long : (i : Image) → length b ≡ 683
       put-long i = length-put a p y ∙ image.size
 
-  links : SameLinks a b l.directory
-  links q c = elim (same_or_other p q) [
-    | inl e ↦
-        let now : sector b q ≡ y = ap (sector b) (sym e) ∙ there in
-        let was : sector a q ≡ x = ap (sector a) (sym e) in (
-          ap (λ z. slice_index z 0) was ∙ sym (over-before x none (32 * k + 2) all 0 (omega arith))
-              ∙ ap (λ z. slice_index z 0) (sym now),
-          ap (λ z. slice_index z 1) was ∙ sym (over-before x none (32 * k + 2) all 1 (omega arith))
-              ∙ ap (λ z. slice_index z 1) (sym now),
-        )
-    | inr ne ↦ let same : sector a q ≡ sector b q = unless-same a p q y ne in
-        (ap (λ z. slice_index z 0) same, ap (λ z. slice_index z 1) same)
-  ]
-
   once-now : EachOnce (map_place ∷ owners (without_file l n))
   unfolding owners
   once-now =
@@ -142,7 +128,10 @@ module _ (a : Image) (l : Layout) (n : ℕ) (f : File) (h : IsLayout a l) (at : 
       record {
         directory = record {
           last = h.directory.last;
-          chain = IsChain-frame a b directory_start l.directory h.directory.last links h.directory.chain;
+          chain = IsChain-frame a b directory_start l.directory h.directory.last (put-links a p y image.size (
+            sym (over-before x none (32 * k + 2) all 0 (omega arith)),
+            sym (over-before x none (32 * k + 2) all 1 (omega arith)),
+          ) l.directory) h.directory.chain;
           on_track = h.directory.on_track;
           not_map = h.directory.not_map;
           slots = map-append (λ (z : File). z.slot) (take n l.files) (drop (suc n) l.files) ∙ slots-now;

@@ -9,15 +9,15 @@ use Rattle.d64_image.specs.Images.{Image, IsImage, sector}
 use Rattle.d64_image.specs.declared.place.Place.{Place}
 use Rattle.disk_layout.proofs.lemmas.growth.Commit.{all-join, all-left, all-right}
 use Rattle.disk_layout.proofs.lemmas.layouts.Agree.{map-unowned, owned-by_files}
-use Rattle.disk_layout.proofs.lemmas.layouts.Layouts.{IsLayout-one, get-contains}
+use Rattle.disk_layout.proofs.lemmas.layouts.Layouts.{get-contains}
 use Rattle.disk_layout.proofs.lemmas.lists.Lists.{all-map, contains-get}
 use Rattle.disk_layout.proofs.lemmas.lists.Once.{Contains-there, flat_map-in}
-use Rattle.disk_layout.proofs.lemmas.whole.Files.{AreExact, clean-exact, exact-ends, none-behind}
+use Rattle.disk_layout.proofs.lemmas.whole.Files.{AreExact, clean-exact}
 use Rattle.disk_layout.specs.Clean.{IsCleanLayout, IsExactFile}
 use Rattle.disk_layout.specs.Directory.{map_place}
 use Rattle.disk_layout.specs.Layout.{File, IsLayout, Layout, file_owns, is_rel, owners}
-use Rattle.disk_layout.specs.Whole.{IsWhole, IsWholeFile}
-use Rattle.rel_records.proofs.lemmas.reading.Opened.{rel-of}
+use Rattle.disk_layout.specs.Whole.{IsWhole}
+use Rattle.rel_records.proofs.lemmas.whole.Created.{exact-long}
 use Rattle.file_changes.proofs.Mapped.{AreExactFiles, IsRemapped}
 use Rattle.file_changes.proofs.Reslotted.{place, split, unowned}
 use Rattle.file_changes.proofs.Unlisted.{unlisted}
@@ -56,29 +56,22 @@ module _ (a : Image) (l : Layout) (n : ℕ) (f : File) (clean : IsCleanLayout a 
         elsewhere q (λ e. map-unowned a l h (subst P e (owned-by_files l q own)))
         (λ e. unowned a l n f h at (subst Q e own))
 
-    exact : (j : ℕ) (y : File) → Contains l.files y → slice_get l.files j ≡ Some y → IsTrue (is_rel y.slot) → AreExact c y
-    exact j y on there rel i q e = same y q on (Contains-append_right y.blocks y.sides q (get-contains y.sides i q e))
-        ∙ clean-exact a l j y clean there rel i q e
-
-    whole-file : IsLayout c m → IsWhole a → (j : ℕ) (y : File) → slice_get m.files j ≡ Some y → IsWholeFile c m y
-    whole-file now w j y there =
-        let on : Contains l.files y = old-file y (get-contains m.files j y there) in
-        let (i, was) = contains-get l.files y on in
-        let old = w l h i y was in
-        let ends = λ (rel : IsTrue (is_rel y.slot)) (q : Place).
-        exact-ends c y (rel-of c m j y now there rel) (exact i y on was rel) q in
-        record {
-          listed = λ rel q last. inl (ends rel q last);
-          behind = λ rel q s last. none-behind c m q _ (ends rel q last) s;
-          counted = old.counted;
-          ended = λ t q last zeros. old.ended t q last
-              (sym (same y q on (Contains-append_left y.blocks y.sides q (get-contains y.blocks _ q last))) ∙ zeros);
-        }
+    exact : (j : ℕ) (y : File) → slice_get m.files j ≡ Some y → IsTrue (is_rel y.slot) → AreExact c y
+    exact j y there rel i q e =
+        let on = old-file y (get-contains m.files j y there) in
+        let (k, was) = contains-get l.files y on in
+        same y q on (Contains-append_right y.blocks y.sides q (get-contains y.sides i q e))
+        ∙ clean-exact a l k y clean was rel i q e
 
     pub without-whole : IsLayout c (without_file l n) → IsWhole a → IsWhole c
-    without-whole now w k' is' =
-        let P : Layout → Type 0 = λ z. (k : ℕ) (y : File) → slice_get z.files k ≡ Some y → IsWholeFile c z y in
-        subst P (IsLayout-one c m k' now is') (whole-file now w)
+    without-whole now w = exact-long c m now exact (λ y d.
+        let on = old-file y d in
+        let (i, was) = contains-get l.files y on in
+        let old = w l h i y was in (
+          old.counted,
+          λ t q last zeros. old.ended t q last
+              (sym (same y q on (Contains-append_left y.blocks y.sides q (get-contains y.blocks _ q last))) ∙ zeros),
+        ))
 
   -- the sectors of the image after the first write
   after : (q : Place) → q ≢ map_place → q ≢ f.slot.sector → sector b q ≡ sector a q

@@ -60,7 +60,7 @@ pub record DeletesIn {D : Type 0} (S : History D) (old new : D) (l : Layout) (na
 pub record FindsDeletable {D : Type 0} (S : History D) (old new : D) (name : List ℕ)
     (result : Result Slot ChangeFault) : Type 0 where
   pub ok : (l : Layout) → IsLayout (S.image old) l → IfOk result (λ s.
-      (n : ℕ) × (f : File) × IsDeletable l name n f × (f.slot ≡ s))
+      (n : ℕ) × IsFirstNamed (entries_of l) (slot_name name) n s × ¬ (IsLocked s))
   pub not_found : (l : Layout) → IsLayout (S.image old) l
       → IfErr result (λ e. e ≡ NotFound → IsFreeName (entries_of l) (slot_name name))
   pub locked : (l : Layout) → IsLayout (S.image old) l → IfErr result (λ e. e ≡ Locked

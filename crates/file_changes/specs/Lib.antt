@@ -4,6 +4,6 @@ pub mod Entries
 pub mod Faults
 pub mod Formats
 pub mod Patches
-pub mod PutSites
+pub mod PutWrites
 pub mod Puts
 pub mod Renames

@@ -9,7 +9,6 @@ use Rattle.std.specs.Prelude.{
   ◌-◌,
   ◌*◌,
   ◌/◌,
-  ◌<◌,
   ◌≤◌,
   ◌++◌,
   [],
@@ -32,14 +31,12 @@ use Rattle.d64_image.specs.History.{Changes, History, OnlyReads}
 use Rattle.d64_image.specs.Images.{Image, Sector, sector}
 use Rattle.d64_image.specs.declared.place.Place.{Place}
 use Rattle.disk_layout.specs.Clean.{IsCleanLayout}
-use Rattle.disk_layout.specs.Directory.{map_place, type_byte}
+use Rattle.disk_layout.specs.Directory.{type_byte}
 use Rattle.disk_layout.specs.Layout.{File, IsLayout, Layout, count_field}
-use Rattle.disk_layout.specs.Map.{IsFullTrack}
 use Rattle.disk_layout.specs.Records.{joined}
 use Rattle.disk_layout.specs.Rest.{slot_name}
 use Rattle.disk_layout.specs.Same.{AddsFile}
 use Rattle.disk_layout.specs.Side.{link_bytes, padded, place_bytes}
-use Rattle.disk_layout.specs.View.{blocks_free}
 use Rattle.disk_layout.specs.Whole.{IsWhole}
 use Rattle.file_changes.specs.Entries.{IsFreeName, entries_of}
 use Rattle.file_changes.specs.Faults.{TellsChange}
@@ -47,8 +44,7 @@ use Rattle.file_changes.specs.declared.faults.ChangeFault.{ChangeFault}
 use Rattle.file_changes.specs.declared.faults.ChangeFault.TheVariants.{Device, Exists, Full}
 use Rattle.file_changes.specs.declared.file_type.FileType.{FileType}
 use Rattle.file_changes.specs.declared.file_type.FileType.TheVariants.{Prg, Seq, Usr}
-use Rattle.rel_records.specs.creation.Made.{HasFilesOf, IsNewSlot}
-use Rattle.rel_records.specs.creation.Room.{AreFullSectors}
+use Rattle.rel_records.specs.creation.Made.{HasFilesOf, HasNoRoomFor, IsNewSlot}
 
 -- the type byte of a closed entry
 abbrev pub type_number : FileType → ℕ
@@ -105,11 +101,6 @@ pub record HasPut (a : Image) (l : Layout) (name : List ℕ) (kind : FileType) (
 -- every image held: it has the files of before, or one more; if all files were whole, they are
 abbrev pub IsPutting : Image → Layout → List ℕ → FileType → List ℕ → Image → Type 0
 IsPutting a l name kind bytes c = (HasFilesOf a l c ⊎ HasPut a l name kind bytes c) × (IsWhole a → IsWhole c)
-
--- there is no room: fewer free blocks than the file takes, or neither a free slot nor a free sector for the directory
-abbrev pub HasNoRoomFor : Image → Layout → ℕ → Type 0
-HasNoRoomFor img l n = (blocks_free (sector img map_place) < n)
-    ⊎ (AreFullSectors img l.directory × IsFullTrack (sector img map_place) 18)
 
 -- no entry has this name, of whatever type
 abbrev pub IsNewName : Layout → List ℕ → Type 0

@@ -49,7 +49,7 @@ pub record RenamesIn {D : Type 0} (S : History D) (old new : D) (l : Layout) (fr
 pub record FindsRenamable {D : Type 0} (S : History D) (old new : D) (from to : List ℕ)
     (result : Result Slot ChangeFault) : Type 0 where
   pub ok : (l : Layout) → IsLayout (S.image old) l → IfOk result (λ s.
-      (n : ℕ) × (f : File) × IsRenamable l from to n f × (f.slot ≡ s))
+      (n : ℕ) × IsFirstNamed (entries_of l) (slot_name from) n s × IsFreeName (entries_of l) (slot_name to))
   pub not_found : (l : Layout) → IsLayout (S.image old) l
       → IfErr result (λ e. e ≡ NotFound → IsFreeName (entries_of l) (slot_name from))
   pub exists : (l : Layout) → IsLayout (S.image old) l → IfErr result (λ e. e ≡ Exists

@@ -1,24 +1,17 @@
 //! Entries of the directory, found by their names.
-ghost use Rattle.std.specs.Prelude.{◌≡◌, ◌↔◌, IfErr, IsTrue, MatchOption, OnOk, slice_range};
+ghost use Rattle.std.specs.Prelude.{◌≡◌, ℕ, IfErr, MatchOption, OnOk};
 ghost use Rattle.d64_image.specs.History.{OnlyReads};
 ghost use Rattle.disk_layout.specs.Layout.{IsLayout, IsSound, Layout};
-ghost use Rattle.file_changes.specs.Entries.{HasName, IsFirstNamed, IsFreeName, entries_of};
+ghost use Rattle.file_changes.specs.Entries.{IsFirstNamed, IsFreeName, entries_of};
 ghost use Rattle.file_changes.specs.Faults.{TellsChange};
 ghost use Rattle.file_changes.specs.declared.faults.ChangeFault.TheVariants.{Device};
 ghost use Rattle.disk_layout.specs.declared.slot.Slot.{Slot};
-ghost use Rattle.std.specs.Prelude.{ℕ};
 
 use crate::faults::ChangeFault;
 use arrayvec::ArrayVec;
 use d64_image::Sectors;
-use disk_layout::{EntryView, Slot, read_directory};
-
-/// Whether the sixteen bytes of the entry's name are these.
-fn has_name(entry: &Slot, padded: &[u8; 16]) -> bool
-    ensures { IsTrue result ↔ HasName padded.now entry.now }
-{
-    EntryView::new(&entry.bytes).has_padded_name(padded)
-}
+use disk_layout::{Slot, read_directory};
+use rel_records::has_padded_name;
 
 /// The number, from 0, of the first of these entries whose name has these bytes.
 pub(crate) fn first_named(entries: &[Slot], padded: &[u8; 16]) -> Option<usize>
@@ -26,7 +19,7 @@ pub(crate) fn first_named(entries: &[Slot], padded: &[u8; 16]) -> Option<usize>
         (λ n. (s : Slot) × IsFirstNamed entries.now padded.now n s) }
 {
     for (number, entry) in entries.iter().enumerate() {
-        if has_name(entry, padded) {
+        if has_padded_name(entry, padded) {
             return Some(number);
         }
     }

@@ -9,7 +9,6 @@ mod file_type;
 mod formatting;
 mod patching;
 mod put_sectors;
-mod put_site;
 mod put_writes;
 mod putting;
 mod renaming;

@@ -2,7 +2,7 @@
 ghost use Rattle.std.specs.Prelude.{◌≡◌, ◌≤◌, ◌<◌, ◌*◌, ◌+◌, ◌∷◌, [], length, slice_get, take};
 ghost use Rattle.disk_layout.specs.Side.{link_bytes, padded};
 ghost use Rattle.disk_layout.specs.Chain.{EachOnce};
-ghost use Rattle.file_changes.specs.PutSites.{Fills, PutsBlock, SameBeside};
+ghost use Rattle.file_changes.specs.PutWrites.{Fills, PutsBlock, SameBeside};
 ghost use Rattle.file_changes.specs.Puts.{HoldsChain, chain_sector};
 ghost use Rattle.rel_records.specs.Calls.{WritesAtMost};
 

@@ -1,65 +1,28 @@
 //! A file put on a disk.
-ghost use Rattle.std.specs.Prelude.{◌≡◌, ◌≤◌, IfErr, OnOk, length};
+ghost use Rattle.std.specs.Prelude.{◌≡◌, ◌≤◌, length};
 ghost use Rattle.disk_layout.specs.Clean.{IsClean};
-ghost use Rattle.disk_layout.specs.Layout.{IsSound};
-ghost use Rattle.file_changes.specs.Entries.{IsFreeName};
-ghost use Rattle.file_changes.specs.PutSites.{ChecksName, ChoosesSite};
+ghost use Rattle.file_changes.specs.PutWrites.{change_of};
 ghost use Rattle.file_changes.specs.Puts as specs;
 ghost use Rattle.file_changes.specs.Puts.{Puts};
-ghost use Rattle.file_changes.specs.declared.faults.ChangeFault.TheVariants.{Exists};
 
-use crate::entries::{first_named, list_entries};
 use crate::faults::ChangeFault;
 use crate::file_type::FileType;
-use crate::put_site::{PutSite, take_site};
 use crate::put_writes::write_file;
-use arrayvec::ArrayVec;
 use d64_image::Sectors;
-use disk_layout::{Bam, Slot, padded_name};
-use rel_records::read_room;
+use rel_records::{RelFault, choose_site};
 
 /// What an empty file gets: a carriage return.
 const EMPTY: [u8; 1] = [0x0D];
 
-/// Refuses a name that one of these entries has.
-fn refuse_taken(entries: &[Slot], padded: &[u8; 16]) -> Result<(), ChangeFault>
-    ensures ok { OnOk result (IsFreeName entries.now padded.now) }
-    ensures err { IfErr result (λ e. (e ≡ Exists) × ¬ (IsFreeName entries.now padded.now)) }
+/// The fault of a file that isn't put, for the one by which no site was chosen.
+fn fault_of(fault: RelFault) -> ChangeFault
+    ensures { result ≡ change_of fault }
 {
-    if first_named(entries, padded).is_some() {
-        return Err(ChangeFault::Exists);
+    match fault {
+        RelFault::Exists => ChangeFault::Exists,
+        RelFault::Full => ChangeFault::Full,
+        _ => ChangeFault::Device,
     }
-    Ok(())
-}
-
-/// Sees that no entry has this name; nothing is written.
-fn check_name<D: Sectors>(disk: &mut D, name: &[u8]) -> Result<(), ChangeFault>
-    requires sound { IsSound (D.history.image disk.old) }
-    requires name { length name.now ≤ 16 }
-    ensures { ChecksName D.history disk.old disk.new name.now result }
-{
-    let mut entries = ArrayVec::new();
-    list_entries(disk, &mut entries)?;
-    refuse_taken(entries.as_slice(), &padded_name(name))
-}
-
-/// Chooses what a new file of this name and number of sectors takes, or refuses it; nothing is written.
-fn choose_site<D: Sectors>(disk: &mut D, name: &[u8], count: usize) -> Result<PutSite, ChangeFault>
-    requires clean { IsClean (D.history.image disk.old) }
-    requires name { length name.now ≤ 16 }
-    ensures { ChoosesSite D.history disk.old disk.new name.now count result }
-{
-    check_name(disk, name)?;
-    let Ok(room) = read_room(disk) else {
-        return Err(ChangeFault::Device);
-    };
-    let Ok(map) = Bam::read(disk) else {
-        return Err(ChangeFault::Device);
-    };
-    let Some(site) = take_site(map, room, count) else {
-        return Err(ChangeFault::Full);
-    };
-    Ok(site)
 }
 
 /// The data that a new file gets.
@@ -93,7 +56,10 @@ pub fn put_file<D: Sectors>(
     ensures { Puts D.history disk.old disk.new name.now kind content.now result }
 {
     let content = stored(content);
-    let site = choose_site(disk, name, (content.len() + 253) / 254)?;
+    let site = match choose_site(disk, name, (content.len() + 253) / 254) {
+        Ok(site) => site,
+        Err(fault) => return Err(fault_of(fault)),
+    };
     match write_file(disk, &site, name, kind, content) {
         Ok(()) => Ok(()),
         Err(_) => Err(ChangeFault::Device),

@@ -4,7 +4,6 @@ use Rattle.std.specs.Prelude.{Result, Some, length, slice_get}
 use Rattle.d64_image.specs.History.{Changes, History, OnlyReads, TellsFailure, WritesNothing}
 use Rattle.d64_image.specs.Images.{Image, Sector, sector}
 use Rattle.d64_image.specs.declared.faults.DeviceFault.{DeviceFault}
-use Rattle.d64_image.specs.declared.place.Place.{Place}
 use Rattle.disk_layout.specs.Clean.{IsClean}
 use Rattle.disk_layout.specs.Directory.{map_place}
 use Rattle.disk_layout.specs.Layout.{File, IsLayout, Layout, record_length}
@@ -16,8 +15,8 @@ use Rattle.rel_records.specs.File.{IsFileOf, IsOf, OfItsFile, blocks_of, entry_o
 use Rattle.rel_records.specs.Others.{KeepsRelFiles, LeavesRecords}
 use Rattle.rel_records.specs.Written.{IsAbsent, IsDone, IsGrowingBy, IsGrowingTo, IsInOneBlock, IsRecord, IsWriting}
 use Rattle.rel_records.specs.Written.{grown_to, touched, with_written}
-use Rattle.rel_records.specs.creation.Made.{HasNoRoom, IsCreating, IsMade, IsTakenName, StaysOf, creation_writes}
-use Rattle.rel_records.specs.creation.Site.{HasFileAt}
+use Rattle.rel_records.specs.creation.Made.{HasNoRoomFor, IsCreating, IsMade, IsTakenName, StaysOf, creation_writes}
+use Rattle.rel_records.specs.creation.Site.{HasFileAt, IsSite}
 use Rattle.rel_records.specs.declared.creation.site.Site.{Site}
 use Rattle.rel_records.specs.declared.faults.RelFault.{RelFault}
 use Rattle.rel_records.specs.declared.faults.RelFault.TheVariants.{Device, Exists, Full, NotFound, NotPresent, Overflow}
@@ -181,33 +180,32 @@ pub record GrowsBy {D : Type 0} (S : History D) (old new : D) (l : Layout) (n : 
   pub ok : OnOk result done
   pub moments : Changes S old new most (IsGrowingBy (S.image old) l n f more)
 
--- A file of this name was made as the site has it, with its entry in the directory sector at p.
+-- A file of this name was made as the site has it.
 pub record MakesFile {D : Type 0} (S : History D) (old new : D) (l : Layout) (name : List ℕ) (size : ℕ) (s : Site)
-    (p : Place) (most : ℕ)
     (result : Result (Unit {0}) DeviceFault) : Type 0 where
-  pub ok : OnOk result (HasFileAt (S.image old) l name size s p (S.image new))
-  pub moments : Changes S old new most (IsCreating (S.image old) l name size)
+  pub ok : OnOk result (HasFileAt (S.image old) l name size s (S.image new))
+  pub moments : Changes S old new (creation_writes l) (IsCreating (S.image old) l name size)
 
--- A new file of this name is refused for a cause, each exactly, or isn't.
-pub record RefusesName {T : Type 0} (img : Image) (l : Layout) (name : List ℕ) (result : Result T RelFault) : Type 0
-  where
-    pub exists : IfErr result (λ e. e ≡ Exists → IsTakenName l name)
-    pub full : IfErr result (λ e. e ≡ Full → HasNoRoom img l × ¬ (IsTakenName l name))
-    pub fits : OnOk result (¬ (HasNoRoom img l) × ¬ (IsTakenName l name))
+-- A new file of this name, which takes n sectors, is refused for a cause, each exactly, or isn't.
+pub record RefusesName {T : Type 0} (img : Image) (l : Layout) (name : List ℕ) (n : ℕ) (result : Result T RelFault)
+    : Type 0 where
+  pub exists : IfErr result (λ e. e ≡ Exists → IsTakenName l name)
+  pub full : IfErr result (λ e. e ≡ Full → HasNoRoomFor img l n × ¬ (IsTakenName l name))
+  pub fits : OnOk result (¬ (HasNoRoomFor img l n) × ¬ (IsTakenName l name))
 
 -- A refusal writes nothing: three times the eighteen sectors of the directory are read, and the map.
-pub record Refuses {D T : Type 0} (S : History D) (old new : D) (name : List ℕ) (result : Result T RelFault) : Type 0
-  where
-    pub layout : (l : Layout) → IsLayout (S.image old) l → RefusesName (S.image old) l name result
-    pub told : IfErr result (λ e. (e ≡ Exists) ⊎ ((e ≡ Full) ⊎ (e ≡ Device)))
-    pub refused : IfErr result (λ e. e ≢ Device → OnlyReads S old new 55)
-    pub failures : TellsRelFault S old new result
+pub record Refuses {D T : Type 0} (S : History D) (old new : D) (name : List ℕ) (n : ℕ) (result : Result T RelFault)
+    : Type 0 where
+  pub layout : (l : Layout) → IsLayout (S.image old) l → RefusesName (S.image old) l name n result
+  pub told : IfErr result (λ e. (e ≡ Exists) ⊎ ((e ≡ Full) ⊎ (e ≡ Device)))
+  pub refused : IfErr result (λ e. e ≢ Device → OnlyReads S old new 55)
+  pub failures : TellsRelFault S old new result
 
 -- What a new file takes was chosen, or it was refused; nothing was written.
-pub record Chooses {D T : Type 0} (S : History D) (old new : D) (name : List ℕ) (result : Result T RelFault)
-    (Is : Layout → T → Type 0) : Type 0 where
-  pub ok : (l : Layout) → IsLayout (S.image old) l → IfOk result (Is l)
-  pub refuses : Refuses S old new name result
+pub record Chooses {D : Type 0} (S : History D) (old new : D) (name : List ℕ) (n : ℕ) (result : Result Site RelFault)
+    : Type 0 where
+  pub ok : (l : Layout) → IsLayout (S.image old) l → IfOk result (IsSite (S.image old) l n)
+  pub refuses : Refuses S old new name n result
   pub quiet : WritesNothing S old new
   pub reads : OnOk result (S.reads new ≤ S.reads old + 55)
 
@@ -222,7 +220,7 @@ pub record CreatesFile {D : Type 0} (S : History D) (old new : D) (l : Layout) (
 pub record Creates {D : Type 0} (S : History D) (old new : D) (name : List ℕ) (size : ℕ)
     (result : Result RelFile RelFault) : Type 0 where
   pub layout : (l : Layout) → IsLayout (S.image old) l → CreatesFile S old new l name size result
-  pub refuses : Refuses S old new name result
+  pub refuses : Refuses S old new name 2 result
   -- as many as a refusal reads
   pub reads : OnOk result (S.reads new ≤ S.reads old + 55)
   -- what is kept in memory of any file stays right

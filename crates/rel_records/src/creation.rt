@@ -1,26 +1,22 @@
 //! Creation of a relative file.
-ghost use Rattle.std.specs.Prelude.{◌≡◌, ◌≤◌, IfErr, IfOk, MatchOption, OnOk, length};
+ghost use Rattle.std.specs.Prelude.{◌≡◌, ◌≤◌, IfErr, IfOk, OnOk, length};
 ghost use Rattle.d64_image.specs.History.{OnlyReads, WritesNothing};
-ghost use Rattle.d64_image.specs.Images.{Image, sector};
-ghost use Rattle.disk_layout.specs.Clean.{IsClean, IsCleanLayout};
-ghost use Rattle.disk_layout.specs.Directory.{map_place};
+ghost use Rattle.disk_layout.specs.Clean.{IsClean};
 ghost use Rattle.disk_layout.specs.Layout.{IsLayout, IsSound, Layout};
 ghost use Rattle.rel_records.specs.Calls.{Chooses, Creates};
 ghost use Rattle.rel_records.specs.Faults.{TellsRelFault};
 ghost use Rattle.rel_records.specs.File.{IsLength};
-ghost use Rattle.rel_records.specs.creation.Made.{HasNoRoom};
-ghost use Rattle.rel_records.specs.creation.Site.{IsFileAt, IsRoomOf, IsSite};
+ghost use Rattle.rel_records.specs.creation.Site.{IsFileAt, IsRoomOf};
 ghost use Rattle.rel_records.specs.declared.faults.RelFault.TheVariants.{Device};
 
 pub(crate) mod directory_room;
 pub(crate) mod new_file;
-mod site;
+pub(crate) mod site;
 
 use crate::creation::directory_room::{Room, find_room, has_name};
 use crate::creation::new_file::write_file;
-use crate::creation::site::Site;
+use crate::creation::site::{Site, take_site};
 use crate::faults::RelFault;
-use crate::growth::next_block::take_next;
 use crate::reading::finding::list_slots;
 use crate::rel_file::RelFile;
 use crate::sizes::last_index;
@@ -30,7 +26,7 @@ use disk_layout::{Bam, directory_start, padded_name, walk_chain};
 
 /// Finds the directory's room for an entry on a sound disk. `Device` if the device failed, the only error. Nothing is
 /// written.
-pub fn read_room<D: Sectors>(disk: &mut D) -> Result<Room, RelFault>
+fn read_room<D: Sectors>(disk: &mut D) -> Result<Room, RelFault>
     requires sound { IsSound (D.history.image disk.old) }
     ensures ok { (l : Layout) → IsLayout (D.history.image disk.old) l
         → IfOk result (IsRoomOf (D.history.image disk.old) l) }
@@ -50,59 +46,14 @@ pub fn read_room<D: Sectors>(disk: &mut D) -> Result<Room, RelFault>
     Ok(room)
 }
 
-/// Takes a new file's sectors in the map of a clean disk: two for the file, and a third for the directory if it is
-/// full. None if they aren't free.
-fn take_site(mut map: Bam, room: Room) -> Option<Site>
-    requires of { (img : Image) × (l : Layout) × IsCleanLayout img l × (map.bytes ≡ sector img map_place)
-        × IsRoomOf img l room }
-    ensures { (img : Image) → (l : Layout) → IsCleanLayout img l → map.bytes ≡ sector img map_place
-        → IsRoomOf img l room
-        → MatchOption result (HasNoRoom img l) (λ site. IsSite img l site × ¬ (HasNoRoom img l)) }
-{
-    if map.view().blocks_free() < 2 {
-        return None;
-    }
-    let block = take_next(&mut map);
-    let side = take_next(&mut map);
-    let Room {
-        place,
-        bytes,
-        before,
-        number,
-    } = room;
-    match number {
-        Some(number) => Some(Site {
-            map,
-            block,
-            side,
-            place,
-            bytes,
-            fresh: None,
-            number,
-            entry: 8 * before + number as usize,
-        }),
-        None => {
-            let fresh = map.pick_directory()?;
-            map.take(fresh);
-            Some(Site {
-                map,
-                block,
-                side,
-                place,
-                bytes,
-                fresh: Some(fresh),
-                number: 0,
-                entry: 8 * (before + 1),
-            })
-        }
-    }
-}
-
-/// Chooses what a new file of this name takes, or refuses it; nothing is written.
-fn choose_site<D: Sectors>(disk: &mut D, name: &[u8]) -> Result<Site, RelFault>
+/// Chooses what a new file of this name takes of a clean disk: this number of sectors, and an entry's slot. `Exists` if an
+/// entry has the name, of whatever type; otherwise `Full` if fewer blocks are free, or if the directory has neither a free
+/// slot nor a free sector; `Device` if the device failed. Nothing is written. At most fifty-five sectors are read, unless
+/// the device fails.
+pub fn choose_site<D: Sectors>(disk: &mut D, name: &[u8], count: usize) -> Result<Site, RelFault>
     requires clean { IsClean (D.history.image disk.old) }
     requires name { length name.now ≤ 16 }
-    ensures { Chooses D.history disk.old disk.new name.now result (IsSite (D.history.image disk.old)) }
+    ensures { Chooses D.history disk.old disk.new name.now count result }
 {
     let mut used = ArrayVec::new();
     list_slots(disk, &mut used)?;
@@ -113,7 +64,7 @@ fn choose_site<D: Sectors>(disk: &mut D, name: &[u8]) -> Result<Site, RelFault>
     let Ok(map) = Bam::read(disk) else {
         return Err(RelFault::Device);
     };
-    let Some(site) = take_site(map, room) else {
+    let Some(site) = take_site(map, room, count) else {
         return Err(RelFault::Full);
     };
     Ok(site)
@@ -121,11 +72,12 @@ fn choose_site<D: Sectors>(disk: &mut D, name: &[u8]) -> Result<Site, RelFault>
 
 /// The new file, as its site has it.
 fn file_at(site: &Site, size: u8) -> RelFile
-    requires { IsLength size }
+    requires size { IsLength size }
+    requires two { length site.now.blocks.items ≡ 2 }
     ensures { IsFileAt size site.now result }
 {
     let mut sides = ArrayVec::new();
-    sides.push(site.side);
+    sides.push(site.blocks[1]);
     RelFile {
         entry: site.entry,
         sector: site.fresh.unwrap_or(site.place),
@@ -155,7 +107,7 @@ pub fn create<D: Sectors>(disk: &mut D, name: &[u8], size: u8) -> Result<RelFile
     requires high { size ≤ 254 }
     ensures { Creates D.history disk.old disk.new name.now size result }
 {
-    let site = choose_site(disk, name)?;
+    let site = choose_site(disk, name, 2)?;
     let Ok(()) = write_file(disk, &site, name, size) else {
         return Err(RelFault::Device);
     };

@@ -14,13 +14,13 @@ mod growth;
 mod creation;
 
 pub use creation::create;
-// What a new file of any type takes: a slot of the directory, and sectors of the map.
-pub use creation::directory_room::Room;
-pub use creation::new_file::{directory_with, link_to, put_entry};
-pub use creation::read_room;
+// What a new file of any type takes, and the write of its entry, which makes it.
+pub use creation::choose_site;
+pub use creation::directory_room::has_padded_name;
+pub use creation::new_file::write_entry;
+pub use creation::site::Site;
 pub use faults::RelFault;
 pub use growth::grow_to;
-pub use growth::next_block::take_next;
 pub use reading::counting::{has_records, records};
 pub use reading::finding::find;
 pub use reading::parts::record_parts;

@@ -75,10 +75,14 @@ creation_writes l = if nat_lt (length l.files) (8 * length l.directory) then 4 e
 abbrev pub IsTakenName : Layout → List ℕ → Type 0
 IsTakenName l name = (f : File) × Contains l.files f × (slice_range f.slot.bytes 5 21 ≡ slot_name name)
 
--- there is no room: fewer than two free blocks, or neither a free slot nor a free sector for the directory
-abbrev pub HasNoRoom : Image → Layout → Type 0
-HasNoRoom img l = (blocks_free (sector img map_place) < 2)
+-- there is no room: fewer than n free blocks, or neither a free slot nor a free sector for the directory
+abbrev pub HasNoRoomFor : Image → Layout → ℕ → Type 0
+HasNoRoomFor img l n = (blocks_free (sector img map_place) < n)
     ⊎ (AreFullSectors img l.directory × IsFullTrack (sector img map_place) 18)
+
+-- for a relative file, which takes two
+abbrev pub HasNoRoom : Image → Layout → Type 0
+HasNoRoom img l = HasNoRoomFor img l 2
 
 -- what a creation that is done leaves: one file more, and v is of that file
 pub record IsMade (old : Image) (l : Layout) (name : List ℕ) (L : ℕ) (new : Image) (v : RelFile) : Type 0 where

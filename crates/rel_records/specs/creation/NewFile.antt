@@ -1,13 +1,9 @@
 -- A new file's sectors, and its entry. Our own.
-use Rattle.std.specs.Prelude.{ℕ, ◌≡◌, ◌≢◌, ◌⊎◌, ◌+◌, ◌*◌, ◌<◌, ◌≤◌, ◌∷◌, [], List, Contains, drop, length, slice_index}
-use Rattle.std.specs.Prelude.{slice_range, take}
+use Rattle.std.specs.Prelude.{ℕ, ◌≡◌, ◌≢◌, ◌⊎◌, ◌+◌, ◌*◌, ◌<◌, ◌≤◌, ◌∷◌, [], List, Contains, length, slice_index, slice_range}
 use Rattle.d64_image.specs.Images.{Image, Sector, sector}
 use Rattle.d64_image.specs.declared.place.Place.{Place}
 use Rattle.disk_layout.specs.Chain.{Names}
-use Rattle.disk_layout.specs.Clean.{IsCleanLayout}
 use Rattle.disk_layout.specs.Directory.{map_place}
-use Rattle.disk_layout.specs.Layout.{Layout, owners}
-use Rattle.disk_layout.specs.Map.{IsMapOf}
 use Rattle.disk_layout.specs.Side.{side_sector}
 use Rattle.rel_records.specs.growth.Next.{IsFresh}
 
@@ -21,12 +17,6 @@ pub record AreApart (p q : Place) : Type 0 where
   pub block : p ≢ map_place
   pub side : q ≢ map_place
   pub apart : p ≢ q
-
--- a third one, for the directory
-pub record IsBeside (r p q : Place) : Type 0 where
-  pub fresh : r ≢ map_place
-  pub fresh_block : r ≢ p
-  pub fresh_side : r ≢ q
 
 -- the map is the new one, and these are the data block and the side sector of a file of one block of empty records
 pub record HasNewSectors (new_map : Sector) (block side : Place) (L : ℕ) (c : Image) : Type 0 where
@@ -57,25 +47,3 @@ pub record IsLinkedTo (old new : Sector) (p : Place) : Type 0 where
   pub long : length new ≡ 256
   pub link : Names new 0 p
   pub rest : (i : ℕ) → 2 ≤ i → slice_index new i ≡ slice_index old i
-
--- the image at the start is clean, and in its map two sectors that nobody owned are taken
-pub record IsTakenFor (a : Image) (l : Layout) (new_map : Sector) (block side : Place) : Type 0 where
-  pub clean : IsCleanLayout a l
-  pub no_block : ¬ (Contains (map_place ∷ owners l) block)
-  pub no_side : ¬ (Contains (map_place ∷ owners l) side)
-  pub apart : side ≢ block
-  pub header : (take 4 new_map ≡ take 4 (sector a map_place)) × (drop 144 new_map ≡ drop 144 (sector a map_place))
-  pub map : IsMapOf new_map (side ∷ block ∷ map_place ∷ owners l)
-
--- and a third sector that nobody owned, on track 18, is taken for the directory
-pub record IsTakenForDirectory (a : Image) (l : Layout) (new_map : Sector) (block side fresh : Place) : Type 0 where
-  pub clean : IsCleanLayout a l
-  pub no_block : ¬ (Contains (map_place ∷ owners l) block)
-  pub no_side : ¬ (Contains (map_place ∷ owners l) side)
-  pub no_fresh : ¬ (Contains (map_place ∷ owners l) fresh)
-  pub apart : side ≢ block
-  pub apart_block : fresh ≢ block
-  pub apart_side : fresh ≢ side
-  pub on_18 : fresh.track ≡ 18
-  pub header : (take 4 new_map ≡ take 4 (sector a map_place)) × (drop 144 new_map ≡ drop 144 (sector a map_place))
-  pub map : IsMapOf new_map (fresh ∷ side ∷ block ∷ map_place ∷ owners l)

@@ -25,15 +25,15 @@ use disk_layout::{EntryView, Slot};
 /// directory sector that is written last for it, with its bytes and the number of sectors before it: the one of that
 /// slot, or the directory's last.
 #[derive(Drop)]
-pub struct Room {
+pub(crate) struct Room {
     /// The directory sector that is written last for the entry.
-    pub place: Place,
+    pub(crate) place: Place,
     /// Its bytes.
-    pub bytes: [u8; 256],
+    pub(crate) bytes: [u8; 256],
     /// The number of directory sectors before it.
-    pub before: usize,
+    pub(crate) before: usize,
     /// The number of the first free slot, from 0 to 7. None if all slots of the directory are used.
-    pub number: Option<u8>,
+    pub(crate) number: Option<u8>,
 }
 
 /// The number of a directory sector's first free slot.
@@ -80,8 +80,8 @@ pub(crate) fn find_room<D: Sectors>(disk: &mut D, places: &[Place]) -> Result<Ro
     })
 }
 
-/// Whether the entry has the name.
-pub(crate) fn has_padded_name(slot: &Slot, padded: &[u8; 16]) -> bool
+/// Whether the entry has the name: its sixteen bytes are these.
+pub fn has_padded_name(slot: &Slot, padded: &[u8; 16]) -> bool
     ensures { IsTrue result ↔ (slice_range slot.now.bytes 5 21 ≡ padded.now) }
 {
     EntryView::new(&slot.bytes).has_padded_name(padded)

@@ -15,7 +15,7 @@ use d64_image::Place;
 use disk_layout::{Bam, POINTERS, fill, put_count};
 
 /// Takes the next free sector for data: the one that `Bam::pick` names. At least one is free off track 18.
-pub fn take_next(map: &mut Bam) -> Place
+pub(crate) fn take_next(map: &mut Bam) -> Place
     requires some { 0 < blocks_free map.old.bytes }
     requires map { (owned : List Place) × IsMapOf map.old.bytes owned }
     ensures { TakesNext map.old.bytes map.new.bytes result }

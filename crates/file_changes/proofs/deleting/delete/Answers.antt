@@ -3,9 +3,6 @@ use Rattle.std.proofs.Common.{arith}
 use Rattle.file_changes.proofs.DeleteCalls.{deletable-low, deletes-done, deletes-failed, unwritten}
 use Rattle.file_changes.proofs.deleting.delete.Goals as goal
 
-pub find_deletable-requires-clause-sound : goal.find_deletable-requires-clause-sound
-find_deletable-requires-clause-sound g c = let (l, clean) = c.requires.clean in (l, clean.layout)
-
 pub patch_sector-requires : goal.patch_sector-requires
 patch_sector-requires g c =
     let (l, clean) = c.requires.clean in

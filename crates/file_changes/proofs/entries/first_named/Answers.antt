@@ -1,8 +1,8 @@
 -- Entry by entry: none has the name yet, or this one is the first.
-use Rattle.std.proofs.Common.{arith, length, refl, subst, sym, ◌∙◌}
+use Rattle.std.proofs.Common.{length, refl, subst, sym, ◌∙◌}
 use borrow.Author.Count.{below_more}
 use Rattle.std.proofs.lemmas.Bool.{false≢true}
-use Rattle.std.proofs.lemmas.Option.{slice_get_read, slice_get_within}
+use Rattle.std.proofs.lemmas.Option.{slice_get_read}
 use Rattle.disk_layout.specs.declared.slot.Slot.{Slot}
 use Rattle.rel_records.proofs.lemmas.reading.Found.{same-slot}
 use Rattle.file_changes.specs.Entries.{HasName}
@@ -15,21 +15,17 @@ loop-number-preserved c =
     record {
       none = below_more _ _ c.loop-number.invariant.none (λ s at named.
           let P : Slot → Type 0 = λ x. HasName c.args.padded.now x in
-          false≢true (sym c.if-has_name.false ∙ c.has_name.ensures.1 (subst P (sym (same-slot c.args.entries.now
+          false≢true (sym c.if-has_padded_name.false ∙ c.has_padded_name.ensures.1 (subst P (sym (same-slot c.args.entries.now
           c.loop-number.number c.index-entries-number.result s there at)) named)));
     }
 
-pub returns-then-has_name : goal.returns-then-has_name
-returns-then-has_name c = (
+pub returns-then-has_padded_name : goal.returns-then-has_padded_name
+returns-then-has_padded_name c = (
   c.index-entries-number.result,
   record {
     there = slice_get_read c.args.entries.now (length c.args.entries.now) c.loop-number.number
         c.index-entries-number.result refl c.loop-number-test.true c.index-entries-number.is;
-    named = c.has_name.ensures.0 c.if-has_name.true;
+    named = c.has_padded_name.ensures.0 c.if-has_padded_name.true;
     first = λ k s lt at. c.loop-number.invariant.none k lt s at;
   },
 )
-
-pub returns : goal.returns
-returns c = λ k s at. c.loop-number.invariant.none k
-    (omega (arith, c.loop-number-test.false, slice_get_within c.args.entries.now k s at)) s at

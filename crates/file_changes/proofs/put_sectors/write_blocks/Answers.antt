@@ -7,7 +7,7 @@ use Rattle.disk_layout.proofs.lemmas.layouts.Layouts.{get-contains}
 use Rattle.rel_records.proofs.lemmas.Told.{not-done, tells-failed}
 use Rattle.rel_records.proofs.lemmas.steps.Sided.{get-there}
 use Rattle.file_changes.proofs.Chained.{IsWrittenFrom, beside-more, from-more, from-none}
-use Rattle.file_changes.specs.PutSites.{SameBeside}
+use Rattle.file_changes.specs.PutWrites.{SameBeside}
 use Rattle.file_changes.proofs.put_sectors.write_blocks.Goals as goal
 
 pub loop-written-init : goal.loop-written-init
@@ -22,13 +22,6 @@ loop-written-init g c =
       reads = omega arith;
       failures = refl;
     }
-
-pub write_block-requires-clause-block : goal.write_block-requires-clause-block
-write_block-requires-clause-block g c = omega (arith, c.loop-written-test.true)
-
-pub write_block-requires-clause-content : goal.write_block-requires-clause-content
-write_block-requires-clause-content g c =
-    omega (arith, c.loop-written-test.true, c.requires.count.low)
 
 pub returns-in_err-write_block : goal.returns-in_err-write_block
 returns-in_err-write_block g c =

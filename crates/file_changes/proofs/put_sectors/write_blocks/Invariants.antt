@@ -1,7 +1,7 @@
 use Rattle.std.proofs.Common.{◌≡◌, ◌≤◌, ◌-◌, length}
 use Rattle.d64_image.specs.History.{Changes}
 use Rattle.file_changes.proofs.Chained.{IsWrittenFrom}
-use Rattle.file_changes.specs.PutSites.{SameBeside}
+use Rattle.file_changes.specs.PutWrites.{SameBeside}
 use Rattle.file_changes.proofs.put_sectors.write_blocks.Given as goal
 
 abbrev pub invariant-loop-written : goal.invariant-loop-written

@@ -9,25 +9,17 @@ use Rattle.rel_records.proofs.lemmas.Told.{exists-not-full, full-not-exists, tel
 use Rattle.rel_records.proofs.lemmas.creation.TakenNames.{no-site, not-taken, room-still, taken-slot}
 use Rattle.rel_records.proofs.lemmas.writing.Puts.{passes}
 use Rattle.rel_records.specs.Calls.{Chooses}
-use Rattle.rel_records.specs.creation.Site.{IsSite}
 use Rattle.rel_records.specs.declared.creation.site.Site.{Site}
 use Rattle.rel_records.proofs.creation.choose_site.Goals as goal
-
-pub list_slots-requires : goal.list_slots-requires
-list_slots-requires g c = record { sound = let (l, clean) = c.requires.clean in (l, clean.layout) }
 
 pub returns-in_err-list_slots : goal.returns-in_err-list_slots
 returns-in_err-list_slots g c =
     let S = g.D.Sectors.history in
     let d = c.args.disk.now in
-    let Is = IsSite (S.image d) in
-    passes (λ r. Chooses S d c.list_slots.new.disk c.args.name.now r Is) c.from_residual.result _
+    passes (Chooses S d c.list_slots.new.disk c.args.name.now c.args.count) c.from_residual.result _
     c.from_residual.ensures.1
-    (no-site {T = Site} S d c.list_slots.new.disk c.args.name.now _ Is c.in_err-list_slots.ensures.err
+    (no-site S d c.list_slots.new.disk c.args.name.now c.args.count _ c.in_err-list_slots.ensures.err
     (reads_no_write S d c.list_slots.new.disk 18 c.list_slots.ensures.reads) c.in_err-list_slots.ensures.failures)
-
-pub padded_name-requires : goal.padded_name-requires
-padded_name-requires g c = c.requires.name
 
 pub returns-then-has_name : goal.returns-then-has_name
 returns-then-has_name g c =
@@ -61,17 +53,16 @@ pub returns-in_err-room : goal.returns-in_err-room
 returns-in_err-room g c =
     let S = g.D.Sectors.history in
     let d = c.args.disk.now in
-    let Is = IsSite (S.image d) in
-    passes (λ r. Chooses S d c.read_room.new.disk c.args.name.now r Is) c.from_residual-in_err-room.result _
+    passes (Chooses S d c.read_room.new.disk c.args.name.now c.args.count) c.from_residual-in_err-room.result _
     c.from_residual-in_err-room.ensures.1
-    (no-site {T = Site} S d c.read_room.new.disk c.args.name.now _ Is c.in_err-room.ensures.err
+    (no-site S d c.read_room.new.disk c.args.name.now c.args.count _ c.in_err-room.ensures.err
     (no_write_then S _ _ _ (reads_no_write S _ _ 18 c.list_slots.ensures.reads) c.read_room.ensures.quiet)
     (tells-rel-after S _ _ _ c.in_ok-list_slots.ensures.failures {T = Site} (Err _) c.in_err-room.ensures.failures))
 
 pub returns-in_default : goal.returns-in_default
 returns-in_default g c =
     let S = g.D.Sectors.history in
-    no-site {T = Site} S c.args.disk.now c.read.new.disk c.args.name.now _ (IsSite (S.image c.args.disk.now)) refl
+    no-site S c.args.disk.now c.read.new.disk c.args.name.now c.args.count _ refl
     (no_write_then S _ _ _ (reads_no_write S _ _ 18 c.list_slots.ensures.reads)
     (no_write_then S _ _ _ c.read_room.ensures.quiet (reads_no_write S _ _ 1 c.read.ensures.reads)))
     (failed_later S _ _ _ (c.in_ok-room.ensures.failures ∙ c.in_ok-list_slots.ensures.failures)

@@ -1,6 +1,6 @@
 -- The directory's sectors, and the first free slot in them.
-use Rattle.std.proofs.Common.{arith, length, subst, sym, ap, ℕ, List, ◌≤◌, refl, ◌∙◌}
-use Rattle.d64_image.proofs.Moments.{no_write_then, reads_no_write, reads_then, failed_later}
+use Rattle.std.proofs.Common.{arith, length, subst, sym, ap, ℕ, List, ◌≤◌}
+use Rattle.d64_image.proofs.Moments.{no_write_then, reads_no_write, reads_then}
 use Rattle.d64_image.specs.declared.place.Place.{Place}
 use Rattle.disk_layout.specs.Chain.{IsChain}
 use Rattle.disk_layout.specs.Directory.{directory_start}
@@ -8,11 +8,7 @@ use Rattle.disk_layout.specs.Fault.{HoldsOfChain}
 use Rattle.disk_layout.proofs.lemmas.chains.Directories.{few-sectors}
 use Rattle.rel_records.proofs.lemmas.creation.TakenNames.{room-of, walked}
 use Rattle.rel_records.proofs.lemmas.reading.Found.{chain-failed}
-use Rattle.std.proofs.lemmas.List.{length_push}
 use Rattle.rel_records.proofs.creation.read_room.Goals as goal
-
-pub returns-in_default-clause-quiet : goal.returns-in_default-clause-quiet
-returns-in_default-clause-quiet g c = reads_no_write g.D.Sectors.history _ _ _ c.in_default.ensures.reads
 
 pub returns-in_default-clause-failures : goal.returns-in_default-clause-failures
 returns-in_default-clause-failures g c =
@@ -62,36 +58,3 @@ returns-clause-quiet g c =
     let S = g.D.Sectors.history in
     no_write_then S _ _ _ (reads_no_write S _ _ _ c.in-Ok.ensures.reads)
     (reads_no_write S _ _ _ c.in-Ok-find_room.ensures.reads)
-
-pub returns-in_default-clause-ok : goal.returns-in_default-clause-ok
-returns-in_default-clause-ok g c l h = tt
-
-pub returns-in_default-clause-err : goal.returns-in_default-clause-err
-returns-in_default-clause-err g c = refl
-
-pub returns-in_default-clause-reads : goal.returns-in_default-clause-reads
-returns-in_default-clause-reads g c = tt
-
-pub returns-in_default-find_room-clause-ok : goal.returns-in_default-find_room-clause-ok
-returns-in_default-find_room-clause-ok g c l h = tt
-
-pub returns-in_default-find_room-clause-err : goal.returns-in_default-find_room-clause-err
-returns-in_default-find_room-clause-err g c = refl
-
-pub returns-in_default-find_room-clause-reads : goal.returns-in_default-find_room-clause-reads
-returns-in_default-find_room-clause-reads g c = tt
-
-pub returns-in_default-find_room-clause-failures : goal.returns-in_default-find_room-clause-failures
-returns-in_default-find_room-clause-failures g c = failed_later g.D.Sectors.history _ _ _ c.in-Ok.ensures.failures
-    c.in_default-find_room.ensures.failures
-
-pub returns-clause-err : goal.returns-clause-err
-returns-clause-err g c = tt
-
-pub returns-clause-failures : goal.returns-clause-failures
-returns-clause-failures g c = c.in-Ok-find_room.ensures.failures ∙ c.in-Ok.ensures.failures
-
-pub find_room-requires : goal.find_room-requires
-find_room-requires g c =
-    let chain = c.in-Ok.ensures.chain in
-    omega (arith, ap length c.as_slice.ensures.value, ap length chain.places, length_push chain.front chain.last)

@@ -108,10 +108,3 @@ returns-clause-file g c l n f at up =
       moments = changes_weaker S _ _ _ _ _ _ (omega (arith, ap (run_writes (length f.blocks)) e)) (λ i h. h)
           (c.loop-count.invariant.changes l n f at up);
     }
-
-pub returns-in_err-add_block-clause-reads : goal.returns-in_err-add_block-clause-reads
-returns-in_err-add_block-clause-reads g c = omega
-    (arith, c.in_err-add_block.ensures.reads, c.loop-count.invariant.reads)
-
-pub returns-clause-reads : goal.returns-clause-reads
-returns-clause-reads g c = c.loop-count.invariant.reads

@@ -1,36 +1,29 @@
 -- The entry stands in a new directory sector: the write that links it makes the file.
-use Rattle.std.proofs.Common.{◌≡◌, ◌≢◌, ℕ, ◌+◌, ◌<◌, inl, inr, IsTrue, true, false, List, [], ◌∷◌, ◌++◌, map}
+use Rattle.std.proofs.Common.{◌≡◌, ◌≢◌, ℕ, ◌+◌, ◌<◌, inl, inr, true, false, List, [], ◌∷◌, ◌++◌, map}
 use Rattle.std.proofs.Common.{length}
 use Rattle.std.proofs.Common.{refl, sym, ◌∙◌, ap, subst, slice_index, append-nil, take, drop, get_or}
 use Rattle.std.specs.Prelude.{Contains, flat_map}
-use Rattle.std.specs.List.{AllByRecursion}
 use Rattle.std.proofs.lemmas.List.{drop-drop, get_or-drop}
 use Rattle.std.proofs.lemmas.List.Elements.{Contains-append_left, Contains-append_right}
 use Rattle.std.proofs.lemmas.List.Elements.{Contains-append_cases}
 use Rattle.d64_image.proofs.Images.{sector-put_other, sector-put_same}
 use Rattle.d64_image.specs.Images.{Image, Sector, put, sector}
 use Rattle.d64_image.specs.declared.place.Place.{Place}
-use Rattle.disk_layout.proofs.lemmas.chains.Chains.{AgreeAt, IsChain-grow, chain-front, chain-last}
+use Rattle.disk_layout.proofs.lemmas.chains.Chains.{IsChain-grow, chain-front, chain-last}
 use Rattle.disk_layout.proofs.lemmas.chains.Chains.{links-agree}
 use Rattle.disk_layout.proofs.lemmas.growth.Commit.{all-join, keeps-other}
-use Rattle.disk_layout.proofs.lemmas.layouts.Layouts.{get-contains}
 use Rattle.disk_layout.proofs.lemmas.layouts.Frames.{KeepsFiles, unless-same}
-use Rattle.disk_layout.proofs.lemmas.lists.Once.{Contains-cases, Contains-here, Contains-there, Contains-nil}
+use Rattle.disk_layout.proofs.lemmas.lists.Once.{Contains-cases, Contains-here, Contains-nil}
 use Rattle.disk_layout.proofs.lemmas.lists.Once.{EachOnce-apart, flat_map-in}
 use Rattle.disk_layout.proofs.lemmas.growth.LongerDirectory.{IsRelinked, slot-relinked, used_slots-relinked}
 use Rattle.disk_layout.proofs.lemmas.counts.Recount.{filter-out}
-use Rattle.disk_layout.proofs.lemmas.layouts.Agree.{owned-side}
-use Rattle.disk_layout.specs.Clean.{IsCleanLayout, IsExactFile}
-use Rattle.disk_layout.specs.Map.{IsMapOf}
-use Rattle.disk_layout.specs.Side.{side_sector}
 use Rattle.byteorder.specs.Endian.{little_number}
 use Rattle.disk_layout.proofs.lemmas.counts.Recounts.{map-map, reread, reslot, slot-of}
 use Rattle.disk_layout.specs.Chain.{EachOnce, IsChain, Names}
 use Rattle.disk_layout.specs.Directory.{IsDirectory, directory_start, is_used, map_place, slot_in, slots_in}
 use Rattle.disk_layout.specs.Directory.{used_slots}
-use Rattle.disk_layout.specs.Layout.{File, IsFile, IsLayout, Layout, count_field, file_owns, is_rel, is_rel_type}
+use Rattle.disk_layout.specs.Layout.{File, IsFile, IsLayout, Layout, count_field, file_owns}
 use Rattle.disk_layout.specs.Layout.{owners}
-use Rattle.disk_layout.specs.Layout.{record_length}
 use Rattle.disk_layout.specs.Same.{AddsFile}
 use Rattle.disk_layout.specs.declared.slot.Slot.{Slot}
 use Rattle.rel_records.proofs.lemmas.creation.Creating.{SameEntry, created-adds, created-layout, with_new}
@@ -184,61 +177,3 @@ module _ (c : Image) (l : Layout) (p : Place) (bytes : Sector) (full : length c 
           (ap (λ s. take 4 s ++ drop 144 s)
           (sector-put_other c p map_place bytes (λ e. h.directory.not_map (let P : Place
           → Type 0 = Contains l.directory in subst P e on))))
-
-      -- and where the image at the start was clean, and the map is that of the new owners, it is clean
-      module _ (clean : IsCleanLayout a l) (same : AgreeAt a c (owners l))
-          (exact : IsTrue (is_rel k.slot) → IsExactFile (put c p bytes) k)
-          (right : IsMapOf (sector c map_place) (map_place ∷ owners (record {
-            directory = l.directory ++ fresh ∷ [];
-            files = with_new (put c p bytes) l.files [] k;
-          })))
-        where
-          exact-still : (f : File) → Contains l.files f → (IsTrue (is_rel f.slot) → IsExactFile a f)
-              → IsTrue (is_rel (reslot (put c p bytes) f.slot)) → IsExactFile (put c p bytes) (reread (put c p bytes) f)
-          exact-still f d had t =
-              let kind = (entries f d).face.kind in
-              let was_rel : IsTrue (is_rel f.slot) = ap is_rel_type kind ∙ t in
-              let old = had was_rel in
-              let size : record_length (reslot (put c p bytes) f.slot) ≡ record_length f.slot =
-              sym (entries f d).face.length in
-              record {
-                sides = λ j q at.
-                    let own = get-contains f.sides j q at in
-                    let apart-p : p ≢ q = λ one. not_file (let Q : Place
-                    → Type 0 = Contains (flat_map file_owns l.files) in
-                    subst Q (sym one)
-                    (flat_map-in file_owns l.files f q d (Contains-append_right f.blocks f.sides q own))) in
-                    sector-put_other c p q bytes apart-p ∙ sym (same q (owned-side l f q d own)) ∙ old.sides j q at
-                    ∙ ap (side_sector j f.blocks f.sides) (sym size);
-                count = count-any l.directory f.slot (raw f.slot (slot-of c l f h d)) ∙ old.count;
-              }
-
-          exact-all : (fs : List File) → ((f : File) → Contains fs f → Contains l.files f)
-              → AllByRecursion (λ f. IsTrue (is_rel f.slot) → IsExactFile a f) fs
-              → AllByRecursion (λ f. IsTrue (is_rel f.slot) → IsExactFile (put c p bytes) f)
-              (map (reread (put c p bytes)) fs)
-          exact-all [] sub all = tt
-          exact-all (f ∷ fs) sub all = (
-            exact-still f (sub f (Contains-here f fs)) all.0,
-            exact-all fs (λ g e. sub g (Contains-there g f fs e)) all.1,
-          )
-
-          pub linked-clean : IsCleanLayout (put c p bytes) (record {
-            directory = l.directory ++ fresh ∷ [];
-            files = with_new (put c p bytes) l.files [] k;
-          })
-          linked-clean = record {
-            layout = linked-layout;
-            files = all-join (λ f. IsTrue (is_rel f.slot) → IsExactFile (put c p bytes) f)
-                (map (reread (put c p bytes)) l.files) (k ∷ [])
-                (exact-all l.files (λ f d. d) clean.files)
-                (exact, tt);
-            map =
-                let P : Sector → Type 0 =
-                λ x. IsMapOf x (map_place ∷ owners (record {
-                  directory = l.directory ++ fresh ∷ [];
-                  files = with_new (put c p bytes) l.files [] k;
-                })) in
-                subst P (sym (sector-put_other c p map_place bytes (λ e. h.directory.not_map (let Q : Place
-                → Type 0 = Contains l.directory in subst Q e on)))) right;
-          }

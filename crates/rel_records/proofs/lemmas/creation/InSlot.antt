@@ -25,7 +25,7 @@ use Rattle.rel_records.proofs.lemmas.creation.Unowned.{IsUnowned, once-with, own
 use Rattle.rel_records.proofs.lemmas.directory.NewSlots.{used_before, used_behind, used_slots-free, used_slots-new}
 use Rattle.rel_records.specs.creation.Made.{HasFilesOf}
 
-same-entry : (s t : Slot) → t ≡ s → SameEntry s t
+pub same-entry : (s t : Slot) → t ≡ s → SameEntry s t
 same-entry s t e = record {
   face = record {
     kind = ap (λ x. slice_index x.bytes 2) (sym e);
@@ -39,6 +39,20 @@ same-entry s t e = record {
   number_same = ap (λ x. x.number) e;
   entry = ap (λ x. slice_range x.bytes 2 30) e;
 }
+
+-- a sector whose first two bytes stay
+pub put-links : (c : Image) (p : Place) (bytes : Sector) → length c ≡ 683
+    → (slice_index (sector c p) 0 ≡ slice_index bytes 0) × (slice_index (sector c p) 1 ≡ slice_index bytes 1)
+    → (ps : List Place) → SameLinks c (put c p bytes) ps
+put-links c p bytes full links ps q d = elim (same_or_other p q) [
+  | inl e ↦
+      let there = sector-put_same c p bytes full in
+      subst (λ x. SameLink c (put c p bytes) x) e
+      (links.0 ∙ ap (λ x. slice_index x 0) (sym there), links.1 ∙ ap (λ x. slice_index x 1) (sym there))
+  | inr off ↦
+      let same = unless-same c p q bytes off in
+      (ap (λ x. slice_index x 0) same, ap (λ x. slice_index x 1) same)
+]
 
 -- one write puts an entry into slot n, which was free, and changes no other slot: c is the image before it, a the one
 -- at the start, p the directory sector, and `bytes` what it gets. k is the file of the entry, of whatever type
@@ -110,16 +124,6 @@ module _ {a c : Image} {l : Layout} {front back : List Place} {p : Place} {n : �
   unfolding owners
   not_file d = EachOnce-apart l.directory (flat_map file_owns l.files) layout.once.1 p on d
 
-  same-links : SameLinks c (put c p bytes) l.directory
-  same-links q d = elim (same_or_other p q) [
-    | inl e ↦ let P : Place → Type 0 = λ x. SameLink c (put c p bytes) x in
-        subst P e (links.0 ∙ ap (λ x. slice_index x 0) (sym there), links.1 ∙ ap (λ x. slice_index x 1) (sym there))
-    | inr off ↦ (
-      ap (λ x. slice_index x 0) (unless-same c p q bytes off),
-      ap (λ x. slice_index x 1) (unless-same c p q bytes off),
-    )
-  ]
-
   slots-reread : (fs : List File) → ((f : File) → Contains fs f → Contains l.files f)
       → map (λ f. f.slot) (map (reread (put c p bytes)) fs) ≡ map (λ f. f.slot) fs
   slots-reread fs sub = map-map (λ f. f.slot) (reread (put c p bytes)) fs
@@ -160,8 +164,8 @@ module _ {a c : Image} {l : Layout} {front back : List Place} {p : Place} {n : �
       directory : IsDirectory (put c p bytes) l.directory (map (λ f. f.slot) (with_new (put c p bytes) fs gs k))
       directory = record {
         last = layout.directory.last;
-        chain = IsChain-frame c (put c p bytes) directory_start l.directory layout.directory.last same-links
-            layout.directory.chain;
+        chain = IsChain-frame c (put c p bytes) directory_start l.directory layout.directory.last
+            (put-links c p bytes full links l.directory) layout.directory.chain;
         on_track = layout.directory.on_track;
         not_map = layout.directory.not_map;
         slots = all-slots (map (reread (put c p bytes)) fs) (map (reread (put c p bytes)) gs)

@@ -22,24 +22,27 @@ use Rattle.std.proofs.Common.{
   sym,
   ◌∙◌,
 }
-use Rattle.std.specs.Prelude.{option_map, slice_get, slice_index}
+use Rattle.std.specs.Prelude.{Ok, OnOk, Result, option_map, slice_get, slice_index, ◌≤◌}
 use Rattle.std.proofs.lemmas.Option.{slice_get-map}
 use Rattle.d64_image.proofs.Moments.{at_end, changes_then, changes_weaker, no_write_change}
 use Rattle.d64_image.specs.History.{Changes, History, WritesNothing}
 use Rattle.d64_image.specs.Images.{Image}
+use Rattle.d64_image.specs.declared.faults.DeviceFault.{DeviceFault}
 use Rattle.disk_layout.proofs.lemmas.kept.Kept.{entry-byte}
 use Rattle.disk_layout.proofs.lemmas.lists.Lists.{made-from}
 use Rattle.disk_layout.specs.Layout.{File, IsLayout, Layout, is_rel_type}
 use Rattle.disk_layout.specs.Same.{Stays, stays_of}
+use Rattle.rel_records.specs.Calls.{Chooses, Creates, CreatesFile, MakesFile, Refuses}
 use Rattle.rel_records.specs.File.{IsFileOf}
 use Rattle.rel_records.specs.creation.Made.{HasFileMore, HasFilesOf, IsCreating, IsMade, StaysOf, creation_writes}
-use Rattle.rel_records.specs.creation.Site.{HasFileAt, IsFileAt, sector_of}
+use Rattle.rel_records.specs.creation.Site.{HasFileAt, IsFileAt, IsSite}
 use Rattle.rel_records.specs.declared.creation.site.Site.{Site}
+use Rattle.rel_records.specs.declared.faults.RelFault.{RelFault}
 use Rattle.rel_records.specs.declared.rel_file.RelFile.{RelFile}
 
 -- the new file, and what is kept of it
 pub made-file : (a : Image) (l : Layout) (name : List ℕ) (L : ℕ) (st : Site) (c : Image) (v : RelFile)
-    → HasFileAt a l name L st (sector_of st) c → IsFileAt L st v → IsMade a l name L c v
+    → HasFileAt a l name L st c → IsFileAt L st v → IsMade a l name L c v
 made-file a l name L st c v h at = record {
   more = h.more;
   of = record {
@@ -130,7 +133,7 @@ module _ {D : Type 0} (S : History D) (d e : D) (quiet : WritesNothing S d e) (l
       (no_write_change S d e _ quiet (creating-none (S.image d) l name L h))
 
   -- and then
-  pub then-moments : (f : D) → Changes S e f (creation_writes l) (IsCreating (S.image e) l name L)
+  then-moments : (f : D) → Changes S e f (creation_writes l) (IsCreating (S.image e) l name L)
       → Changes S d f (creation_writes l) (IsCreating (S.image d) l name L)
   then-moments f writes =
       let P : Image → Type 0 = λ i. Changes S e f (creation_writes l) (IsCreating i l name L) in
@@ -138,8 +141,32 @@ module _ {D : Type 0} (S : History D) (d e : D) (quiet : WritesNothing S d e) (l
       (no_write_change S d e _ quiet (creating-none (S.image d) l name L h)) (subst P quiet.image writes)
 
 -- what is kept of any file stays of it
-pub changed-others : {D : Type 0} (S : History D) (d f : D) (m : ℕ) (l : Layout) (name : List ℕ) (L : ℕ)
+changed-others : {D : Type 0} (S : History D) (d f : D) (m : ℕ) (l : Layout) (name : List ℕ) (L : ℕ)
     → Changes S d f m (IsCreating (S.image d) l name L) → (n : ℕ) (g : File) (v : RelFile)
     → IsFileOf (S.image d) l n g v → StaysOf (S.image d) (S.image f) g v
 changed-others S d f m l name L writes n g v of = creating-stays (S.image d) (S.image f) l n g v of name L
     (at_end S d f _ writes.held)
+
+-- a site is chosen, and then the file is written
+pub made-then : {D : Type 0} (S : History D) (d e f : D) (name : List ℕ) (L : ℕ) (st : Site)
+    → Chooses S d e name 2 (Ok st) → (r : Result (Unit {0}) DeviceFault)
+    → ((l : Layout) → IsSite (S.image e) l 2 st → MakesFile S e f l name L st r) → (l : Layout) → IsLayout (S.image d) l
+    → MakesFile S d f l name L st r
+made-then S d e f name L st chooses r writes l h =
+    let same = chooses.quiet.image in
+    let made = writes l (subst (λ i. IsSite i l 2 st) (sym same) (chooses.ok l h)) in
+    record {
+      ok = subst (λ i. OnOk r (HasFileAt i l name L st (S.image f))) same made.ok;
+      moments = then-moments S d e chooses.quiet l name L h f made.moments;
+    }
+
+-- and nothing else is said of it
+pub creates-of : {D : Type 0} (S : History D) (d f : D) (name : List ℕ) (L : ℕ) (r : Result RelFile RelFault)
+    → ((l : Layout) → IsLayout (S.image d) l → CreatesFile S d f l name L r) → Refuses S d f name 2 r
+    → OnOk r (S.reads f ≤ S.reads d + 55) → Creates S d f name L r
+creates-of S d f name L r layout refuses reads = record {
+  layout = layout;
+  refuses = refuses;
+  reads = reads;
+  others = λ v l n g of. changed-others S d f _ l name L (layout l of.layout).moments n g v of;
+}

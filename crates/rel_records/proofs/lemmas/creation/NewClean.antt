@@ -1,25 +1,30 @@
--- What makes a new file's sectors and its entry a file, and the map with them.
-use Rattle.std.proofs.Common.{◌≡◌, ℕ, ◌+◌, ◌*◌, ◌/◌, ◌≤◌, inl, inr, true, List, [], ◌∷◌, ◌++◌, ap, append_assoc, append-nil}
-use Rattle.std.proofs.Common.{arith, refl, slice_index, subst, sym, ◌∙◌}
-use Rattle.std.specs.Prelude.{Contains, Some, replicate, slice_get, ◌↔◌}
-use Rattle.std.proofs.lemmas.List.Elements.{Contains-append_cases, Contains-append_left, Contains-append_right}
+-- What makes a new relative file's sectors and its entry a file, of empty records.
+use Rattle.std.proofs.Common.{◌≡◌, ℕ, ◌+◌, ◌*◌, ◌/◌, ◌≤◌, inl, inr, true, List, [], ◌∷◌, ap, length}
+use Rattle.std.proofs.Common.{arith, false, get_or, refl, slice_index, subst, sym, ◌∙◌, ◌≢◌, Bool}
+use Rattle.std.specs.Prelude.{Contains, Some, drop, if◌then◌else◌, nat_lt, replicate, slice_get}
+use Rattle.std.proofs.lemmas.List.Elements.{Contains-append_left}
 use Rattle.d64_image.specs.Images.{Image, IsImage, Sector, sector}
 use Rattle.d64_image.specs.declared.place.Place.{Place}
-use Rattle.disk_layout.proofs.lemmas.lists.Once.{Contains-cases, Contains-here, Contains-there, insert-in, insert-out}
-use Rattle.disk_layout.specs.Clean.{IsCleanLayout}
+use Rattle.disk_layout.proofs.lemmas.growth.GrowthRecords.{count-full}
+use Rattle.disk_layout.proofs.lemmas.layouts.Agree.{records-agree}
+use Rattle.disk_layout.proofs.lemmas.lists.Lists.{read-there}
+use Rattle.disk_layout.proofs.lemmas.lists.Once.{Contains-here, Contains-there}
+use Rattle.disk_layout.specs.Chain.{EachOnce}
 use Rattle.disk_layout.specs.Directory.{map_place}
-use Rattle.disk_layout.specs.Layout.{Layout, is_rel, record_length}
-use Rattle.disk_layout.specs.Map.{IsMapOf}
+use Rattle.disk_layout.specs.Entries.{rel_entry}
+use Rattle.disk_layout.specs.Layout.{File, Layout, owners, record_length}
 use Rattle.disk_layout.specs.Records.{empty_record, filler, records}
-use Rattle.disk_layout.specs.Same.{AddsFile}
 use Rattle.disk_layout.specs.Side.{side_sector}
 use Rattle.disk_layout.specs.declared.slot.Slot.{Slot}
-use Rattle.disk_layout.proofs.lemmas.growth.GrowthRecords.{count-full}
-use Rattle.rel_records.proofs.lemmas.creation.NewFiles.{IsNewFile, new-records, new_file}
-use Rattle.rel_records.proofs.lemmas.directory.Entered.{IsEntry}
+use Rattle.rel_records.proofs.lemmas.creation.Entering.{IsEntering, site-taking}
+use Rattle.rel_records.proofs.lemmas.creation.NewEntry.{HasEntered, IsFileBy, IsSlotOf}
+use Rattle.rel_records.proofs.lemmas.creation.NewFiles.{IsNewFile, new-exact, new-is_file, new-records, new_file}
+use Rattle.rel_records.proofs.lemmas.directory.Entered.{IsEntry, is-entry, rel-used}
 use Rattle.rel_records.proofs.lemmas.filling.Fulls.{full-inside}
-use Rattle.rel_records.specs.creation.Made.{IsNewSlot}
-use Rattle.rel_records.specs.creation.Site.{HasFileAt}
+use Rattle.rel_records.proofs.lemmas.whole.Created.{fresh-long}
+use Rattle.rel_records.specs.creation.Made.{IsCreating, creation_writes}
+use Rattle.rel_records.specs.creation.NewFile.{AreApart, HasNewSectors}
+use Rattle.rel_records.specs.creation.Site.{HasFileAt, IsSite}
 use Rattle.rel_records.specs.declared.creation.site.Site.{Site}
 use Rattle.rel_records.specs.growth.Growth.{full}
 use Rattle.rel_records.specs.growth.Next.{IsFresh}
@@ -27,7 +32,7 @@ use Rattle.rel_records.specs.growth.Next.{IsFresh}
 module _ (b : Image) (s : Slot) (name : List ℕ) (block side : Place) (L : ℕ) (e : IsEntry s name block side L)
     (fresh : IsFresh 0 L (sector b block)) (links : sector b side ≡ side_sector 0 (block ∷ []) (side ∷ []) L)
     (low : 1 ≤ L) (high : L ≤ 254) where
-  pub is-new : IsNewFile b s block side (slice_index (sector b block) 1)
+  is-new : IsNewFile b s block side (slice_index (sector b block) 1)
   is-new = record {
     kind = e.kind;
     first = e.first;
@@ -39,7 +44,7 @@ module _ (b : Image) (s : Slot) (name : List ℕ) (block side : Place) (L : ℕ)
     side_bytes = links ∙ ap (side_sector 0 (block ∷ []) (side ∷ [])) (sym e.size);
   }
 
-  pub empty-records : IsImage b → records b (new_file s block side (slice_index (sector b block) 1)) ≡ replicate
+  empty-records : IsImage b → records b (new_file s block side (slice_index (sector b block) 1)) ≡ replicate
       (254 / L) (empty_record L)
   empty-records w =
       let K : ℕ = record_length s in
@@ -53,98 +58,107 @@ module _ (b : Image) (s : Slot) (name : List ℕ) (block side : Place) (L : ℕ)
       omega arith in z))
       ∙ ap (λ k. replicate (254 / k) (empty_record k)) e.size
 
-  -- one file more, as it was chosen
-  pub file-more : (a : Image) (l m : Layout) (st : Site) (p : Place) → IsImage b → IsCleanLayout b m
-      → AddsFile a b l m (new_file s block side (slice_index (sector b block) 1)) → IsNewSlot a l m s
-      → slice_get m.files st.entry ≡ Some (new_file s block side (slice_index (sector b block) 1)) → s.sector ≡ p
-      → s.number ≡ st.number → side ≡ st.side → HasFileAt a l name L st p b
-  file-more a l m st p w clean adds slot there at number owns = record {
-    more = record {
-      layout = m;
-      clean = clean;
-      file = new_file s block side (slice_index (sector b block) 1);
-      adds = adds;
-      slot = slot;
-      kind = e.kind;
-      named = (rel-here, e.named);
-      size = e.size;
-      one = refl;
-      records_are = empty-records w;
-    };
-    there = there;
-    sector = at;
-    number = number;
-    sides = ap (λ q. q ∷ []) owns;
-    last = omega (arith, fresh.index);
+module _ (c : Image) (w : IsImage c) (name : List ℕ) (map : Sector) (block side : Place) (L : ℕ)
+    (few : length name ≤ 16) (low : 1 ≤ L) (high : L ≤ 254) (has : HasNewSectors map block side L c) where
+  abbrev u : ℕ
+  u = slice_index (sector c block) 1
+
+  entry-of : (s : Slot) → IsSlotOf s (rel_entry name block side L 2) → IsEntry s name block side L
+  entry-of s of = subst (λ t. IsEntry t name block side L) of.is
+      (is-entry of.old of.new of.number name block side L of.low few of.entered of.place)
+
+  -- the entry's file, of one fresh block
+  pub rel-by : IsFileBy c (block ∷ side ∷ []) (rel_entry name block side L 2)
+      (λ s. new_file s block side (slice_index (sector c block) 1))
+  rel-by = record {
+    used = rel-used name block side L;
+    slot = λ s. refl;
+    owns = λ s. refl;
+    right = λ b agree s of.
+        let e = entry-of s of in
+        let at = agree block (Contains-here block (side ∷ [])) in
+        let fresh = subst (λ x. IsFresh 0 L x) at has.fresh in
+        let links = sym (agree side (Contains-there side block (side ∷ []) (Contains-here side []))) ∙ has.links in
+        let same : slice_index (sector b block) 1 ≡ u = ap (λ x. slice_index x 1) (sym at) in
+        let P : ℕ → Type 0 = λ v. IsNewFile b s block side v in
+        let new = subst P same (is-new b s name block side L e fresh links low high) in
+        record {
+          file = new-is_file b s block side u new;
+          exact = λ t. new-exact b s block side u new e.count;
+          long = fresh-long b s block side u L (rw e.kind refl) fresh;
+        };
   }
-    where
-      rel-here : is_rel s ≡ true
-      rel-here = rw e.kind refl
 
--- the map of the same places, listed otherwise
-pub map-same : (bytes : Sector) (xs ys : List Place) → ((q : Place) → Contains xs q ↔ Contains ys q) → IsMapOf bytes xs
-    → IsMapOf bytes ys
-map-same bytes xs ys same map = record {
-  marked = λ q. (λ free c. (map.marked q).0 free ((same q).1 c), λ none. (map.marked q).1 (λ c. none ((same q).0 c)));
-  counts = map.counts;
-}
+  -- one file more, as it was chosen
+  pub file-more : (a b : Image) (l : Layout) (st : Site) → st.blocks.items ≡ block ∷ side ∷ []
+      → HasEntered a c l st (rel_entry name block side L 2) (λ s. new_file s block side (slice_index (sector c block) 1)) b
+      → HasFileAt a l name L st b
+  file-more a b l st both h =
+      let e = entry-of h.slot h.of in
+      let f : File = new_file h.slot block side u in
+      record {
+        more = record {
+          layout = h.layout;
+          clean = h.clean;
+          file = f;
+          adds = h.adds;
+          slot = h.new;
+          kind = e.kind;
+          named = (rw e.kind refl, e.named);
+          size = e.size;
+          one = refl;
+          records_are = sym (records-agree c b f (λ q d. h.kept q (subst (λ qs. Contains qs q) (sym both)
+              (Contains-append_left (block ∷ []) (side ∷ []) q d)))) ∙ empty-records c h.slot name block side L e has.fresh has.links low high w;
+        };
+        there = h.there;
+        sector = h.sector_is;
+        number = h.number_is;
+        sides = ap (drop 1) (sym both);
+        last = omega (arith, has.fresh.index);
+      }
 
--- two places among the others, or before them
-pub two-among : (xs ys : List Place) (block side q : Place)
-    → Contains (side ∷ block ∷ map_place ∷ (xs ++ ys)) q ↔ Contains (map_place ∷ (xs ++ block ∷ (side ∷ ys))) q
-two-among xs ys block side q = (in-there, out)
+  -- while it is made
+  pub creating-of : (a b : Image) (l : Layout) (st : Site) → st.blocks.items ≡ block ∷ side ∷ []
+      → IsEntering a c l st (rel_entry name block side L 2) (λ s. new_file s block side (slice_index (sector c block) 1)) b
+      → IsCreating a l name L b
+  creating-of a b l st both (inl was, whole) = (inl was, whole)
+  creating-of a b l st both (inr made, whole) = (inr (file-more a b l st both made).more, whole)
+
+-- the sectors of the site are these two
+two-of : (ps : List Place) (p q : Place) → length ps ≡ 2 → slice_get ps 0 ≡ Some p → slice_get ps 1 ≡ Some q
+    → ps ≡ p ∷ q ∷ []
+two-of [] p q long one two = cc
+two-of (x ∷ []) p q long one two = cc
+two-of (x ∷ y ∷ []) p q long one two = cc
+two-of (x ∷ y ∷ z ∷ zs) p q long one two = absurd (omega (arith, long))
+
+pub both-of : (a : Image) (l : Layout) (st : Site) (xs ys : List Place) (p q : Place) → IsSite a l 2 st
+    → xs ≡ st.blocks.items → ys ≡ st.blocks.items → p ≡ get_or xs 0 p → q ≡ get_or ys 1 q → st.blocks.items ≡ p ∷ q ∷ []
+both-of a l st xs ys p q h ex ey one two =
+    let count = (site-taking a l 2 st h).count in
+    let P : ℕ → List Place → Place → Type 0 = λ n qs x. slice_get qs n ≡ Some x in
+    two-of st.blocks.items p q count
+    (subst (λ qs. P 0 qs p) ex (read-there xs 0 p (omega (arith, count, ap length ex)) one))
+    (subst (λ qs. P 1 qs q) ey (read-there ys 1 q (omega (arith, count, ap length ey)) two))
+
+pub apart-of : (a : Image) (l : Layout) (st : Site) (p q : Place) → IsSite a l 2 st → st.blocks.items ≡ p ∷ q ∷ []
+    → AreApart p q
+apart-of a l st p q h both =
+    let taking = site-taking a l 2 st h in
+    let out : (x : Place) → Contains (p ∷ q ∷ []) x → x ≢ map_place = λ x d e. taking.unowned x
+    (subst (λ qs. Contains qs x) (sym both) d)
+    (subst (λ y. Contains (y ∷ owners l) x) e (Contains-here x (owners l))) in
+    let once : EachOnce (p ∷ q ∷ []) = subst (λ qs. EachOnce qs) both taking.once in
+    record {
+      block = out p (Contains-here p (q ∷ []));
+      side = out q (Contains-there q p (q ∷ []) (Contains-here q []));
+      apart = λ e. once.0 (subst (λ x. Contains (q ∷ []) x) (sym e) (Contains-here q []));
+    }
+
+-- four writes at least
+pub some-writes : (l : Layout) → 3 ≤ creation_writes l
+some-writes l = some (nat_lt (length l.files) (8 * length l.directory))
   where
-    all : List Place
-    all = map_place ∷ xs
-
-    in-there : Contains (side ∷ block ∷ map_place ∷ (xs ++ ys)) q → Contains (map_place ∷ (xs ++ block ∷ (side ∷ ys))) q
-    in-there c = elim (Contains-cases q side (block ∷ map_place ∷ (xs ++ ys)) c) [
-      | inl e ↦ let P : Place → Type 0 = Contains (map_place ∷ (xs ++ block ∷ (side ∷ ys))) in
-          subst P e (Contains-append_right (map_place ∷ xs) (block ∷ (side ∷ ys)) side
-          (Contains-there side block (side ∷ ys) (Contains-here side ys)))
-      | inr d ↦ elim (Contains-cases q block (map_place ∷ (xs ++ ys)) d) [
-        | inl e ↦ let P : Place → Type 0 = Contains (map_place ∷ (xs ++ block ∷ (side ∷ ys))) in
-            subst P e (Contains-append_right (map_place ∷ xs) (block ∷ (side ∷ ys)) block
-            (Contains-here block (side ∷ ys)))
-        | inr f ↦ elim (Contains-append_cases (map_place ∷ xs) ys q f) [
-          | inl g ↦ Contains-append_left (map_place ∷ xs) (block ∷ (side ∷ ys)) q g
-          | inr g ↦ Contains-append_right (map_place ∷ xs) (block ∷ (side ∷ ys)) q
-              (Contains-there q block (side ∷ ys) (Contains-there q side ys g))
-        ]
-      ]
-    ]
-
-    out : Contains (map_place ∷ (xs ++ block ∷ (side ∷ ys))) q → Contains (side ∷ block ∷ map_place ∷ (xs ++ ys)) q
-    out c = elim (insert-out (map_place ∷ xs) (side ∷ ys) block q c) [
-      | inl e ↦ let P : Place → Type 0 = Contains (side ∷ block ∷ map_place ∷ (xs ++ ys)) in
-          subst P e (Contains-there block side (block ∷ map_place ∷ (xs ++ ys))
-          (Contains-here block (map_place ∷ (xs ++ ys))))
-      | inr d ↦ elim (insert-out (map_place ∷ xs) ys side q d) [
-        | inl e ↦ let P : Place → Type 0 = Contains (side ∷ block ∷ map_place ∷ (xs ++ ys)) in
-            subst P e (Contains-here side (block ∷ map_place ∷ (xs ++ ys)))
-        | inr f ↦ Contains-there q side (block ∷ map_place ∷ (xs ++ ys))
-            (Contains-there q block (map_place ∷ (xs ++ ys)) f)
-      ]
-    ]
-
--- three places among the others, or before them
-pub three-among : (dir ys : List Place) (block side fresh q : Place)
-    → Contains (fresh ∷ side ∷ block ∷ map_place ∷ (dir ++ ys)) q ↔ Contains
-    (map_place ∷ (((dir ++ fresh ∷ []) ++ ys) ++ block ∷ (side ∷ []))) q
-three-among dir ys block side fresh q =
-    let two = two-among ((dir ++ fresh ∷ []) ++ ys) [] block side q in
-    let flat : ((dir ++ fresh ∷ []) ++ ys) ++ [] ≡ dir ++ fresh ∷ ys = simp (append_assoc, append-nil) in (
-      λ c. two.0 (let P : List Place → Type 0 = λ ps. Contains (side ∷ block ∷ map_place ∷ ps) q in subst P (sym flat)
-          (elim (Contains-cases q fresh (side ∷ block ∷ map_place ∷ (dir ++ ys)) c) [
-            | inl e ↦ let R : Place → Type 0 = Contains (side ∷ block ∷ map_place ∷ (dir ++ fresh ∷ ys)) in
-                subst R e
-                (Contains-append_right (side ∷ block ∷ map_place ∷ dir) (fresh ∷ ys) fresh (Contains-here fresh ys))
-            | inr d ↦ insert-in (side ∷ block ∷ map_place ∷ dir) ys fresh q d
-          ])),
-      λ c. (let P : List Place → Type 0 = λ ps. Contains (side ∷ block ∷ map_place ∷ ps) q in
-          elim (insert-out (side ∷ block ∷ map_place ∷ dir) ys fresh q (subst P flat (two.1 c))) [
-            | inl e ↦ let R : Place → Type 0 = Contains (fresh ∷ side ∷ block ∷ map_place ∷ (dir ++ ys)) in
-                subst R e (Contains-here fresh (side ∷ block ∷ map_place ∷ (dir ++ ys)))
-            | inr d ↦ Contains-there q fresh (side ∷ block ∷ map_place ∷ (dir ++ ys)) d
-          ]),
-    )
+    some : (b : Bool) → 3 ≤ (if b then 4 else 5)
+    some true = omega arith
+    some false = omega arith

@@ -1,31 +1,6 @@
 -- The new file itself: one block, one side sector, empty records; and who owns what then.
-use Rattle.std.proofs.Common.{
-  ◌≡◌,
-  ℕ,
-  zero,
-  suc,
-  ◌+◌,
-  ◌*◌,
-  ◌<◌,
-  ◌≤◌,
-  inl,
-  true,
-  false,
-  List,
-  [],
-  ◌∷◌,
-  ◌++◌,
-  refl,
-  sym,
-  ◌∙◌,
-  ap,
-  arith,
-  subst,
-  slice_index,
-  get_or,
-  IsFalse,
-}
-use Rattle.std.specs.Prelude.{Some, flat_map, replicate, slice_get}
+use Rattle.std.proofs.Common.{◌≡◌, ℕ, zero, suc, ◌+◌, ◌*◌, ◌<◌, ◌≤◌, inl, true, false, [], ◌∷◌, refl, sym, ◌∙◌, ap, arith, subst, slice_index, get_or, IsFalse}
+use Rattle.std.specs.Prelude.{Some, replicate, slice_get}
 use Rattle.d64_image.specs.Images.{Image, IsImage, sector}
 use Rattle.d64_image.specs.declared.place.Place.{Place}
 use Rattle.disk_layout.proofs.lemmas.layouts.Exact.{exact-side}
@@ -35,12 +10,10 @@ use Rattle.disk_layout.proofs.lemmas.records.Joined.{joined-at, length-joined}
 use Rattle.disk_layout.specs.Chain.{Names}
 use Rattle.disk_layout.specs.Clean.{IsExactFile}
 use Rattle.disk_layout.specs.Directory.{type_byte}
-use Rattle.disk_layout.specs.Layout.{File, IsFile, IsRelFile, count_field, file_owns, is_rel, owners, record_length}
+use Rattle.disk_layout.specs.Layout.{File, IsFile, IsRelFile, count_field, is_rel, record_length}
 use Rattle.disk_layout.specs.Records.{empty_record, filler, joined, pieces, record_count, records}
 use Rattle.disk_layout.specs.Side.{side_sector}
 use Rattle.disk_layout.specs.declared.slot.Slot.{Slot}
-use Rattle.rel_records.proofs.lemmas.creation.Creating.{with_new}
-use Rattle.rel_records.proofs.lemmas.creation.Unowned.{owners-with}
 
 -- the file of a slot that names these two sectors
 abbrev pub new_file : Slot → Place → Place → ℕ → File
@@ -135,10 +108,3 @@ module _ (b : Image) (s : Slot) (block side : Place) (u : ℕ) (h : IsNewFile b 
           let at : 254 * 0 + i ≡ i = omega arith in
           ap (λ k. get_or (joined b (block ∷ [])) k 0) (sym at) ∙ joined-at b (block ∷ []) 0 i block w refl lt
           ∙ filled i lt
-
--- the owners of the new layout: those of the old one, and the two sectors among them
-pub owners-new : (b : Image) (dir : List Place) (fs gs : List File) (s : Slot) (block side : Place) (u : ℕ)
-    → (xs ys : List Place) → xs ≡ dir ++ flat_map file_owns fs → ys ≡ flat_map file_owns gs
-    → owners (record { directory = dir; files = with_new b fs gs (new_file s block side u) }) ≡ xs
-    ++ block ∷ (side ∷ ys)
-owners-new b dir fs gs s block side u xs ys ex ey = owners-with b dir fs gs (new_file s block side u) xs ys ex ey

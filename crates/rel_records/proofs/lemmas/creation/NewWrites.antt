@@ -114,16 +114,3 @@ pub changes-more : (a : Image) (map : Sector) (ps : List Place) (p : Place) (c :
     → ChangesOnly a map (p ∷ ps) c
 changes-more a map ps p c h =
     record { map = h.map; rest = λ q off out. h.rest q off (λ d. out (Contains-there q p ps d)) }
-
-pub sectors-still : (c d : Image) (map bytes : Sector) (block side fresh : Place) (L : ℕ) → length c ≡ 683
-    → fresh ≢ map_place → fresh ≢ block → fresh ≢ side → d ≡ put c fresh bytes → HasNewSectors map block side L c
-    → HasNewSectors map block side L d × (sector d fresh ≡ bytes)
-sectors-still c d map bytes block side fresh L full no_map no_block no_side e has = (
-  record {
-    map = ap (λ i. sector i map_place) e ∙ sector-put_other c fresh map_place bytes no_map ∙ has.map;
-    fresh = (let P : Sector → Type 0 = IsFresh 0 L in
-        subst P (sym (ap (λ i. sector i block) e ∙ sector-put_other c fresh block bytes no_block)) has.fresh);
-    links = ap (λ i. sector i side) e ∙ sector-put_other c fresh side bytes no_side ∙ has.links;
-  },
-  ap (λ i. sector i fresh) e ∙ sector-put_same c fresh bytes full,
-)

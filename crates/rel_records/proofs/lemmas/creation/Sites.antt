@@ -1,9 +1,9 @@
--- What a new file takes of a clean disk: room in the directory, and sectors that nobody owns.
-use Rattle.std.proofs.Common.{◌≡◌, ◌≢◌, ℕ, ◌+◌, ◌*◌, ◌<◌, ◌⊎◌, inl, inr, List, [], ◌∷◌, ◌++◌, Option, Some, None}
-use Rattle.std.proofs.Common.{ap, arith, drop, length, length-append, refl, subst, sym, take, ◌∙◌}
+-- What a new file takes of a clean disk: room in the directory, and sectors that nobody owned.
+use Rattle.std.proofs.Common.{◌≡◌, ◌+◌, ◌*◌, ◌<◌, ◌⊎◌, ℕ, inl, inr, List, [], ◌∷◌, ◌++◌, None, Option, Some, ap, arith, drop}
+use Rattle.std.proofs.Common.{length, length-append, subst, sym, take, ◌∙◌}
 use Rattle.std.specs.Prelude.{Contains, MatchOption, slice_get}
 use Rattle.std.proofs.lemmas.Bool.{false≢true}
-use Rattle.std.proofs.lemmas.List.Elements.{Contains-append_right}
+use Rattle.std.proofs.lemmas.List.Elements.{Contains-append_cases, Contains-append_left, Contains-append_right}
 use Rattle.std.proofs.lemmas.Option.{slice_get_within}
 use Rattle.d64_image.specs.Images.{Image, Sector, sector}
 use Rattle.d64_image.specs.declared.place.Place.{Place}
@@ -12,17 +12,17 @@ use Rattle.disk_layout.proofs.lemmas.growth.GrowthRecords.{get-seam}
 use Rattle.disk_layout.proofs.lemmas.lists.Lists.{get-once}
 use Rattle.disk_layout.proofs.lemmas.lists.Once.{Contains-cases, Contains-here, Contains-there}
 use Rattle.disk_layout.proofs.lemmas.map.Maps.{set-free, taken-map}
+use Rattle.disk_layout.specs.Chain.{EachOnce}
 use Rattle.disk_layout.specs.Clean.{IsCleanLayout}
 use Rattle.disk_layout.specs.Directory.{map_place}
 use Rattle.disk_layout.specs.Layout.{IsLayout, Layout, owners}
 use Rattle.disk_layout.specs.Map.{IsFirstOn, IsFree, IsFullTrack, IsMapOf, IsTaken}
 use Rattle.disk_layout.specs.View.{blocks_free}
-use Rattle.disk_layout.specs.declared.bam.Bam.{Bam}
-use Rattle.rel_records.specs.creation.Made.{HasNoRoom}
+use Rattle.rel_records.specs.creation.Made.{HasNoRoomFor}
 use Rattle.rel_records.specs.creation.Room.{AreFullSectors, IsFirstRoom, IsFullDirectory}
-use Rattle.rel_records.specs.creation.Site.{IsRoomOf, IsSectorSite, IsSlotSite}
+use Rattle.rel_records.specs.creation.Site.{IsRoomOf, IsSectorSite, IsSlotSite, IsTaking, TakesSectors}
 use Rattle.rel_records.specs.declared.creation.directory_room.Room.{Room}
-use Rattle.rel_records.specs.growth.Steps.{TakesNext}
+use Rattle.rel_records.specs.declared.creation.site.Site.{Site}
 
 pub before-few : (img : Image) (l : Layout) (r : Room) → IsLayout img l → IsRoomOf img l r → r.before < 18
 before-few img l r h room = omega (
@@ -57,146 +57,104 @@ not-full img l p n room full =
     subst P (sym room.split) (Contains-append_right room.front (p ∷ room.back) p (Contains-here p room.back))) in
     false≢true (sym room.slot.free ∙ full p on n room.slot.number)
 
--- a sector with no owner among one more
-cons-either : (p q : Place) (ps : List Place) → (p ≡ q) ⊎ Contains ps q → Contains (p ∷ ps) q
-cons-either p q ps (inl e) = rw (← e) (Contains-here p ps)
-cons-either p q ps (inr c) = Contains-there q p ps c
+either : (p q : Place) (ps : List Place) → (p ≡ q) ⊎ Contains ps q → Contains (p ∷ ps) q
+either p q ps (inl e) = let P : Place → Type 0 = Contains (p ∷ ps) in subst P e (Contains-here p ps)
+either p q ps (inr c) = Contains-there q p ps c
 
--- the first two sectors taken
 module _ (img : Image) (l : Layout) (clean : IsCleanLayout img l) (old mid : Sector) (read : old ≡ sector img map_place)
-    (block side : Place) (b : Bam) (first : TakesNext old mid block) (second : TakesNext mid b.bytes side) where
-  abbrev owned : List Place
-  owned = map_place ∷ owners l
-
+    (ps : List Place) (count : ℕ) (taken : TakesSectors old mid ps) (long : length ps ≡ count) where
   map-old : IsMapOf old (map_place ∷ owners l)
   map-old = let P : Sector → Type 0 = λ x. IsMapOf x (map_place ∷ owners l) in subst P (sym read) clean.map
 
-  map-mid : IsMapOf mid (block ∷ map_place ∷ owners l)
-  map-mid = first.owned (map_place ∷ owners l) map-old
+  map-mid : IsMapOf mid (ps ++ map_place ∷ owners l)
+  map-mid = taken.owned (map_place ∷ owners l) map-old
 
-  map-two : IsMapOf b.bytes (side ∷ block ∷ map_place ∷ owners l)
-  map-two = second.owned (block ∷ map_place ∷ owners l) map-mid
+  -- the sectors, with a map that has the header of the one in which they are taken
+  by-header : (s : Site) (r : Room) → s.blocks.items ≡ ps → s.bytes ≡ r.bytes → s.place ≡ r.place → IsRoomOf img l r
+      → (take 4 s.map.bytes ≡ take 4 mid) × (drop 144 s.map.bytes ≡ drop 144 mid) → IsTaking img l count s
+  by-header s r blocks bytes place room h =
+      let P : List Place → Type 0 = EachOnce in
+      let Q : List Place → Type 0 = λ qs. (p : Place) → Contains qs p → ¬ (Contains (map_place ∷ owners l) p) in
+      record {
+        clean = clean;
+        count = ap length blocks ∙ long;
+        once = subst P (sym blocks) taken.once;
+        unowned = subst Q (sym blocks) (taken.unowned (map_place ∷ owners l) map-old);
+        header = (h.0 ∙ taken.header.0 ∙ ap (take 4) read, h.1 ∙ taken.header.1 ∙ ap (drop 144) read);
+        bytes = bytes ∙ room.bytes ∙ ap (sector img) (sym place);
+      }
 
-  side-out : ¬ (Contains (block ∷ map_place ∷ owners l) side)
-  side-out = second.unowned (block ∷ map_place ∷ owners l) map-mid
-
-  no-block : ¬ (Contains (map_place ∷ owners l) block)
-  no-block = first.unowned (map_place ∷ owners l) map-old
-
-  no-side : ¬ (Contains (map_place ∷ owners l) side)
-  no-side d = side-out (Contains-there side block (map_place ∷ owners l) d)
-
-  side-apart : side ≢ block
-  side-apart e = side-out (let P : Place → Type 0 = λ x. Contains (x ∷ map_place ∷ owners l) side in
-      subst P e (Contains-here side (map_place ∷ owners l)))
-
-  header-two : (take 4 b.bytes ≡ take 4 (sector img map_place)) × (drop 144 b.bytes ≡ drop 144 (sector img map_place))
-  header-two = (
-    second.taken.rest.header.0 ∙ first.taken.rest.header.0 ∙ ap (take 4) read,
-    second.taken.rest.header.1
-        ∙ first.taken.rest.header.1 ∙ ap (drop 144) read,
-  )
-
-  -- a free slot, and two free blocks
-  pub slot-site : (r : Room) (n : ℕ) → ¬ (blocks_free old < 2) → IsRoomOf img l r → r.number ≡ Some n
-      → IsSlotSite img l (record {
-        map = b;
-        block = block;
-        side = side;
-        place = r.place;
-        bytes = r.bytes;
-        fresh = None;
-        number = n;
-        entry = 8 * r.before + n;
-      }) × ¬ (HasNoRoom img l)
-  slot-site r n enough room is =
-      let slot = room-slot img l r n room is in
-      let before = before-is img l r slot.front slot.back clean.layout room slot.split in
-      let many : ¬ (blocks_free (sector img map_place) < 2) = (let P : Sector → Type 0 = λ x. ¬ (blocks_free x < 2) in
-      subst P read enough) in (
-        record {
-          taken = record {
-            clean = clean;
-            no_block = no-block;
-            no_side = no-side;
-            apart = side-apart;
-            header = header-two;
-            map = map-two;
-          };
-          bytes = room.bytes;
-          room = slot;
-          entry = omega (arith, before);
-        },
-        λ none. elim none [ inl few ↦ many few | inr full ↦ not-full img l r.place n slot full.0 ],
-      )
+  many : ¬ (blocks_free old < count) → ¬ (blocks_free (sector img map_place) < count)
+  many enough = let P : Sector → Type 0 = λ x. ¬ (blocks_free x < count) in subst P read enough
 
   -- which sectors of track 18 are free hasn't changed
-  still-free : (q : Place) → q.track ≡ 18 → IsFree (sector img map_place) q → IsFree b.bytes q
-  still-free q on is = (map-two.marked q).1 (λ c. elim (Contains-cases q side (block ∷ map_place ∷ owners l) c) [
-    | inl e ↦ second.off (ap (λ (x : Place). x.track) e ∙ on)
-    | inr d ↦ elim (Contains-cases q block (map_place ∷ owners l) d) [
-      | inl e ↦ first.off (ap (λ (x : Place). x.track) e ∙ on)
-      | inr own ↦ set-free (sector img map_place) (map_place ∷ owners l) q clean.map is own
-    ]
+  still-free : (q : Place) → q.track ≡ 18 → IsFree (sector img map_place) q → IsFree mid q
+  still-free q on is = (map-mid.marked q).1 (λ c. elim (Contains-append_cases ps (map_place ∷ owners l) q c) [
+    | inl d ↦ taken.off q d on
+    | inr own ↦ set-free (sector img map_place) (map_place ∷ owners l) q clean.map is own
   ])
 
-  was-free : (q : Place) → IsFree b.bytes q → IsFree (sector img map_place) q
-  was-free q is = (clean.map.marked q).1 (λ own. set-free b.bytes (side ∷ block ∷ map_place ∷ owners l) q map-two is
-      (Contains-there q side (block ∷ map_place ∷ owners l) (Contains-there q block (map_place ∷ owners l) own)))
+  was-free : (q : Place) → IsFree mid q → IsFree (sector img map_place) q
+  was-free q is = (clean.map.marked q).1 (λ own. set-free mid (ps ++ map_place ∷ owners l) q map-mid is
+      (Contains-append_right ps (map_place ∷ owners l) q own))
+
+  -- a free slot
+  pub slot-chosen : (s : Site) (r : Room) (k : ℕ) → ¬ (blocks_free old < count) → s.map.bytes ≡ mid
+      → s.blocks.items ≡ ps → s.place ≡ r.place → s.bytes ≡ r.bytes → s.number ≡ k → s.entry ≡ 8 * r.before + k
+      → IsRoomOf img l r → r.number ≡ Some k → IsSlotSite img l count s × ¬ (HasNoRoomFor img l count)
+  slot-chosen s r k enough map blocks place bytes number entry room is =
+      let slot = room-slot img l r k room is in
+      let R : Sector → Type 0 = λ x. IsMapOf x (ps ++ map_place ∷ owners l) in
+      let T : List Place → Type 0 = λ qs. IsMapOf s.map.bytes (qs ++ map_place ∷ owners l) in
+      let F : Place → ℕ → Type 0 = λ p n. (room : IsFirstRoom img l.directory p n)
+      × (s.entry ≡ 8 * length room.front + n) in
+      let U : Place → Type 0 = λ p. F p k in
+      let V : ℕ → Type 0 = F s.place in
+      let before = before-is img l r slot.front slot.back clean.layout room slot.split in
+      let at = subst V (sym number) (subst U (sym place) (slot, omega (arith, entry, before))) in (
+        record {
+          taking = by-header s r blocks bytes place room (ap (take 4) map, ap (drop 144) map);
+          map = subst T (sym blocks) (subst R (sym map) map-mid);
+          room = at.0;
+          entry = at.1;
+        },
+        λ none. elim none [ inl few ↦ many enough few | inr full ↦ not-full img l r.place k slot full.0 ],
+      )
 
   -- no slot, and no sector for another directory sector
-  pub no-sector : (r : Room) → IsRoomOf img l r → r.number ≡ None → IsFullTrack b.bytes 18 → HasNoRoom img l
+  pub no-sector : (r : Room) → IsRoomOf img l r → r.number ≡ None → IsFullTrack mid 18 → HasNoRoomFor img l count
   no-sector r room is full = inr ((room-none img l r room is).full, λ q on free. full q on (still-free q on free))
 
   -- no slot, but such a sector
-  pub sector-site : (c : Bam) (fresh : Place) (r : Room) → ¬ (blocks_free old < 2) → IsRoomOf img l r → r.number ≡ None
-      → IsFirstOn b.bytes 18 fresh → (IsFree b.bytes fresh → IsTaken b.bytes c.bytes fresh)
-      → IsSectorSite img l (record {
-        map = c;
-        block = block;
-        side = side;
-        place = r.place;
-        bytes = r.bytes;
-        fresh = Some fresh;
-        number = 0;
-        entry = 8 * (r.before + 1);
-      }) fresh × ¬ (HasNoRoom img l)
-  sector-site c fresh r enough room is on take_it =
+  pub sector-chosen : (s : Site) (r : Room) (fresh : Place) → ¬ (blocks_free old < count)
+      → s.blocks.items ≡ ps → s.place ≡ r.place → s.bytes ≡ r.bytes → s.number ≡ 0 → s.entry ≡ 8 * (r.before + 1)
+      → IsRoomOf img l r → r.number ≡ None → IsFirstOn mid 18 fresh
+      → (IsFree mid fresh → IsTaken mid s.map.bytes fresh)
+      → IsSectorSite img l count s fresh × ¬ (HasNoRoomFor img l count)
+  sector-chosen s r fresh enough blocks place bytes number entry room is on take_it =
       let full = room-none img l r room is in
       let before = before-is img l r full.front [] clean.layout room full.split in
-      let many : ¬ (blocks_free (sector img map_place) < 2) = (let P : Sector → Type 0 = λ x. ¬ (blocks_free x < 2) in
-      subst P read enough) in
-      let taken = take_it on.free in
-      let out : ¬ (Contains (side ∷ block ∷ map_place ∷ owners l) fresh) =
-      set-free b.bytes (side ∷ block ∷ map_place ∷ owners l) fresh map-two on.free in (
+      let now = take_it on.free in
+      let all : List Place = ps ++ map_place ∷ owners l in
+      let out : ¬ (Contains (ps ++ map_place ∷ owners l) fresh) = set-free mid all fresh map-mid on.free in
+      let T : List Place → Type 0 = λ qs. IsMapOf s.map.bytes (fresh ∷ (qs ++ map_place ∷ owners l)) in
+      let U : Place → Type 0 = IsFullDirectory img l.directory in (
         record {
-          taken = record {
-            clean = clean;
-            no_block = no-block;
-            no_side = no-side;
-            no_fresh = λ own. out (Contains-there fresh side (block ∷ map_place ∷ owners l)
-                (Contains-there fresh block (map_place ∷ owners l) own));
-            apart = side-apart;
-            apart_block = λ e. first.off (sym (ap (λ (x : Place). x.track) e) ∙ on.track);
-            apart_side = λ e. second.off (sym (ap (λ (x : Place). x.track) e) ∙ on.track);
-            on_18 = on.track;
-            header = (taken.rest.header.0 ∙ header-two.0, taken.rest.header.1 ∙ header-two.1);
-            map = taken-map b.bytes c.bytes (side ∷ block ∷ map_place ∷ owners l)
-                (fresh ∷ side ∷ block ∷ map_place ∷ owners l) fresh map-two out taken
-                (λ q. (
-                  λ d. Contains-cases q fresh (side ∷ block ∷ map_place ∷ owners l) d,
-                  cons-either fresh q (side ∷ block ∷ map_place ∷ owners l),
-                ));
-          };
-          bytes = room.bytes;
-          full = full;
+          taking = by-header s r blocks bytes place room now.rest.header;
+          map = subst T (sym blocks) (taken-map mid s.map.bytes all (fresh ∷ all) fresh map-mid out now
+              (λ q. (λ d. Contains-cases q fresh all d, either fresh q all)));
+          full = subst U (sym place) full;
           lowest = record {
             track = on.track;
             free = was-free fresh on.free;
             first = λ q at below free. on.first q at below (still-free q at free);
           };
-          number = refl;
-          entry = omega (arith, before, ap length full.split, length-append full.front (r.place ∷ []));
+          no_fresh = λ own. out (Contains-append_right ps (map_place ∷ owners l) fresh own);
+          apart = λ c. out (Contains-append_left ps (map_place ∷ owners l) fresh (let W : List Place
+              → Type 0 = λ qs. Contains qs fresh in subst W blocks c));
+          number = number;
+          entry = omega
+              (arith, entry, before, ap length full.split, length-append full.front (r.place ∷ []));
         },
-        λ none. elim none [ inl few ↦ many few | inr (slots, track) ↦ track fresh on.track (was-free fresh on.free) ],
+        λ none. elim none [ inl few ↦ many enough few | inr (slots, track) ↦ track fresh on.track (was-free fresh on.free) ],
       )

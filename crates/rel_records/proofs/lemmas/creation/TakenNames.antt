@@ -21,6 +21,7 @@ use Rattle.rel_records.specs.creation.Made.{IsTakenName}
 use Rattle.rel_records.specs.creation.Room.{IsFirstRoom, IsFullDirectory}
 use Rattle.rel_records.specs.creation.Site.{IsRoomOf}
 use Rattle.rel_records.specs.declared.creation.directory_room.Room.{Room}
+use Rattle.rel_records.specs.declared.creation.site.Site.{Site}
 use Rattle.rel_records.specs.declared.faults.RelFault.{RelFault}
 use Rattle.rel_records.specs.declared.faults.RelFault.TheVariants.{Device}
 
@@ -47,9 +48,9 @@ not-taken l slots padded name found e is tells not taken = false≢true (sym not
     ∙ tells (slot-taken l slots padded name e is taken))
 
 -- the device fails while a site is chosen
-pub no-site : {D T : Type 0} (S : History D) (a b : D) (name : List ℕ) (e : RelFault) (Is : Layout → T → Type 0)
-    → e ≡ Device → WritesNothing S a b → TellsRelFault {T = T} S a b (Err e) → Chooses S a b name (Err e) Is
-no-site S a b name e Is is quiet failures = record {
+pub no-site : {D : Type 0} (S : History D) (a b : D) (name : List ℕ) (n : ℕ) (e : RelFault) → e ≡ Device
+    → WritesNothing S a b → TellsRelFault {T = Site} S a b (Err e) → Chooses S a b name n (Err e)
+no-site S a b name n e is quiet failures = record {
   ok = λ l h. tt;
   refuses = record {
     layout = λ l h. record { exists = device-not-exists e is; full = device-not-full e is; fits = tt };

@@ -1,17 +1,18 @@
 -- A new file that owns what nobody owned: each place still has one owner.
-use Rattle.std.proofs.Common.{◌≡◌, ◌≢◌, inl, inr, List, [], ◌∷◌, ◌++◌, map, ap, refl, sym, ◌∙◌, subst, append_assoc}
+use Rattle.std.proofs.Common.{◌≡◌, inl, inr, List, [], ◌∷◌, ◌++◌, map, ap, refl, sym, ◌∙◌, subst, append_assoc}
 use Rattle.std.proofs.Common.{append-nil}
-use Rattle.std.specs.Prelude.{Contains, flat_map}
+use Rattle.std.specs.Prelude.{Contains, flat_map, ◌↔◌}
 use Rattle.std.proofs.lemmas.Grind.{flat_map-append}
 use Rattle.std.proofs.lemmas.List.Elements.{Contains-append_cases, Contains-append_left, Contains-append_right}
-use Rattle.d64_image.specs.Images.{Image}
+use Rattle.d64_image.specs.Images.{Image, Sector}
 use Rattle.d64_image.specs.declared.place.Place.{Place}
 use Rattle.disk_layout.proofs.lemmas.counts.Recounts.{reread, reread-owns}
-use Rattle.disk_layout.proofs.lemmas.lists.Once.{Contains-cases, Contains-nil, EachOnce-apart, EachOnce-insert}
-use Rattle.disk_layout.proofs.lemmas.lists.Once.{EachOnce-join, EachOnce-left, EachOnce-right, insert-out}
+use Rattle.disk_layout.proofs.lemmas.lists.Once.{Contains-cases, Contains-here, Contains-there, EachOnce-apart, EachOnce-insert}
+use Rattle.disk_layout.proofs.lemmas.lists.Once.{EachOnce-join, EachOnce-left, EachOnce-right, insert-in, insert-out}
 use Rattle.disk_layout.specs.Chain.{EachOnce}
 use Rattle.disk_layout.specs.Directory.{map_place}
 use Rattle.disk_layout.specs.Layout.{File, Layout, file_owns, owners}
+use Rattle.disk_layout.specs.Map.{IsMapOf}
 use Rattle.rel_records.proofs.lemmas.creation.Creating.{with_new}
 
 -- each place that the file owns comes once, and nobody owned it
@@ -90,23 +91,50 @@ once-linked b l fresh k once no_fresh new apart =
       | inr e ↦ new.none q c e
     ])))
 
--- a file of two places that nobody owned
-pub two-unowned : (l : Layout) (k : File) (block side : Place) → file_owns k ≡ block ∷ side ∷ []
-    → ¬ (Contains (map_place ∷ owners l) block) → ¬ (Contains (map_place ∷ owners l) side) → side ≢ block
-    → IsUnowned l k
-two-unowned l k block side owns no_block no_side apart =
-    let P : List Place → Type 0 = EachOnce in record {
-      once = subst P (sym owns) (
-        λ c. elim (Contains-cases block side [] c) [ inl e ↦ apart e | inr d ↦ Contains-nil block d ],
-        (Contains-nil side, tt),
-      );
-      none = λ q c own. (let Q : List Place → Type 0 = λ ps. Contains ps q in
-          let R : Place → Type 0 = λ x. Contains (map_place ∷ owners l) x in
-          elim (Contains-cases q block (side ∷ []) (subst Q owns c)) [
-            | inl e ↦ no_block (subst R (sym e) own)
-            | inr d ↦ elim (Contains-cases q side [] d) [
-              | inl e ↦ no_side (subst R (sym e) own)
-              | inr n ↦ Contains-nil q n
-            ]
-          ]);
-    }
+-- the map of the same places, listed otherwise
+pub map-same : (bytes : Sector) (xs ys : List Place) → ((q : Place) → Contains xs q ↔ Contains ys q) → IsMapOf bytes xs
+    → IsMapOf bytes ys
+map-same bytes xs ys same map = record {
+  marked = λ q. (λ free c. (map.marked q).0 free ((same q).1 c), λ none. (map.marked q).1 (λ c. none ((same q).0 c)));
+  counts = map.counts;
+}
+
+-- places among others, or before them
+pub among : (X ys ps : List Place) (q : Place) → Contains (ps ++ (X ++ ys)) q ↔ Contains (X ++ (ps ++ ys)) q
+among X ys ps q = (
+  λ c. elim (Contains-append_cases ps (X ++ ys) q c) [
+    | inl d ↦ Contains-append_right X (ps ++ ys) q (Contains-append_left ps ys q d)
+    | inr d ↦ elim (Contains-append_cases X ys q d) [
+      | inl f ↦ Contains-append_left X (ps ++ ys) q f
+      | inr f ↦ Contains-append_right X (ps ++ ys) q (Contains-append_right ps ys q f)
+    ]
+  ],
+  λ c. elim (Contains-append_cases X (ps ++ ys) q c) [
+    | inl d ↦ Contains-append_right ps (X ++ ys) q (Contains-append_left X ys q d)
+    | inr d ↦ elim (Contains-append_cases ps ys q d) [
+      | inl f ↦ Contains-append_left ps (X ++ ys) q f
+      | inr f ↦ Contains-append_right ps (X ++ ys) q (Contains-append_right X ys q f)
+    ]
+  ],
+)
+
+-- a new directory sector and places among the others, or before them
+pub among-directory : (dir F ps : List Place) (fresh q : Place) → Contains (fresh ∷ (ps ++ map_place ∷ (dir ++ F))) q
+    ↔ Contains (map_place ∷ (((dir ++ fresh ∷ []) ++ F) ++ (ps ++ []))) q
+among-directory dir F ps fresh q =
+    let all : List Place = map_place ∷ ((dir ++ fresh ∷ []) ++ F) in
+    let here = among all [] ps q in
+    let shape : ps ++ (all ++ []) ≡ (ps ++ map_place ∷ dir) ++ fresh ∷ F = simp (append_assoc, append-nil) in
+    let back : ps ++ map_place ∷ (dir ++ F) ≡ (ps ++ map_place ∷ dir) ++ F = simp append_assoc in
+    let P : List Place → Type 0 = λ xs. Contains xs q in (
+      λ c. here.0 (subst P (sym shape) (elim (Contains-cases q fresh (ps ++ map_place ∷ (dir ++ F)) c) [
+        | inl e ↦ (let Q : Place → Type 0 = Contains ((ps ++ map_place ∷ dir) ++ fresh ∷ F) in
+            subst Q e (Contains-append_right (ps ++ map_place ∷ dir) (fresh ∷ F) fresh (Contains-here fresh F)))
+        | inr d ↦ insert-in (ps ++ map_place ∷ dir) F fresh q (subst P back d)
+      ])),
+      λ c. elim (insert-out (ps ++ map_place ∷ dir) F fresh q (subst P shape (here.1 c))) [
+        | inl e ↦ (let Q : Place → Type 0 = Contains (fresh ∷ (ps ++ map_place ∷ (dir ++ F))) in
+            subst Q e (Contains-here fresh (ps ++ map_place ∷ (dir ++ F))))
+        | inr d ↦ Contains-there q fresh (ps ++ map_place ∷ (dir ++ F)) (subst P (sym back) d)
+      ],
+    )

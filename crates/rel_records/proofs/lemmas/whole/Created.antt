@@ -17,12 +17,12 @@ use Rattle.disk_layout.proofs.lemmas.lists.Once.{flat_map-in, insert-out, map-in
 use Rattle.disk_layout.proofs.lemmas.whole.Files.{AreExact, HasEnd, clean-exact, exact-ends, none-behind, not-zeros}
 use Rattle.disk_layout.proofs.lemmas.whole.Files.{rel-not-plain}
 use Rattle.disk_layout.specs.Clean.{IsCleanLayout}
-use Rattle.disk_layout.specs.Directory.{is_used, slots_in, type_byte, used_slots}
+use Rattle.disk_layout.specs.Directory.{is_used, slots_in, used_slots}
 use Rattle.disk_layout.specs.Layout.{File, IsLayout, Layout, count_field, file_owns, is_rel, is_rel_type, owners}
 use Rattle.disk_layout.specs.Listed.{is_plain}
 use Rattle.disk_layout.specs.Whole.{IsWhole, IsWholeFile}
 use Rattle.disk_layout.specs.declared.slot.Slot.{Slot}
-use Rattle.rel_records.proofs.lemmas.creation.Creating.{with_new}
+use Rattle.rel_records.proofs.lemmas.creation.Creating.{SameEntry, with_new}
 use Rattle.rel_records.proofs.lemmas.creation.InSector.{count-any, entry-any}
 use Rattle.rel_records.proofs.lemmas.creation.NewFiles.{new_file}
 use Rattle.rel_records.proofs.lemmas.reading.Opened.{rel-of}
@@ -34,7 +34,7 @@ IsLong img y = (IsTrue (is_plain y.slot) → count_field y.slot ≤ length y.blo
     × (IsTrue (is_rel y.slot || is_plain y.slot) → HasEnd img y)
 
 -- so and with exact side sectors all files are whole
-exact-long : (img : Image) (m : Layout) → IsLayout img m
+pub exact-long : (img : Image) (m : Layout) → IsLayout img m
     → ((k : ℕ) (y : File) → slice_get m.files k ≡ Some y → IsTrue (is_rel y.slot) → AreExact img y)
     → ((y : File) → Contains m.files y → IsLong img y) → IsWhole img
 exact-long img m now exact long k' is' =
@@ -66,15 +66,14 @@ before-whole a c l clean now same w = exact-long c l now exact long
               (same q (owned-block l y q on (get-contains y.blocks _ q last)) ∙ zeros),
         )
 
--- a link in the directory changes the count and the type of no entry
+-- a link in the directory changes no entry
 pub linked-stays : (c : Image) (l : Layout) (p : Place) (bytes : Sector) → length c ≡ 683 → IsRelinked (sector c p) bytes
-    → IsLayout c l → (f : File) → Contains l.files f
-    → (count_field (reslot (put c p bytes) f.slot) ≡ count_field f.slot)
-    × (type_byte f.slot ≡ type_byte (reslot (put c p bytes) f.slot))
+    → IsLayout c l → (f : File) → Contains l.files f → SameEntry f.slot (reslot (put c p bytes) f.slot)
+    × (count_field (reslot (put c p bytes) f.slot) ≡ count_field f.slot)
 unfolding used_slots
 linked-stays c l p bytes full relinked is f d =
     let on = (filter-out is_used (flat_map (λ q. slots_in q (sector c q)) l.directory) f.slot (slot-of c l f is d)).0 in
-    (count-any c l p bytes full relinked l.directory f.slot on, (entry-any c l p bytes full relinked l.directory f.slot on).face.kind)
+    (entry-any c l p bytes full relinked l.directory f.slot on, count-any c l p bytes full relinked l.directory f.slot on)
 
 -- a relative file of one fresh block is
 pub fresh-long : (b : Image) (s : Slot) (block side : Place) (u L : ℕ) → IsTrue (is_rel s)
@@ -95,17 +94,17 @@ module _ (a c : Image) (p : Place) (bytes : Sector) (l m : Layout) (fs gs : List
     (files : m.files ≡ with_new (put c p bytes) fs gs k)
     (clean : IsCleanLayout (put c p bytes) m) (same : AgreeAt a c (owners l))
     (off : ¬ (Contains (flat_map file_owns l.files) p))
-    (stays : (f : File) → Contains l.files f → (count_field (reslot (put c p bytes) f.slot) ≡ count_field f.slot)
-    × (type_byte f.slot ≡ type_byte (reslot (put c p bytes) f.slot)))
+    (stays : (f : File) → Contains l.files f → SameEntry f.slot (reslot (put c p bytes) f.slot)
+    × (count_field (reslot (put c p bytes) f.slot) ≡ count_field f.slot))
     (new : IsLong (put c p bytes) k) (w : IsWhole a) where
   old-long : (f : File) → Contains l.files f → IsLong (put c p bytes) (reread (put c p bytes) f)
   old-long f on =
       let (i, there) = contains-get l.files f on in
       let old = w l is i f there in
-      let kind = (stays f on).1 in
+      let kind = (stays f on).0.face.kind in
       let plain : is_plain f.slot ≡ is_plain (reslot (put c p bytes) f.slot) =
       ap (λ t. (nat_le 129 t && nat_le t 131) || (nat_le 193 t && nat_le t 195)) kind in (
-        λ t. omega (arith, (stays f on).0, old.counted (plain ∙ t)),
+        λ t. omega (arith, (stays f on).1, old.counted (plain ∙ t)),
         λ t q last zeros. (let own = get-contains f.blocks _ q last in
             let apart : p ≢ q = λ one. off (let P : Place → Type 0 = Contains (flat_map file_owns l.files) in
             subst P (sym one) (flat_map-in file_owns l.files f q on (Contains-append_left f.blocks f.sides q own))) in

@@ -1,8 +1,6 @@
 -- A block is read, patched and written.
 use Rattle.std.proofs.Common.{ap, arith, subst, ◌∙◌, ◌∷◌, []}
-use Rattle.d64_image.proofs.Told.{at-ok}
 use Rattle.d64_image.specs.Images.{Sector}
-use Rattle.rel_records.proofs.lemmas.Told.{not-done}
 use Rattle.rel_records.proofs.lemmas.writing.Puts.{passes, puts-none, reads-puts}
 use Rattle.rel_records.specs.Puts.{PutsEach, in_block}
 use Rattle.rel_records.specs.Written.{patched}
@@ -23,10 +21,3 @@ returns-in_err-read-clause-put g c =
     let puts = in_block (S.image c.args.disk.now) c.args.place c.args.start c.args.end c.args.text.now ∷ [] in
     passes (PutsEach S c.args.disk.now c.read.new.disk puts 1) c.from_residual.result _ c.from_residual.ensures.1
     (puts-none S c.args.disk.now c.read.new.disk puts 1 1 _ _ (omega arith) c.in_err-read.ensures)
-
-pub returns-in_err-read-clause-block : goal.returns-in_err-read-clause-block
-returns-in_err-read-clause-block g c = not-done c.from_residual.result _ c.from_residual.ensures.1 _
-
-pub returns-clause-block : goal.returns-clause-block
-returns-clause-block g c = at-ok c.write.result (c.patch.ensures
-    ∙ ap (λ (b : Sector). patched c.args.start c.args.end c.args.text.now b) c.in_ok-read.ensures.ok)

@@ -1,9 +1,8 @@
 -- Sector by sector.
-use Rattle.rel_records.proofs.lemmas.Told.{none-done, tells-failed}
 use Rattle.std.proofs.Common.{ap, arith, length, refl, subst, ◌∙◌, ◌≡◌}
 use borrow.Author.Count.{below_more}
 use Rattle.std.proofs.lemmas.Option.{slice_get_read}
-use Rattle.d64_image.proofs.Moments.{no_reads, reads_then, reads_weaker}
+use Rattle.d64_image.proofs.Moments.{no_reads, reads_then}
 use Rattle.d64_image.specs.Images.{Image, Sector, sector}
 use Rattle.d64_image.specs.declared.place.Place.{Place}
 use Rattle.rel_records.proofs.lemmas.directory.Rooms.{first-room, no-room, same-get}
@@ -18,14 +17,6 @@ loop-before-init g c = record {
   last = λ n p e at. absurd (omega (arith, e));
 }
 
-pub returns-in_err-read-clause-reads : goal.returns-in_err-read-clause-reads
-returns-in_err-read-clause-reads g c = reads_then g.D.Sectors.history _ _ _ _ 1 _
-    (omega (arith, c.loop-before-test.true)) c.loop-before.invariant.reads c.read.ensures.reads
-
-pub returns-in-Some-clause-bytes : goal.returns-in-Some-clause-bytes
-returns-in-Some-clause-bytes g c = c.in_ok-read.ensures.sector
-    ∙ ap (λ (i : Image). sector i c.index-places-before.result) c.loop-before.invariant.reads.image
-
 pub returns-in-Some-clause-ok : goal.returns-in-Some-clause-ok
 returns-in-Some-clause-ok g c =
     let read = c.in_ok-read.ensures.sector ∙ ap (λ (i : Image). sector i c.index-places-before.result)
@@ -35,10 +26,6 @@ returns-in-Some-clause-ok g c =
     first-room (g.D.Sectors.history.image c.args.disk.now) c.args.places.now c.loop-before.before
     c.index-places-before.result c.read.new.to c.in-Some.number there c.loop-before.invariant.full read
     (c.in-Some.ensures c.index-places-before.result)
-
-pub returns-in-Some-clause-reads : goal.returns-in-Some-clause-reads
-returns-in-Some-clause-reads g c = reads_then g.D.Sectors.history _ _ _ _ 1 _ (omega (arith, c.loop-before-test.true))
-    c.loop-before.invariant.reads c.read.ensures.reads
 
 pub loop-before-preserved : goal.loop-before-preserved
 loop-before-preserved g c =
@@ -83,38 +70,8 @@ returns-clause-ok g c =
     (omega (arith, few)) there
     (λ k lt. c.loop-before.invariant.full k (omega (arith, lt, c.loop-before-test.false)))
 
-pub returns-clause-reads : goal.returns-clause-reads
-returns-clause-reads g c = reads_weaker g.D.Sectors.history _ _ _ _ (omega (arith, c.loop-before.auto))
-    c.loop-before.invariant.reads
-
-pub returns-in-Some-clause-before : goal.returns-in-Some-clause-before
-returns-in-Some-clause-before g c = slice_get_read c.args.places.now (length c.args.places.now) c.loop-before.before
-    c.index-places-before.result refl c.loop-before-test.true c.index-places-before.is
-
 pub returns-clause-before : goal.returns-clause-before
 returns-clause-before g c =
     let few = c.requires in
     slice_get_read c.args.places.now (length c.args.places.now) _ c.index-places-before-2.result refl
     (omega (arith, few)) c.index-places-before-2.is
-
-pub read-requires : goal.read-requires
-read-requires g c κs = λ h. h
-
-pub returns-in_err-read-clause-failures : goal.returns-in_err-read-clause-failures
-returns-in_err-read-clause-failures g c = tells-failed g.D.Sectors.history _ _ _
-    c.loop-before.invariant.failures c.from_residual.result _ c.from_residual.ensures.1 c.in_err-read.ensures.failures
-
-pub returns-in_err-read-clause-bytes : goal.returns-in_err-read-clause-bytes
-returns-in_err-read-clause-bytes g c = none-done c.from_residual.result _ c.from_residual.ensures.1 _
-
-pub returns-in_err-read-clause-ok : goal.returns-in_err-read-clause-ok
-returns-in_err-read-clause-ok g c = none-done c.from_residual.result _ c.from_residual.ensures.1 _
-
-pub returns-in_err-read-clause-before : goal.returns-in_err-read-clause-before
-returns-in_err-read-clause-before g c = none-done c.from_residual.result _ c.from_residual.ensures.1 _
-
-pub returns-in-Some-clause-failures : goal.returns-in-Some-clause-failures
-returns-in-Some-clause-failures g c = c.in_ok-read.ensures.failures ∙ c.loop-before.invariant.failures
-
-pub returns-clause-failures : goal.returns-clause-failures
-returns-clause-failures g c = c.loop-before.invariant.failures

@@ -72,12 +72,3 @@ returns g c =
           (c.in_ok-write-2.ensures.failures ∙ c.in_ok-write.ensures.failures) c.write-3.result
           c.write-3.ensures.failures;
     }
-
-pub write-requires : goal.write-requires
-write-requires g c κs = λ h. h
-
-pub write-requires-2 : goal.write-requires-2
-write-requires-2 g c κs = λ h. h
-
-pub write-requires-3 : goal.write-requires-3
-write-requires-3 g c κs = λ h. h

@@ -1,5 +1,5 @@
 -- The tail of the block before the last.
-use Rattle.std.proofs.Common.{ℕ, arith, refl, sym, ap, inl, inr, length, ◌≡◌, ◌≤◌, ◌<◌, ◌∙◌, ◌+◌, ◌-◌, ◌*◌, lit<}
+use Rattle.std.proofs.Common.{ℕ, arith, refl, sym, ap, inl, inr, length, ◌≡◌, ◌≤◌, ◌<◌, ◌∙◌, ◌+◌, ◌-◌, ◌*◌}
 use Rattle.std.specs.Prelude.{Some, if◌then◌else◌, nat_lt, slice_get}
 use Rattle.std.proofs.lemmas.Bool.{lt-ltb}
 use Rattle.std.proofs.lemmas.Result.{on_ok_weaker}
@@ -61,15 +61,6 @@ returns g c =
           c.write.ensures.failures;
     }
 
-pub overflow_cast-count : goal.overflow_cast-count
-overflow_cast-count g c = omega (arith, c.len-count.ensures.fits)
-
-pub overflow_sub-count : goal.overflow_sub-count
-overflow_sub-count g c = omega (arith, c.len-count.ensures.value, c.requires.some)
-
-pub overflow_mul-count : goal.overflow_mul-count
-overflow_mul-count g c = omega (arith, c.len-count.ensures.fits)
-
 pub returns-then-from-count : goal.returns-then-from-count
 returns-then-from-count g c =
     let S = g.D.Sectors.history in
@@ -79,15 +70,6 @@ returns-then-from-count g c =
       reads = omega arith;
       failures = refl;
     }
-
-pub overflow_sub-place : goal.overflow_sub-place
-overflow_sub-place g c = omega (arith, c.if-from-count.false, c.len-count.ensures.value)
-
-pub offset_bounds-deref-count : goal.offset_bounds-deref-count
-offset_bounds-deref-count g c = omega (arith, c.len-count.ensures.fits)
-
-pub bounds-deref-count : goal.bounds-deref-count
-bounds-deref-count g c = omega (arith, ap length c.deref.ensures.0, c.len-count.ensures.value, c.requires.some)
 
 pub returns-in_err-read : goal.returns-in_err-read
 returns-in_err-read g c =
@@ -100,30 +82,3 @@ returns-in_err-read g c =
       failures = tells-failed g.D.Sectors.history _ _ _ refl c.from_residual.result _ c.from_residual.ensures.1
           c.in_err-read.ensures.failures;
     }
-
-pub overflow_cast-count-2 : goal.overflow_cast-count-2
-overflow_cast-count-2 g c = omega (arith, c.len-count.ensures.fits)
-
-pub overflow_sub-count-2 : goal.overflow_sub-count-2
-overflow_sub-count-2 g c = omega (arith, c.if-from-count.false, c.len-count.ensures.value)
-
-pub overflow_mul-count-2 : goal.overflow_mul-count-2
-overflow_mul-count-2 g c = omega (arith, c.len-count.ensures.fits)
-
-pub fill_tail-requires-clause-at : goal.fill_tail-requires-clause-at
-fill_tail-requires-clause-at g c = omega (arith, c.len-count.ensures.fits)
-
-pub fill_tail-requires-clause-total : goal.fill_tail-requires-clause-total
-fill_tail-requires-clause-total g c = c.requires.total
-
-pub fill_tail-requires-clause-length : goal.fill_tail-requires-clause-length
-fill_tail-requires-clause-length g c = c.args.parts.now.size_low
-
-pub deref-requires : goal.deref-requires
-deref-requires g c = lit< tt
-
-pub read-requires : goal.read-requires
-read-requires g c κs = λ h. h
-
-pub write-requires : goal.write-requires
-write-requires g c κs = λ h. h

@@ -3,9 +3,6 @@ use Rattle.std.proofs.Common.{arith}
 use Rattle.rel_records.proofs.growth.filling.fill_last.Goals as goal
 use Rattle.rel_records.proofs.lemmas.filling.Fulls.{records-few}
 
-pub overflow_mul-count : goal.overflow_mul-count
-overflow_mul-count c = omega (arith, c.requires.few)
-
 pub fill-requires : goal.fill-requires
 fill-requires c = record {
   at = omega (arith, c.requires.few);

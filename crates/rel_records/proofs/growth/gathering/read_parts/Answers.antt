@@ -1,9 +1,8 @@
 -- The places, the directory sector, the last block.
-use Rattle.std.proofs.Common.{arith, ap, ◌∙◌, refl, length, lit<}
-use Rattle.d64_image.proofs.Moments.{reads_then, reads_weaker}
+use Rattle.std.proofs.Common.{arith, ap, ◌∙◌, refl, length}
+use Rattle.d64_image.proofs.Moments.{reads_then}
 use Rattle.d64_image.specs.Images.{sector}
 use Rattle.rel_records.proofs.growth.gathering.read_parts.Goals as goal
-use Rattle.rel_records.proofs.lemmas.Told.{none-done, tells-failed}
 use Rattle.rel_records.proofs.lemmas.growth.Gathered.{number-low}
 use Rattle.rel_records.proofs.lemmas.growth.Gathers.{is-at}
 use Rattle.rel_records.proofs.lemmas.reading.Opened.{some-blocks}
@@ -72,50 +71,9 @@ returns-clause-ok g c l n f of =
     (c.in_ok-read-2.ensures.sector ∙ ap (λ img. sector img c.index-deref-len.result) second)
     (c.in_ok-read.ensures.sector ∙ ap (λ img. sector img c.args.file.now.sector) first)
 
-pub returns-in_err-read_places-clause-ok : goal.returns-in_err-read_places-clause-ok
-returns-in_err-read_places-clause-ok g c l n f of = none-done c.from_residual.result _ c.from_residual.ensures.1 _
-
-pub returns-in_err-read_places-clause-failures : goal.returns-in_err-read_places-clause-failures
-returns-in_err-read_places-clause-failures g c = tells-failed g.D.Sectors.history _ _ _ refl c.from_residual.result _
-    c.from_residual.ensures.1 c.in_err-read_places.ensures.failures
-
-pub returns-in_err-read-clause-ok : goal.returns-in_err-read-clause-ok
-returns-in_err-read-clause-ok g c l n f of = none-done c.from_residual-in_err-read.result _
-    c.from_residual-in_err-read.ensures.1 _
-
-pub returns-in_err-read-clause-failures : goal.returns-in_err-read-clause-failures
-returns-in_err-read-clause-failures g c = tells-failed g.D.Sectors.history _ _ _ c.in_ok-read_places.ensures.failures
-    c.from_residual-in_err-read.result _ c.from_residual-in_err-read.ensures.1 c.in_err-read.ensures.failures
-
-pub returns-in_err-read-2-clause-ok : goal.returns-in_err-read-2-clause-ok
-returns-in_err-read-2-clause-ok g c l n f of = none-done c.from_residual-in_err-read-2.result _
-    c.from_residual-in_err-read-2.ensures.1 _
-
-pub returns-in_err-read-2-clause-failures : goal.returns-in_err-read-2-clause-failures
-returns-in_err-read-2-clause-failures g c = tells-failed g.D.Sectors.history _ _ _ (c.in_ok-read.ensures.failures
-    ∙ c.in_ok-read_places.ensures.failures) c.from_residual-in_err-read-2.result _
-    c.from_residual-in_err-read-2.ensures.1 c.in_err-read-2.ensures.failures
-
-pub returns-in_err-read_places-clause-reads : goal.returns-in_err-read_places-clause-reads
-returns-in_err-read_places-clause-reads g c = reads_weaker g.D.Sectors.history _ _ 6 8 (omega arith)
-    c.in_err-read_places.ensures.reads
-
-pub returns-clause-failures : goal.returns-clause-failures
-returns-clause-failures g c = c.in_ok-read-2.ensures.failures ∙ c.in_ok-read.ensures.failures
-    ∙ c.in_ok-read_places.ensures.failures
-
 pub read_places-requires : goal.read_places-requires
 read_places-requires g c = record {
   of = c.requires.of;
   no_sides = c.new-sides.ensures;
   no_blocks = c.new-blocks.ensures;
 }
-
-pub deref-requires : goal.deref-requires
-deref-requires g c = lit< tt
-
-pub read-requires : goal.read-requires
-read-requires g c κs = λ h. h
-
-pub read-requires-2 : goal.read-requires-2
-read-requires-2 g c κs = λ h. h

@@ -12,9 +12,6 @@ returns-clause-laid_out c =
     refl refl refl refl refl refl c.len-count.ensures.value c.make_fresh.ensures c.link_block.ensures.linked
     c.put_count.ensures.rest (omega (arith, c.len.ensures.value, c.len-2.ensures.value)) c.put_count.ensures.count
 
-pub overflow_cast-count : goal.overflow_cast-count
-overflow_cast-count c = omega (arith, c.len-count.ensures.value, c.requires.few)
-
 pub take_places-fresh-requires : goal.take_places-fresh-requires
 take_places-fresh-requires c = record {
   room = c.requires.room;
@@ -22,21 +19,3 @@ take_places-fresh-requires c = record {
   few = c.requires.few;
   sides = c.requires.sides;
 }
-
-pub link_block-requires-clause-some : goal.link_block-requires-clause-some
-link_block-requires-clause-some c = omega (arith, c.len-count.ensures.value, c.requires.some)
-
-pub link_block-requires-clause-few : goal.link_block-requires-clause-few
-link_block-requires-clause-few c = omega (arith, c.len-count.ensures.value, c.requires.few)
-
-pub overflow_add-owned : goal.overflow_add-owned
-overflow_add-owned c = omega (arith, c.len.ensures.fits, c.len-2.ensures.fits)
-
-pub overflow_cast-owned : goal.overflow_cast-owned
-overflow_cast-owned c = omega (arith, c.len.ensures.fits, c.len-2.ensures.fits)
-
-pub make_fresh-requires-clause-few : goal.make_fresh-requires-clause-few
-make_fresh-requires-clause-few c = omega (arith, c.len-count.ensures.value, c.requires.few)
-
-pub returns-clause-sector : goal.returns-clause-sector
-returns-clause-sector c = c.link_block.ensures.sector

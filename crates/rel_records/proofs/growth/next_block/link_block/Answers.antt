@@ -10,9 +10,6 @@ overflow_mul-from c = omega (
   records-inside c.args.length c.args.blocks c.full_records.result c.full_records.ensures,
 )
 
-pub overflow_mul-blocks : goal.overflow_mul-blocks
-overflow_mul-blocks c = omega (arith, c.requires.few)
-
 pub fill-requires : goal.fill-requires
 fill-requires c = record {
   at = omega (arith, c.requires.few);

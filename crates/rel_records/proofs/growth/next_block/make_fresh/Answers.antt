@@ -3,9 +3,6 @@ use Rattle.std.proofs.Common.{arith, ◌+◌}
 use Rattle.rel_records.proofs.growth.next_block.make_fresh.Goals as goal
 use Rattle.rel_records.proofs.lemmas.filling.Fulls.{records-few}
 
-pub overflow_mul-at : goal.overflow_mul-at
-overflow_mul-at c = omega (arith, c.requires.few)
-
 pub fill-requires : goal.fill-requires
 fill-requires c = record {
   at = omega (arith, c.requires.few);

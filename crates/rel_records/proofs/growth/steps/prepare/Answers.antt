@@ -1,5 +1,5 @@
 -- The map, the fresh block, the side sectors.
-use Rattle.std.proofs.Common.{arith, subst, ap, ◌≡◌, ◌∙◌, refl, inl, inr, length, sym}
+use Rattle.std.proofs.Common.{arith, subst, ap, ◌≡◌, ◌∙◌, refl, inl, inr}
 use Rattle.std.proofs.lemmas.Result.{on_ok_weaker}
 use Rattle.d64_image.proofs.Moments.{at_end, changes_weaker, write_change}
 use Rattle.d64_image.specs.Images.{Image, put}
@@ -8,7 +8,6 @@ use Rattle.disk_layout.specs.Directory.{map_place}
 use Rattle.rel_records.proofs.lemmas.steps.Sided.{before_sides, before_two}
 use Rattle.rel_records.specs.growth.Steps.{IsSided}
 use Rattle.rel_records.proofs.lemmas.Told.{tells-after, not-done, tells-failed}
-use Rattle.disk_layout.specs.Chain.{EachOnce}
 use Rattle.rel_records.proofs.growth.steps.prepare.Goals as goal
 
 pub returns-in_err-write-2 : goal.returns-in_err-write-2
@@ -73,12 +72,3 @@ returns-in_err-write g c =
       failures = tells-failed g.D.Sectors.history _ _ _ refl c.from_residual.result _ c.from_residual.ensures.1
           c.in_err-write.ensures.failures;
     }
-
-pub write_sides-requires-clause-some : goal.write_sides-requires-clause-some
-write_sides-requires-clause-some g c = omega (arith, c.requires.some, ap length c.as_slice-2.ensures.value)
-
-pub write_sides-requires-clause-few : goal.write_sides-requires-clause-few
-write_sides-requires-clause-few g c = omega (arith, c.requires.few, ap length c.as_slice-2.ensures.value)
-
-pub write_sides-requires-clause-once : goal.write_sides-requires-clause-once
-write_sides-requires-clause-once g c = subst EachOnce (sym c.as_slice-2.ensures.value) c.requires.once

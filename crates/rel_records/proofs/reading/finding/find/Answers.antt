@@ -18,10 +18,6 @@ returns-in_default g c =
       failures = c.in_ok-list_slots.ensures.failures;
     }
 
-pub bounds-slots-entry : goal.bounds-slots-entry
-bounds-slots-entry g c = slice_get_within c.as_slice-slots.result.now c.in-Some.entry c.in-Some.ensures.slot
-    c.in-Some.ensures.there
-
 pub open_entry-requires : goal.open_entry-requires
 open_entry-requires g c =
     let S = g.D.Sectors.history in
@@ -65,9 +61,6 @@ returns-in_err-list_slots g c =
       failures = passed-on g.D.Sectors.history _ _ _ refl c.from_residual.result _ c.from_residual.ensures.1
           c.in_err-list_slots.ensures.failures;
     }
-
-pub list_slots-requires : goal.list_slots-requires
-list_slots-requires g c = record { sound = c.requires.sound }
 
 pub offset_bounds-slots-entry : goal.offset_bounds-slots-entry
 offset_bounds-slots-entry g c = omega (

@@ -1,6 +1,5 @@
 -- Number by number: the places listed so far.
 use Rattle.std.proofs.Common.{arith, List, ap, ℕ, ◌*◌, ◌+◌, ◌∙◌}
-use Rattle.std.proofs.lemmas.List.{take_all}
 use Rattle.disk_layout.specs.Chain.{named_at}
 use Rattle.rel_records.proofs.lemmas.reading.Found.{listed-more, listed-some}
 use Rattle.rel_records.proofs.reading.finding.list_sides.Goals as goal
@@ -19,7 +18,3 @@ loop-number-preserved c = record {
       (c.side.ensures ∙ ap (λ (bytes : List ℕ). named_at bytes (4 + 2 * c.loop-number.number)) c.new-view.ensures)
       c.unwrap.ensures (c.loop-number.invariant.listed qs count names) c.push.ensures.items;
 }
-
-pub returns : goal.returns
-returns c = λ qs count names. c.loop-number.invariant.listed qs count names
-    ∙ take_all c.loop-number.number qs (omega (arith, count, c.loop-number-test.false))

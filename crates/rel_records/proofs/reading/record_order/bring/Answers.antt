@@ -16,27 +16,6 @@ returns-then-here-block-clause-here g c =
       failures = refl;
     }
 
-pub returns-clause-kept : goal.returns-clause-kept
-returns-clause-kept g c = λ l n f of. c.in_ok-read_block.ensures.ok l n f of
-
-pub returns-then-here-block-clause-kept : goal.returns-then-here-block-clause-kept
-returns-then-here-block-clause-kept g c = c.requires.kept
-
-pub overflow_sub-block : goal.overflow_sub-block
-overflow_sub-block g c = omega (arith, c.if-here-block-2.true)
-
-pub go_on-requires-clause-of : goal.go_on-requires-clause-of
-go_on-requires-clause-of g c = c.requires.of
-
-pub go_on-requires-clause-there : goal.go_on-requires-clause-there
-go_on-requires-clause-there g c = omega (arith, c.if-block-here-eq1.true, c.if-here-block-2.true, c.requires.there)
-
-pub go_on-requires-clause-number : goal.go_on-requires-clause-number
-go_on-requires-clause-number g c = c.in-Some.is
-
-pub go_on-requires-clause-kept : goal.go_on-requires-clause-kept
-go_on-requires-clause-kept g c = c.requires.kept
-
 pub returns-then-block-here-eq1-clause-here : goal.returns-then-block-here-eq1-clause-here
 returns-then-block-here-eq1-clause-here g c =
     let same : c.in-Some.here + 1 ≡ c.args.block = omega (arith, c.if-block-here-eq1.true, c.if-here-block-2.true) in
@@ -46,15 +25,6 @@ returns-then-block-here-eq1-clause-here g c =
       reads = reads_weaker g.D.Sectors.history _ _ 1 2 (omega arith) c.go_on.ensures.next.reads;
       failures = c.go_on.ensures.next.failures;
     }
-
-pub returns-then-block-here-eq1-clause-kept : goal.returns-then-block-here-eq1-clause-kept
-returns-then-block-here-eq1-clause-kept g c = c.go_on.ensures.kept
-
-pub read_block-requires-clause-of : goal.read_block-requires-clause-of
-read_block-requires-clause-of g c = c.requires.of
-
-pub read_block-requires-clause-there : goal.read_block-requires-clause-there
-read_block-requires-clause-there g c = c.requires.there
 
 pub returns-in_err-read_block-clause-here : goal.returns-in_err-read_block-clause-here
 returns-in_err-read_block-clause-here g c =
@@ -66,9 +36,6 @@ returns-in_err-read_block-clause-here g c =
       failures = passed-on g.D.Sectors.history _ _ _ refl c.from_residual.result _ c.from_residual.ensures.1
           c.in_err-read_block.ensures.failures;
     }
-
-pub returns-in_err-read_block-clause-kept : goal.returns-in_err-read_block-clause-kept
-returns-in_err-read_block-clause-kept g c = c.requires.kept
 
 pub returns-clause-here : goal.returns-clause-here
 returns-clause-here g c =
@@ -88,10 +55,6 @@ no-number b e = cc
 
 pub returns-then-here-block-clause-quiet : goal.returns-then-here-block-clause-quiet
 returns-then-here-block-clause-quiet g c kept = no_reads g.D.Sectors.history c.args.disk.now
-
-pub returns-then-block-here-eq1-clause-quiet : goal.returns-then-block-here-eq1-clause-quiet
-returns-then-block-here-eq1-clause-quiet g c kept =
-    absurd (c.if-here-block.false (same-number _ _ (sym c.in-Some.is ∙ kept)))
 
 pub returns-in_err-read_block-clause-quiet : goal.returns-in_err-read_block-clause-quiet
 returns-in_err-read_block-clause-quiet g c kept =

@@ -1,6 +1,6 @@
 -- The block behind the one that is kept is the one that its link names.
 use Rattle.rel_records.proofs.lemmas.Told.{fault-is, none-done, passed-on}
-use Rattle.std.proofs.Common.{arith, refl, ◌∙◌}
+use Rattle.std.proofs.Common.{refl, ◌∙◌}
 use Rattle.rel_records.proofs.lemmas.reading.Readings.{behind-is, behind-there, kept-is}
 use Rattle.rel_records.proofs.reading.record_order.go_on.Goals as goal
 
@@ -25,9 +25,6 @@ returns-in_err-read_behind-clause-next g c = record {
   failures = passed-on g.D.Sectors.history _ _ _ refl c.from_residual.result _ c.from_residual.ensures.1
       c.in_err-read_behind.ensures.failures;
 }
-
-pub overflow_add-last : goal.overflow_add-last
-overflow_add-last g c = omega (arith, c.requires.there, c.args.file.now.few)
 
 pub returns-clause-next : goal.returns-clause-next
 returns-clause-next g c = record {

@@ -1,17 +1,121 @@
 -- The record's bytes are those of the block that is kept, and of the one behind it.
-mod Kept
-mod Near
-mod Text
-use Rattle.rel_records.proofs.lemmas.reading.Starts.{start-fits, start-low}
-use Rattle.std.proofs.Common.{arith, subst, sym, ◌-◌}
-use Rattle.d64_image.specs.Images.{Image}
-use Rattle.rel_records.proofs.lemmas.reading.Readings.{inside-of}
-use Rattle.rel_records.specs.File.{IsOf}
-use Rattle.rel_records.specs.reading.Kept.{IsKept}
+use Rattle.std.proofs.Common.{arith, subst, sym, ◌-◌, ap, ℕ, ◌+◌, ◌*◌, ◌%◌, ◌<◌, ◌≤◌, Option, length, ◌∙◌, ◌≡◌, refl}
+use Rattle.d64_image.specs.Images.{Image, IsImage, Sector}
+use Rattle.rel_records.proofs.lemmas.reading.Readings.{inside-of, has-read, record-read}
+use Rattle.rel_records.specs.File.{IsOf, length_of}
+use Rattle.rel_records.specs.reading.Kept.{IsKept, next_reads}
 use Rattle.rel_records.proofs.reading.record_order.next_there.Goals as goal
-use Rattle.rel_records.proofs.reading.record_order.next_there.Answers.Kept as kept
-use Rattle.rel_records.proofs.reading.record_order.next_there.Answers.Near as near
-use Rattle.rel_records.proofs.reading.record_order.next_there.Answers.Text as text
+use Rattle.std.proofs.lemmas.Bool.{lt-ltb}
+use Rattle.std.specs.Prelude.{if◌then◌else◌, IfSome}
+use Rattle.d64_image.proofs.Moments.{reads_then, reads_weaker}
+use Rattle.disk_layout.proofs.lemmas.records.Joined.{sector-long}
+use Rattle.disk_layout.specs.Layout.{File}
+use Rattle.rel_records.specs.reading.Block.{IsBlock}
+use Rattle.rel_records.proofs.lemmas.Told.{fault-is, none-done, passed-on}
+
+-- What is kept is of the file.
+pub returns-in_err-go_on-clause-kept : goal.returns-in_err-go_on-clause-kept
+returns-in_err-go_on-clause-kept g c = subst (λ (i : Image). IsKept i c.args.file.now c.go_on.new.last)
+    c.bring.ensures.here.reads.image c.go_on.ensures.kept
+
+pub returns-clause-kept : goal.returns-clause-kept
+returns-clause-kept g c = subst (λ (i : Image). IsKept i c.args.file.now c.go_on.new.last)
+    c.bring.ensures.here.reads.image c.go_on.ensures.kept
+
+-- How many sectors are read where the block is kept in which the record begins.
+pub returns-in_err-bring-clause-near : goal.returns-in_err-bring-clause-near
+returns-in_err-bring-clause-near g c kept = reads_weaker g.D.Sectors.history _ _ 0 _ (omega arith)
+    (c.bring.ensures.quiet kept)
+
+pub returns-in_err-go_on-clause-near : goal.returns-in_err-go_on-clause-near
+returns-in_err-go_on-clause-near g c kept =
+    let S = g.D.Sectors.history in
+    let L = length_of c.args.file.now in
+    let over : 254 < (c.args.number - 1) * L % 254 + L = omega (arith, c.if-start-size-le-DATA.false) in
+    let once : 0 + 1 ≤ next_reads L c.args.number = omega
+    (arith, ap {B = ℕ} (λ b. if b then 1 else 0) (lt-ltb 254 ((c.args.number - 1) * L % 254 + L) over)) in
+    reads_then S _ _ _ 0 1 _ once (c.bring.ensures.quiet kept) c.go_on.ensures.next.reads
+
+pub returns-clause-near : goal.returns-clause-near
+returns-clause-near g c kept =
+    let S = g.D.Sectors.history in
+    let L = length_of c.args.file.now in
+    let over : 254 < (c.args.number - 1) * L % 254 + L = omega (arith, c.if-start-size-le-DATA.false) in
+    let once : 0 + 1 ≤ next_reads L c.args.number = omega
+    (arith, ap {B = ℕ} (λ b. if b then 1 else 0) (lt-ltb 254 ((c.args.number - 1) * L % 254 + L) over)) in
+    reads_then S _ _ _ 0 1 _ once (c.bring.ensures.quiet kept) c.go_on.ensures.next.reads
+
+-- The text is the record's.
+-- a block that is read has 256 bytes
+block-long : (img : Image) (f : File) (r : ℕ) (bytes : Sector) → IsImage img → IsBlock img f.blocks r bytes
+    → length bytes ≡ 256
+block-long img f r bytes w is = ap length is.read ∙ sector-long img is.place w
+
+pub returns-then-start-size-le-DATA-clause-text : goal.returns-then-start-size-le-DATA-clause-text
+returns-then-start-size-le-DATA-clause-text g c =
+    let S = g.D.Sectors.history in
+    record {
+      ok = has-read (S.image c.args.disk.now) c.args.file.now c.args.number _ c.requires.of (S.whole c.args.disk.now)
+          (λ l n f of.
+          let S = g.D.Sectors.history in
+          let here = subst
+          (λ (o : Option ℕ). IfSome o (λ r. IsBlock (S.image c.args.disk.now) f.blocks r c.bring.new.last.bytes))
+          c.in_ok-bring.ensures.here.ok (c.bring.ensures.kept l n f of) in
+          record-read (S.image c.args.disk.now) l n f c.args.file.now of (S.whole c.args.disk.now) c.args.number
+          c.bring.new.last.bytes c.bring.new.last.bytes c.fill_record.new.text.items c.requires.low c.requires.high
+          here (λ over. absurd (omega (arith, over, c.if-start-size-le-DATA.true)))
+          (block-long _ f _ _ (S.whole c.args.disk.now) here) c.fill_record.ensures);
+      err = tt;
+      reads = reads_weaker g.D.Sectors.history _ _ 2 3 (omega arith) c.bring.ensures.here.reads;
+      failures = c.in_ok-bring.ensures.here.failures;
+    }
+
+pub returns-clause-text : goal.returns-clause-text
+returns-clause-text g c =
+    let S = g.D.Sectors.history in
+    record {
+      ok = has-read (S.image c.args.disk.now) c.args.file.now c.args.number _ c.requires.of (S.whole c.args.disk.now)
+          (λ l n f of.
+          let S = g.D.Sectors.history in
+          let img = S.image c.args.disk.now in
+          let here = subst (λ (o : Option ℕ). IfSome o (λ r. IsBlock img f.blocks r c.bring.new.last.bytes))
+          c.in_ok-bring.ensures.here.ok (c.bring.ensures.kept l n f of) in
+          let kept = subst (λ (i : Image). IsKept i c.args.file.now c.go_on.new.last) c.bring.ensures.here.reads.image
+          c.go_on.ensures.kept in
+          let behind = subst (λ (o : Option ℕ). IfSome o (λ r. IsBlock img f.blocks r c.go_on.new.last.bytes))
+          c.in_ok-go_on.ensures.next.ok (kept l n f of) in
+          record-read img l n f c.args.file.now of (S.whole c.args.disk.now) c.args.number c.bring.new.last.bytes
+          c.go_on.new.last.bytes c.fill_record-2.new.text.items c.requires.low c.requires.high
+          here (λ over. behind) (block-long _ f _ _ (S.whole c.args.disk.now) behind) c.fill_record-2.ensures);
+      err = tt;
+      reads = reads_then g.D.Sectors.history _ _ _ 2 1 3 (omega arith) c.bring.ensures.here.reads
+          c.go_on.ensures.next.reads;
+      failures = c.in_ok-go_on.ensures.next.failures ∙ c.in_ok-bring.ensures.here.failures;
+    }
+
+pub returns-in_err-bring-clause-text : goal.returns-in_err-bring-clause-text
+returns-in_err-bring-clause-text g c =
+    record {
+      ok = none-done c.from_residual.result _ c.from_residual.ensures.1 _;
+      err = fault-is c.from_residual.result _ c.from_residual.ensures.1 _
+          (λ e is. is ∙ c.in_err-bring.ensures.here.err);
+      reads = reads_weaker g.D.Sectors.history _ _ 2 3 (omega arith) c.bring.ensures.here.reads;
+      failures = passed-on g.D.Sectors.history _ _ _ refl c.from_residual.result _ c.from_residual.ensures.1
+          c.in_err-bring.ensures.here.failures;
+    }
+
+pub returns-in_err-go_on-clause-text : goal.returns-in_err-go_on-clause-text
+returns-in_err-go_on-clause-text g c =
+    record {
+      ok = none-done c.from_residual-in_err-go_on.result _ c.from_residual-in_err-go_on.ensures.1 _;
+      err = fault-is c.from_residual-in_err-go_on.result _ c.from_residual-in_err-go_on.ensures.1 _
+          (λ e is. is ∙ c.in_err-go_on.ensures.next.err);
+      reads = reads_then g.D.Sectors.history _ _ _ 2 1 3 (omega arith) c.bring.ensures.here.reads
+          c.go_on.ensures.next.reads;
+      failures = passed-on g.D.Sectors.history _ _ _ c.in_ok-bring.ensures.here.failures
+          c.from_residual-in_err-go_on.result _ c.from_residual-in_err-go_on.ensures.1
+          c.in_err-go_on.ensures.next.failures;
+    }
 
 pub bring-requires-clause-there : goal.bring-requires-clause-there
 bring-requires-clause-there g c =
@@ -33,62 +137,8 @@ pub go_on-requires-clause-kept : goal.go_on-requires-clause-kept
 go_on-requires-clause-kept g c = subst (λ (i : Image). IsKept i c.args.file.now c.bring.new.last)
     (sym c.bring.ensures.here.reads.image) c.bring.ensures.kept
 
-pub returns-in_err-go_on-clause-kept : goal.returns-in_err-go_on-clause-kept
-returns-in_err-go_on-clause-kept = kept.returns-in_err-go_on-clause-kept
-
-pub returns-clause-kept : goal.returns-clause-kept
-returns-clause-kept = kept.returns-clause-kept
-
-pub returns-in_err-bring-clause-kept : goal.returns-in_err-bring-clause-kept
-returns-in_err-bring-clause-kept = kept.returns-in_err-bring-clause-kept
-
-pub returns-then-start-size-le-DATA-clause-kept : goal.returns-then-start-size-le-DATA-clause-kept
-returns-then-start-size-le-DATA-clause-kept = kept.returns-then-start-size-le-DATA-clause-kept
-
-pub returns-in_err-bring-clause-near : goal.returns-in_err-bring-clause-near
-returns-in_err-bring-clause-near = near.returns-in_err-bring-clause-near
-
-pub returns-then-start-size-le-DATA-clause-near : goal.returns-then-start-size-le-DATA-clause-near
-returns-then-start-size-le-DATA-clause-near = near.returns-then-start-size-le-DATA-clause-near
-
-pub returns-in_err-go_on-clause-near : goal.returns-in_err-go_on-clause-near
-returns-in_err-go_on-clause-near = near.returns-in_err-go_on-clause-near
-
-pub returns-clause-near : goal.returns-clause-near
-returns-clause-near = near.returns-clause-near
-
-pub returns-then-start-size-le-DATA-clause-text : goal.returns-then-start-size-le-DATA-clause-text
-returns-then-start-size-le-DATA-clause-text = text.returns-then-start-size-le-DATA-clause-text
-
-pub returns-clause-text : goal.returns-clause-text
-returns-clause-text = text.returns-clause-text
-
-pub returns-in_err-bring-clause-text : goal.returns-in_err-bring-clause-text
-returns-in_err-bring-clause-text = text.returns-in_err-bring-clause-text
-
-pub returns-in_err-go_on-clause-text : goal.returns-in_err-go_on-clause-text
-returns-in_err-go_on-clause-text = text.returns-in_err-go_on-clause-text
-
-pub overflow_sub-start : goal.overflow_sub-start
-overflow_sub-start g c = c.requires.low
-
 pub overflow_mul-start : goal.overflow_mul-start
 overflow_mul-start g c =
     let fits = inside-of _ c.args.file.now c.args.number c.requires.of (g.D.Sectors.history.whole c.args.disk.now)
     c.requires.low c.requires.high in
     omega (arith, fits, c.args.file.now.few)
-
-pub bring-requires-clause-of : goal.bring-requires-clause-of
-bring-requires-clause-of g c = c.requires.of
-
-pub bring-requires-clause-kept : goal.bring-requires-clause-kept
-bring-requires-clause-kept g c = c.requires.kept
-
-pub overflow_add-start : goal.overflow_add-start
-overflow_add-start g c = start-fits _ _ c.args.file.now.size_high
-
-pub fill_record-requires : goal.fill_record-requires
-fill_record-requires g c = record { start = start-low _; size = c.args.file.now.size_high }
-
-pub fill_record-requires-2 : goal.fill_record-requires-2
-fill_record-requires-2 g c = record { start = start-low _; size = c.args.file.now.size_high }

@@ -58,34 +58,3 @@ returns-clause-text g c =
       reads = c.next_there.ensures.text.reads;
       failures = c.next_there.ensures.text.failures;
     }
-
-pub returns-then-number-eq0-clause-kept : goal.returns-then-number-eq0-clause-kept
-returns-then-number-eq0-clause-kept g c = c.requires.kept
-
-pub returns-then-not-has_records-clause-kept : goal.returns-then-not-has_records-clause-kept
-returns-then-not-has_records-clause-kept g c = c.requires.kept
-
-pub returns-clause-kept : goal.returns-clause-kept
-returns-clause-kept g c = c.next_there.ensures.kept
-
-pub returns-then-number-eq0-clause-near : goal.returns-then-number-eq0-clause-near
-returns-then-number-eq0-clause-near g c kept =
-    reads_weaker g.D.Sectors.history c.args.disk.now c.args.disk.now 0 _ (omega arith)
-    (no_reads g.D.Sectors.history c.args.disk.now)
-
-pub returns-then-not-has_records-clause-near : goal.returns-then-not-has_records-clause-near
-returns-then-not-has_records-clause-near g c kept =
-    reads_weaker g.D.Sectors.history c.args.disk.now c.args.disk.now 0 _ (omega arith)
-    (no_reads g.D.Sectors.history c.args.disk.now)
-
-pub returns-clause-near : goal.returns-clause-near
-returns-clause-near g c kept = c.next_there.ensures.near kept
-
-pub next_there-requires-clause-of : goal.next_there-requires-clause-of
-next_there-requires-clause-of g c = c.requires.of
-
-pub next_there-requires-clause-kept : goal.next_there-requires-clause-kept
-next_there-requires-clause-kept g c = c.requires.kept
-
-pub next_there-requires-clause-low : goal.next_there-requires-clause-low
-next_there-requires-clause-low g c = omega (arith, c.if-number-eq0.false)

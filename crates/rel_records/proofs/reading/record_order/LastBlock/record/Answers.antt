@@ -1,5 +1,4 @@
 -- The record's bytes are those of the block that is kept, and of no other.
-use Rattle.rel_records.proofs.lemmas.reading.Starts.{start-fits}
 use Rattle.std.proofs.Common.{ap, arith, drop, length, length-drop, sym, take, ℕ}
 use Rattle.std.proofs.Common.{◌%◌, ◌*◌, ◌+◌, ◌-◌, ◌++◌, ◌∙◌, ◌≡◌, ◌≤◌}
 use Rattle.std.proofs.lemmas.List.{drop-append-le, drop-drop, take-append-le}
@@ -31,9 +30,3 @@ returns-clause-bytes c = λ img w of kept.
     (λ over. absurd (omega (arith, over, c.if-from-size-gt-DATA.false))) long
     (part-lent s (length_of v) _ x.bytes x.bytes (omega arith)
     (omega (arith, length-drop 2 x.bytes, long, c.if-from-size-gt-DATA.false))))
-
-pub overflow_sub-start : goal.overflow_sub-start
-overflow_sub-start c = omega (arith, c.if-number-eq0.false)
-
-pub overflow_add-from : goal.overflow_add-from
-overflow_add-from c = start-fits _ _ c.args.file.now.size_high
