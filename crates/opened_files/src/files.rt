@@ -1,20 +1,16 @@
 //! The files that a job names, opened and read.
-ghost use Rattle.std.specs.Prelude.{◌≡◌, IfErr, IfOk, string_bytes, true, vec_items};
+ghost use Rattle.std.specs.Prelude.{◌≡◌, IfErr, IfOk, vec_items};
 ghost use Rattle.std.proofs.Props.{props};
 ghost use Rattle.opened_files.specs.HostFiles.{IsUnread, OfText};
 ghost use Rattle.opened_files.specs.Rights.{MayMakeImage, MayReadText, MayLook};
-ghost use Rattle.opened_files.specs.declared.files.Older.TheVariants.{Kept, Replaced};
 ghost use Rattle.image_file.specs.paths.Rights.{Look, May, MayWrite};
 
 use crate::asides::Aside;
-use crate::image_logs::{is_there, see_one_place};
+use crate::image_logs::see_one_place;
 use crate::outcomes::told;
 use crate::refusals::Refusal;
 use command_faults::CommandFault;
-use image_file::{
-    EndedFile, HostFiles, Identity, Locks, OpensFile, private_mode, read_script, regular,
-    regular_at,
-};
+use image_file::{EndedFile, HostFiles, Identity, Locks, OpensFile, read_script, regular, regular_at};
 use shop_log::{LogNames, find_log, forget_log};
 use std::fs::{Metadata, OpenFile};
 use std::io;
@@ -70,41 +66,12 @@ fn is_file_at<R: HostFiles>(rt: &R, path: &str) -> io::Result<bool>
     }
 }
 
-/// The log of the image at a path that is written over, if there is one. An error if another file stands there. If the image
-/// is kept, no log is looked for.
-fn older_log<R: HostFiles>(
-    rt: &R,
-    path: &str,
-    names: &LogNames,
-    older: Older,
-) -> io::Result<Option<Identity>>
-    requires makes { MayMakeImage R.rights rt.now path.now }
-    requires leads { R.rights.leads rt.now path.now (string_bytes names.now.image) ≡ true }
-{
-    match older {
-        Older::Replaced => find_log(rt, names),
-        Older::Kept => Ok(None),
-    }
-}
-
-/// What becomes of a file that is there before another is made.
-#[derive(Clone, Copy, Debug, PartialEq, Eq)]
-pub enum Older {
-    /// It is written over, and not cut first. Its log stays until the new file is whole.
-    Replaced,
-    /// It stays, and none is made.
-    Kept,
-}
-
 /// The file at a path, which is made or written over; and why it isn't, if no error of the system says that. It is made
 /// under another name, and gets its own when it is whole.
 #[derive(Drop)]
 pub struct AtPath<'a, R: HostFiles> {
     rt: &'a R,
     path: &'a str,
-    older: Older,
-    // the file whose people may use one that is made
-    like: Option<Metadata>,
     // the name that a file that was made has until it is whole
     aside: Option<Aside<'a, R>>,
     // the log of what is replaced
@@ -113,29 +80,25 @@ pub struct AtPath<'a, R: HostFiles> {
     // it may be made
     ghost makes: { MayMakeImage R.rights rt.now path.now } by { Prim.hlevel props },
     // or written over
-    ghost overwrites: { older ≡ Replaced → MayWrite R.rights rt.now path.now } by { Prim.hlevel props },
+    ghost overwrites: { MayWrite R.rights rt.now path.now } by { Prim.hlevel props },
 }
 
 impl<'a, R: HostFiles> AtPath<'a, R> {
-    /// The file at this path, which isn't opened yet. One that is made has the mode and the owner that `like` describes, as far
-    /// as the system allows that.
-    pub fn new(rt: &'a R, path: &'a str, older: Older, like: Option<Metadata>) -> AtPath<'a, R>
+    /// The file at this path, which isn't opened yet.
+    pub fn new(rt: &'a R, path: &'a str) -> AtPath<'a, R>
         requires makes { MayMakeImage R.rights rt.now path.now }
-        requires overwrites { older ≡ Replaced → MayWrite R.rights rt.now path.now }
+        requires overwrites { MayWrite R.rights rt.now path.now }
     {
         AtPath {
             rt,
             path,
-            older,
-            like,
             aside: None,
             log: None,
             refused: None,
         }
     }
 
-    /// Why it isn't written over: a file or a log stood there that is kept, it wasn't locked, or there was no memory to
-    /// open it.
+    /// Why it isn't written: it has two names, it wasn't locked, or there was no memory to open it.
     pub fn refused(&self) -> Option<Refusal> {
         self.refused
     }
@@ -145,14 +108,6 @@ impl<'a, R: HostFiles> AtPath<'a, R> {
         self.refused = Some(refusal);
         error
     }
-
-    /// The error of a file that can't be made. If what is there is kept, that may be why.
-    fn unmade(&mut self, error: io::Error) -> io::Error {
-        if self.older == Older::Kept && error.kind() == io::ErrorKind::AlreadyExists {
-            return self.refuse(Refusal::Exists, error);
-        }
-        error
-    }
 }
 
 impl<F, R> AtPath<'_, R>
@@ -160,42 +115,15 @@ where
     F: EndedFile + OpenFile + Drop,
     R: HostFiles<File = F> + AllocGlobal,
 {
-    /// A file that is made under another name, for those people who may use the one that it is like.
-    fn made_aside(&mut self) -> io::Result<F> {
-        let aside = Aside::free(self.rt, self.path)?;
-        let file = match &self.like {
-            Some(like) => {
-                let file = aside.make_file(private_mode(like))?;
-                file.guard_as(like);
-                file
-            }
-            None => aside.make_file(0o666)?,
-        };
-        self.aside = Some(aside);
-        Ok(file)
-    }
-
-    /// The file, made where none was. If only a log is there, none is made: the log may be all that is left of a shop.
-    fn made(&mut self, names: &LogNames) -> io::Result<F>
-        requires { R.rights.leads self.old.rt.now self.old.path.now (string_bytes names.now.image) ≡ true }
-    {
-        if self.older == Older::Kept && is_there(self.rt, names.log())? {
-            return Err(self.unmade(io::ErrorKind::AlreadyExists.into()));
-        }
-        match self.made_aside() {
-            Ok(file) => Ok(file),
-            Err(error) => Err(self.unmade(error)),
-        }
-    }
-
-    /// The file, opened, or made.
-    fn opened(&mut self, names: &LogNames) -> io::Result<F>
-        requires { R.rights.leads self.old.rt.now self.old.path.now (string_bytes names.now.image) ≡ true }
-    {
-        if self.older == Older::Replaced && is_file_at(self.rt, self.path)? {
+    /// The file, opened, or made under another name where none was.
+    fn opened(&mut self) -> io::Result<F> {
+        if is_file_at(self.rt, self.path)? {
             return self.rt.open_to_write(self.path);
         }
-        self.made(names)
+        let aside = Aside::free(self.rt, self.path)?;
+        let file = aside.make_file(0o666)?;
+        self.aside = Some(aside);
+        Ok(file)
     }
 }
 
@@ -235,8 +163,8 @@ where
         let (rt, path) = (self.rt, self.path);
         // before the file is made, since memory may be refused
         let names = LogNames::of(rt, rt.alloc(), path)?;
-        self.log = older_log(rt, path, &names, self.older)?;
-        let mut file = self.opened(&names)?;
+        self.log = find_log(rt, &names)?;
+        let mut file = self.opened()?;
         let taken = match self.take(&mut file) {
             Ok(()) if self.log.is_none() => forget_log(rt, &names, None),
             taken => taken,
@@ -277,9 +205,7 @@ where
 
     fn give_name(&mut self, _file: &F) -> io::Result<()> {
         if let Some(aside) = &self.aside {
-            if let Err(error) = aside.give_path() {
-                return Err(self.unmade(error));
-            }
+            aside.give_path()?;
             self.aside = None;
         }
         self.forget_older()

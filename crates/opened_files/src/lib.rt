@@ -15,7 +15,7 @@ mod refusals;
 
 pub use asides::Aside;
 pub use endings::{Ending, end, tell};
-pub use files::{AtPath, Older, STANDARD_INPUT, metadata_of, script_to_play, size_of};
+pub use files::{AtPath, STANDARD_INPUT, metadata_of, script_to_play, size_of};
 pub use image_logs::{
     accept_loss, log_refusal, logged_image, opened_alone, opened_and_landed, opened_shared,
     see_no_lost_log, see_size,

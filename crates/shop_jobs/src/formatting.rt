@@ -3,7 +3,6 @@ ghost use Rattle.std.specs.Prelude.{◌≡◌, ◌⊎◌, ◌≤◌, IfErr, IfOk
 ghost use Rattle.d64_image.specs.Images.{Image};
 ghost use Rattle.command_faults.specs.declared.faults.CommandFault.TheVariants as faults;
 ghost use Rattle.opened_files.specs.Makings.{IsMakingEnd, IsMakingTold};
-ghost use Rattle.opened_files.specs.declared.files.Older.TheVariants.{Replaced};
 ghost use Rattle.opened_files.specs.Rights.{MayChangeImage, MayMakeImage};
 ghost use Rattle.image_file.specs.paths.Rights.{MayWrite};
 ghost use Rattle.shop_commands.specs.Images.{IsFreshDisk};
@@ -16,7 +15,7 @@ use d64_image::IMAGE_BYTES;
 use disk_layout::Fault;
 use image_file::{EndedFile, HostFiles, Locks, OverwrittenFile};
 use opened_files::{
-    AtPath, Older, Refusal, opened_alone, over_end, run_end, see_size, size_of, told,
+    AtPath, Refusal, opened_alone, over_end, run_end, see_size, size_of, told,
 };
 use shop_commands::{format_image, fresh_disk, put_whole};
 use shop_log::{
@@ -136,7 +135,7 @@ where
     requires few { tills ≤ 64 }
     ensures { IsMakingEnd W.contents (codes "FORMATTED\n") out.old out.new result }
 {
-    let mut file = OverwrittenFile::new(AtPath::new(rt, path, Older::Replaced, None));
+    let mut file = OverwrittenFile::new(AtPath::new(rt, path));
     let made = format_image(rt.alloc(), tills, &mut file, out);
     over_end(made, file.given_up().refused())
 }

@@ -1,5 +1,5 @@
 -- A device that takes sectors from another disk.
-use Rattle.std.proofs.Common.{◌≡◌, ◌⊎◌, ⊎_elim, ap, inl, inr, refl, subst, sym, ◌∙◌}
+use Rattle.std.proofs.Common.{◌≡◌, ◌⊎◌, ⊎_elim, ap, inl, inr, subst, sym, ◌∙◌}
 use Rattle.std.specs.Prelude.{Err, Ok, OnOk, Result, length}
 use Rattle.d64_image.proofs.Images.{sector-put_other, sector-put_same}
 use Rattle.d64_image.proofs.Moments.{at_end, start, then, weaker}

@@ -1,7 +1,7 @@
 -- A directory sector is right where its block counts are.
-use Rattle.std.proofs.Common.{ℕ, ◌≡◌, [], refl, subst}
+use Rattle.std.proofs.Common.{ℕ, ◌≡◌, refl, subst}
 use Rattle.std.specs.Prelude.{Contains}
-use Rattle.d64_image.specs.Images.{Image, Sector, sector}
+use Rattle.d64_image.specs.Images.{Image, Sector}
 use Rattle.d64_image.specs.declared.place.Place.{Place}
 use Rattle.disk_layout.proofs.lemmas.counts.Recount.{slot-there}
 use Rattle.disk_layout.proofs.lemmas.counts.Recounts.{slot-of}

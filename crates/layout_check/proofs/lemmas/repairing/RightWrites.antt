@@ -1,5 +1,5 @@
 -- Directory sectors written one after another: what the device held meanwhile, and what is right then.
-use Rattle.std.proofs.Common.{ℕ, ◌≡◌, ◌<◌, ◌≤◌, ◌+◌, List, [], length, take, get_or, ⊎_elim, sym, ◌∙◌, ap}
+use Rattle.std.proofs.Common.{ℕ, ◌≡◌, ◌<◌, ◌≤◌, ◌+◌, List, length, take, get_or, ⊎_elim, sym, ◌∙◌, ap}
 use Rattle.std.proofs.Common.{refl, arith, subst, inl, inr, Ok}
 use Rattle.std.specs.Prelude.{Contains, Some, slice_get}
 use Rattle.d64_image.proofs.Moments.{at_end, changes_then, changes_weaker, reads_change}
