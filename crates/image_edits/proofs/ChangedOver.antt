@@ -1,12 +1,19 @@
 -- How a job ends that changes an image, from how the change did.
-use Rattle.std.proofs.Common.{◌≡◌, ◌⊎◌, List, Option, Result, Ok, Err, inl, inr, subst, ℕ}
+use Rattle.std.proofs.Common.{◌≡◌, ◌⊎◌, List, Option, Result, Ok, Err, ap, inl, inr, refl, subst, sym, ℕ}
+use Rattle.std.specs.IoError.{error_kind}
+use Rattle.std.specs.Prelude.{IfErr, IsErr}
+use Rattle.std.specs.Result.{result_err}
+use Rattle.std.specs.declared.io.Error.{Error}
+use Rattle.std.specs.declared.io.ErrorKind.{ErrorKind}
+use Rattle.std.specs.declared.io.ErrorKind.TheVariants as kinds
+use Rattle.std.proofs.lemmas.Option.{same_Some}
 use Rattle.disk_changes.specs.declared.changes.Changed.{Changed}
 use Rattle.disk_changes.specs.declared.changes.Why.{Why}
 use Rattle.folder_changes.specs.FolderChanges.{IsToldAs}
 use Rattle.folder_changes.specs.declared.stops.Stop.{Stop}
 use Rattle.folder_changes.specs.declared.stops.Stop.TheVariants as stops
-use Rattle.opened_files.specs.Ends.{JobEnd}
-use Rattle.opened_files.specs.HostFiles.{IsUnbegun, RunEnds}
+use Rattle.opened_files.specs.Ends.{JobEnd, io_refusal, told_of}
+use Rattle.opened_files.specs.HostFiles.{IsUnbegun, IsUnread, RunEnds}
 use Rattle.opened_files.specs.Losses.{IsAwayFault}
 use Rattle.opened_files.specs.declared.losses.Loss.{Loss}
 use Rattle.opened_files.specs.declared.refusals.Refusal.{Refusal}
@@ -31,3 +38,23 @@ pub away-as : (Says : Type 0) (asked loss : Loss) (refusal : Refusal) → asked 
     → IsUnbegun refusal ⊎ IsAwayFault asked Says refusal → IsUnbegun refusal ⊎ IsAwayFault loss Says refusal
 away-as Says asked loss refusal same why =
     subst (λ (l : Loss). IsUnbegun refusal ⊎ IsAwayFault l Says refusal) same why
+
+-- what the system refused wasn't read
+io-unread : (kind : ErrorKind) → IsUnread (io_refusal kind)
+io-unread kinds.WouldBlock = tt
+io-unread kinds.OutOfMemory = tt
+io-unread _ = tt
+
+told-ok : {T : Type 0} (x : T) (r : Refusal) → Err r ≡ told_of (Ok x) → ⊥
+told-ok x r told = cc
+
+-- a run that isn't begun, since the system refused something
+pub untold : {T W : Type 0} (w : W) (taken : Result T Error) (end : JobEnd) (r : Refusal) (run : Type 0) → end ≡ Err r
+    → Err r ≡ told_of taken → RunEnds w w end run
+untold w (Ok x) end r run is told = absurd (told-ok x r told)
+untold w (Err e) end r run is told = inr (
+  refl,
+  subst (λ (x : JobEnd). IsErr x) (sym is) refl,
+  subst (λ (x : JobEnd). IfErr x IsUnbegun) (sym is)
+      (subst IsUnbegun (sym (same_Some r (io_refusal (error_kind e)) (ap result_err told))) (inl (inl (io-unread (error_kind e))))),
+)
