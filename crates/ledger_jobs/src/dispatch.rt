@@ -19,7 +19,8 @@ use std::io::{Read, Write};
 
 /// Opens or reads the job's files and does it. What is printed goes to `out`, which is flushed at the end. An image is
 /// locked before anything of it is read or changed; if it is written, this program has it alone. If a log stands beside
-/// it, the log is landed before the image is written; otherwise it is read in the place of the image.
+/// it, the log is landed before the image is written (`Format` replaces it too); otherwise it is read in the place of the
+/// image.
 ///
 /// It touches the files that the job's words name, and the log beside its image, in the ways for which `MayDo` asks rights.
 /// What `format --new`, `new`, `copy` and `extract` make at a path is made under its `NAME.new` (up to `.new9`) first; `MayDo`
@@ -27,8 +28,9 @@ use std::io::{Read, Write};
 ///
 /// `InUse` if another program has the image; `Log` if its log gives no image; `LogAway` if that has the rest of a shop and
 /// isn't there, and the job shows, plays, serves or changes an image and accepts no loss; `File` if a file couldn't be opened
-/// or read. The other faults are those of `look`, `dry_run`, `format_image`, `make_image`, `play_durably`, `play_logged`,
-/// `serve_logged_guarded`, `salvage`, `change_image`, `show_change`, `extract_run` and `comparing_run`.
+/// or read, `NotReady` if input that is read whole is set not to wait. The other faults are those of `look`, `dry_run`,
+/// `format_image`, `format_folder`, `make_image`, `play_durably`, `play_logged`, `serve_logged_guarded`, `salvage`,
+/// `change_image`, `show_change`, `extract_run` and `comparing_run`.
 /// `Trim` ends with `File`, since it reports on standard error: call `do_trim`. What is wrong with one of several images is
 /// printed; only a failed output ends the job before the last of them.
 pub fn do_job<F, R, W>(rt: &R, job: &Job<'_>, out: &mut W) -> Result<Option<Fault>, Refusal>
