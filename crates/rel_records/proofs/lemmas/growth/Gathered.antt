@@ -1,32 +1,6 @@
 -- The data blocks of a file, listed from its side sectors.
-use Rattle.std.proofs.Common.{
-  ◌≡◌,
-  ℕ,
-  zero,
-  suc,
-  ◌+◌,
-  ◌-◌,
-  ◌*◌,
-  ◌<◌,
-  ◌≤◌,
-  List,
-  [],
-  ◌∷◌,
-  ◌++◌,
-  Option,
-  Some,
-  IsSome,
-  length,
-  refl,
-  sym,
-  ◌∙◌,
-  ap,
-  arith,
-  subst,
-  take,
-  drop,
-  min,
-}
+use Rattle.std.proofs.Common.{◌≡◌, ℕ, zero, suc, ◌+◌, ◌-◌, ◌*◌, ◌<◌, ◌≤◌, List, [], ◌∷◌, ◌++◌, Option, Some, IsSome}
+use Rattle.std.proofs.Common.{length, refl, sym, ◌∙◌, ap, arith, subst, take, drop, min}
 use Rattle.std.specs.Prelude.{slice_get, slice_index}
 use Rattle.std.proofs.Math.Seq.{take-add}
 use Rattle.std.proofs.lemmas.List.{length-drop, length-take, take_all}
