@@ -341,25 +341,26 @@ module _ (a c d : Image) (l : Layout) (n : ℕ) (st : Site) (entry : List ℕ) (
         entries directory new-right.file once) new-right.exact no-map sector-map
 
     pub sector-made : IsMadeBy a c l st entry k (put d st.place bytes)
-    sector-made = (
-      record {
-        layout = m;
-        clean = sector-clean;
-        slot = t;
-        of = new-of;
-        adds = created-adds d b l l.files [] (k t) (l.directory ++ fresh ∷ []) was.layout (sym (append-nil l.files))
-            keeps entries directory new-right.file a was
-            (λ f e q x. unless-same d p q bytes (λ one. not-file (subst (λ y. Contains (flat_map file_owns l.files) y)
-            (sym one) (flat_map-in file_owns l.files f q e (Contains-append_left f.blocks f.sides q x)))))
-            (ap (λ x. take 4 x ++ drop 144 x) (sector-put_other d p map_place bytes no-map));
-        new = inr (dir.full, (lowest, (refl, refl)));
-        there = ap (slice_get m.files) (sym (length-map l.files (reread b)
-            ∙ files-full a l h.clean.layout dir.full ∙ sym at))
-            ∙ get-seam (map (reread b) l.files) [] (k t);
-        sector_is = ap (sector_or p) has_sector;
-        number_is = sym first_slot;
-        kept = kept;
-      },
-      more-whole a d p bytes l _ l.files [] (k t) h.clean.layout (sym (append-nil l.files)) refl sector-clean same
-          not-file (linked-stays d l p bytes full relinked was.layout) new-right.long,
-    )
+    sector-made =
+        let made : HasEntered a c l st entry k (put d st.place bytes) = record {
+          layout = m;
+          clean = sector-clean;
+          slot = t;
+          of = new-of;
+          adds = created-adds d b l l.files [] (k t) (l.directory ++ fresh ∷ []) was.layout (sym (append-nil l.files))
+              keeps entries directory new-right.file a was
+              (λ f e q x. unless-same d p q bytes (λ one. not-file (subst (λ y. Contains (flat_map file_owns l.files) y)
+              (sym one) (flat_map-in file_owns l.files f q e (Contains-append_left f.blocks f.sides q x)))))
+              (ap (λ x. take 4 x ++ drop 144 x) (sector-put_other d p map_place bytes no-map));
+          new = inr (dir.full, (lowest, (refl, refl)));
+          there = ap (slice_get m.files) (sym (length-map l.files (reread b)
+              ∙ files-full a l h.clean.layout dir.full ∙ sym at))
+              ∙ get-seam (map (reread b) l.files) [] (k t);
+          sector_is = ap (sector_or p) has_sector;
+          number_is = sym first_slot;
+          kept = kept;
+        } in (
+          made,
+          more-whole a d p bytes l _ l.files [] (k t) h.clean.layout (sym (append-nil l.files)) refl sector-clean same
+              not-file (linked-stays d l p bytes full relinked was.layout) new-right.long,
+        )

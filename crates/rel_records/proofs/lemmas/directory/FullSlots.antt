@@ -147,4 +147,4 @@ four-writes a l p n h room =
     ) in
     let e : nat_lt (length l.files) (8 * length l.directory) ≡ true = lt-ltb (length l.files) (8 * length l.directory)
     some in
-    ap (λ (b : Bool). if b then 4 else 5) e
+    ap (λ (free : Bool). if free then 4 else 5) e

@@ -114,8 +114,6 @@ module _ (img : Image) (l : Layout) (n : ℕ) (f : File) (v : RelFile) (of : IsF
 
   -- the slot's number
   pub number-low : v.number < 8
-  number-low = omega (
-    arith,
-    of.shows.number,
-    (slot-there img l.directory f.slot (slot-of img l f of.layout (file-in img l n f v of))).1,
-  )
+  number-low =
+      let there = slot-there img l.directory f.slot (slot-of img l f of.layout (file-in img l n f v of)) in
+      omega (arith, of.shows.number, there.1)
