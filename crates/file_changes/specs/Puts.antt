@@ -1,31 +1,7 @@
 -- What comes of a file that is put on a disk: a chain of sectors and an entry (1541 User's Guide, how files are stored,
 -- directory format). The order of the writes is our own.
-use Rattle.std.specs.Prelude.{
-  ◌≡◌,
-  ◌≢◌,
-  ◌⊎◌,
-  ℕ,
-  ◌+◌,
-  ◌-◌,
-  ◌*◌,
-  ◌/◌,
-  ◌≤◌,
-  ◌++◌,
-  [],
-  ◌∷◌,
-  List,
-  Option,
-  IfErr,
-  OnOk,
-  Result,
-  drop,
-  length,
-  max,
-  replicate,
-  slice_get,
-  slice_range,
-  take,
-}
+use Rattle.std.specs.Prelude.{◌≡◌, ◌≢◌, ◌⊎◌, ℕ, ◌+◌, ◌-◌, ◌*◌, ◌/◌, ◌≤◌, ◌++◌, [], ◌∷◌, List, Option, IfErr, OnOk}
+use Rattle.std.specs.Prelude.{Result, drop, length, max, replicate, slice_get, slice_range, take}
 use Rattle.byteorder.specs.Endian.{little_bytes}
 use Rattle.d64_image.specs.History.{Changes, History, OnlyReads}
 use Rattle.d64_image.specs.Images.{Image, Sector, sector}

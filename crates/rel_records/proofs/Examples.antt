@@ -1,27 +1,6 @@
 -- The definitions on small numbers: none is empty, and each says what its comment says.
-use Rattle.std.proofs.Common.{
-  inl,
-  inr,
-  refl,
-  [],
-  ◌∷◌,
-  ◌≡◌,
-  ◌≢◌,
-  ◌<◌,
-  IsTrue,
-  ℕ,
-  zero,
-  suc,
-  ap,
-  arith,
-  lit<,
-  map,
-  replicate,
-  subst,
-  take,
-  drop,
-  ◌++◌,
-}
+use Rattle.std.proofs.Common.{inl, inr, refl, [], ◌∷◌, ◌≡◌, ◌≢◌, ◌<◌, IsTrue, ℕ, zero, suc, ap, arith, lit<, map}
+use Rattle.std.proofs.Common.{replicate, subst, take, drop, ◌++◌}
 use Rattle.std.specs.Prelude.{Some, slice_get}
 use Rattle.d64_image.proofs.Images.{sector-put_other}
 use Rattle.d64_image.specs.Images.{Image, Sector, put, sector}

@@ -1,31 +1,7 @@
 -- A record that is written in part: what becomes of its bytes, and what the disk holds on the way. Our own, after the
 -- 1541 User's Guide, relative files.
-use Rattle.std.specs.Prelude.{
-  ℕ,
-  ◌+◌,
-  ◌-◌,
-  ◌*◌,
-  ◌/◌,
-  ◌%◌,
-  ◌≡◌,
-  ◌≤◌,
-  ◌<◌,
-  ◌⊎◌,
-  ◌++◌,
-  List,
-  [],
-  Some,
-  Result,
-  Ok,
-  Err,
-  get_or,
-  drop,
-  length,
-  replicate,
-  set,
-  slice_get,
-  take,
-}
+use Rattle.std.specs.Prelude.{ℕ, ◌+◌, ◌-◌, ◌*◌, ◌/◌, ◌%◌, ◌≡◌, ◌≤◌, ◌<◌, ◌⊎◌, ◌++◌, List, [], Some, Result, Ok, Err}
+use Rattle.std.specs.Prelude.{get_or, drop, length, replicate, set, slice_get, take}
 use Rattle.d64_image.specs.Images.{Image, Sector}
 use Rattle.disk_layout.specs.Layout.{File, Layout, record_length}
 use Rattle.disk_layout.specs.Records.{empty_record, records}

@@ -1,24 +1,6 @@
 -- What calls on one file leave of the others, from call to call.
-use Rattle.std.proofs.Common.{
-  List,
-  Some,
-  ap,
-  append-nil,
-  arith,
-  inl,
-  inr,
-  length,
-  refl,
-  subst,
-  sym,
-  ℕ,
-  ◌<◌,
-  ◌≤◌,
-  ◌∙◌,
-  ◌≡◌,
-  ◌≢◌,
-  ◌⊎◌,
-}
+use Rattle.std.proofs.Common.{List, Some, ap, append-nil, arith, inl, inr, length, refl, subst, sym, ℕ, ◌<◌, ◌≤◌, ◌∙◌}
+use Rattle.std.proofs.Common.{◌≡◌, ◌≢◌, ◌⊎◌}
 use Rattle.std.specs.Prelude.{slice_get}
 use Rattle.d64_image.specs.Images.{Image}
 use Rattle.disk_layout.specs.Layout.{File, IsLayout, Layout, file_owns}

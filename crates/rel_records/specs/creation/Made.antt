@@ -1,23 +1,6 @@
 -- What the creation of a relative file leaves. Our own.
-use Rattle.std.specs.Prelude.{
-  ℕ,
-  ◌≡◌,
-  ◌⊎◌,
-  ◌<◌,
-  ◌*◌,
-  ◌/◌,
-  ◌++◌,
-  ◌∷◌,
-  [],
-  List,
-  Contains,
-  if◌then◌else◌,
-  length,
-  map,
-  nat_lt,
-  replicate,
-  slice_range,
-}
+use Rattle.std.specs.Prelude.{ℕ, ◌≡◌, ◌⊎◌, ◌<◌, ◌*◌, ◌/◌, ◌++◌, ◌∷◌, [], List, Contains, if◌then◌else◌, length, map}
+use Rattle.std.specs.Prelude.{nat_lt, replicate, slice_range}
 use Rattle.d64_image.specs.Images.{Image, sector}
 use Rattle.disk_layout.specs.Clean.{IsCleanLayout}
 use Rattle.disk_layout.specs.Directory.{map_place, type_byte}

@@ -50,7 +50,7 @@ pub record IsSlotSite (img : Image) (l : Layout) (count : ℕ) (s : Site) : Type
   pub room : IsFirstRoom img l.directory s.place s.number
   pub entry : s.entry ≡ 8 * length room.front + s.number
 
--- one more is taken, the lowest free sector of track 18, which follows the directory's last, and the entry goes into it
+-- one more is taken, the lowest free sector of track 18: it follows the directory's last, and gets the entry
 pub record IsSectorSite (img : Image) (l : Layout) (count : ℕ) (s : Site) (fresh : Place) : Type 0 where
   pub taking : IsTaking img l count s
   pub map : IsMapOf s.map.bytes (fresh ∷ s.blocks.items ++ map_place ∷ owners l)
@@ -74,8 +74,8 @@ sector_or p (Some fresh) = fresh
 abbrev pub sector_of : Site → Place
 sector_of s = sector_or s.place s.fresh
 
--- what is put for an entry, in this order: the directory sector with the entry in its free slot; or a new one with the
--- entry alone, and then the directory's last with a link to it
+-- what is put for an entry: the directory sector with it in its free slot; without one, a new sector with the entry
+-- alone, and then the directory's last with a link to it
 abbrev pub ArePutsOf : Site → List ℕ → Option Place → List (Place × Sector) → Type 0
 ArePutsOf s entry None puts = (bytes : Sector) × IsEntered s.bytes bytes s.number entry × (puts ≡ (s.place, bytes) ∷ [])
 ArePutsOf s entry (Some fresh) puts = (first last : Sector) × IsNewDirectory first entry × IsLinkedTo s.bytes last fresh

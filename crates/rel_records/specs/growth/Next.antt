@@ -1,25 +1,6 @@
 -- A file's next data block, as it is made in memory before anything is written. Our own.
-use Rattle.std.specs.Prelude.{
-  ℕ,
-  ◌≡◌,
-  ◌≢◌,
-  ◌⊎◌,
-  ◌+◌,
-  ◌-◌,
-  ◌*◌,
-  ◌%◌,
-  ◌<◌,
-  ◌≤◌,
-  ◌++◌,
-  ◌∷◌,
-  [],
-  List,
-  Contains,
-  drop,
-  length,
-  slice_index,
-  take,
-}
+use Rattle.std.specs.Prelude.{ℕ, ◌≡◌, ◌≢◌, ◌⊎◌, ◌+◌, ◌-◌, ◌*◌, ◌%◌, ◌<◌, ◌≤◌, ◌++◌, ◌∷◌, [], List, Contains, drop}
+use Rattle.std.specs.Prelude.{length, slice_index, take}
 use Rattle.d64_image.specs.Images.{Sector}
 use Rattle.d64_image.specs.declared.place.Place.{Place}
 use Rattle.disk_layout.specs.Chain.{Names}

@@ -1,29 +1,7 @@
 -- A file takes one more data block: what is kept in memory for it, what it leaves, and what it writes. The order of the
 -- writes is our own.
-use Rattle.std.specs.Prelude.{
-  ℕ,
-  ◌≡◌,
-  ◌≢◌,
-  ◌⊎◌,
-  ◌+◌,
-  ◌-◌,
-  ◌*◌,
-  ◌%◌,
-  ◌<◌,
-  ◌≤◌,
-  ◌++◌,
-  ◌∷◌,
-  [],
-  IsTrue,
-  List,
-  Some,
-  Contains,
-  if◌then◌else◌,
-  length,
-  nat_eq,
-  slice_get,
-  slice_index,
-}
+use Rattle.std.specs.Prelude.{ℕ, ◌≡◌, ◌≢◌, ◌⊎◌, ◌+◌, ◌-◌, ◌*◌, ◌%◌, ◌<◌, ◌≤◌, ◌++◌, ◌∷◌, [], IsTrue, List, Some}
+use Rattle.std.specs.Prelude.{Contains, if◌then◌else◌, length, nat_eq, slice_get, slice_index}
 use Rattle.d64_image.specs.Images.{Image, IsSector, Sector, put, sector}
 use Rattle.d64_image.specs.declared.place.Place.{Place}
 use Rattle.disk_layout.specs.Chain.{byte}

@@ -70,9 +70,10 @@ fn link_to(bytes: &mut [u8; 256], place: Place)
     bytes[1] = place.sector();
 }
 
-/// Writes a new file's entry, bytes 2 to 31 of a slot, where the site has it: into its free slot, by one write; or into
-/// the new directory sector, and then the link to it into the directory's last. The last write makes the file: its other
-/// sectors are written before. A `DeviceFault` if the device failed: the entry is there, or it isn't.
+/// Writes a new file's entry, bytes 2 to 31 of a slot, where the site has it. A free slot gets it by one write. Without
+/// one the new directory sector is written with it, and then the directory's last with the link to that. The last write
+/// makes the file, whose other sectors are written before. A `DeviceFault` if the device failed: the file is there, or
+/// it isn't.
 pub fn write_entry<D: Sectors>(
     disk: &mut D,
     site: &Site,

@@ -9,6 +9,7 @@ use Rattle.disk_layout.proofs.lemmas.chains.Directories.{few-sectors}
 use Rattle.rel_records.proofs.lemmas.creation.TakenNames.{room-of, walked}
 use Rattle.rel_records.proofs.lemmas.reading.Found.{chain-failed}
 use Rattle.rel_records.proofs.creation.read_room.Goals as goal
+use Rattle.std.proofs.lemmas.List.{length_push}
 
 pub returns-in_default-clause-failures : goal.returns-in_default-clause-failures
 returns-in_default-clause-failures g c =
@@ -58,3 +59,8 @@ returns-clause-quiet g c =
     let S = g.D.Sectors.history in
     no_write_then S _ _ _ (reads_no_write S _ _ _ c.in-Ok.ensures.reads)
     (reads_no_write S _ _ _ c.in-Ok-find_room.ensures.reads)
+
+pub find_room-requires : goal.find_room-requires
+find_room-requires g c =
+    let chain = c.in-Ok.ensures.chain in
+    omega (arith, ap length c.as_slice.ensures.value, ap length chain.places, length_push chain.front chain.last)

@@ -3,8 +3,8 @@ use Rattle.std.proofs.Common.{arith, refl, sym, ap, subst, ◌∙◌, ◌≡◌,
 use Rattle.d64_image.proofs.Moments.{changes_weaker, no_change}
 use Rattle.disk_layout.specs.View.{blocks_free}
 use Rattle.rel_records.proofs.lemmas.filling.BeforeLast.{old-grows}
-use Rattle.rel_records.proofs.lemmas.growth.Running.{block-then, low-full, room-next, room-step, run-here}
-use Rattle.rel_records.proofs.lemmas.growth.Running.{run-mono, run-run}
+use Rattle.rel_records.proofs.lemmas.growth.Running.{block-then, low-full, room-next, room-step, run-here, run-mono}
+use Rattle.rel_records.proofs.lemmas.growth.Running.{run-run}
 use Rattle.rel_records.proofs.lemmas.filling.Standing.{pos}
 use Rattle.rel_records.specs.growth.Growth.{run_writes}
 use Rattle.rel_records.specs.growth.Steps.{IsRunTo, taken_next}
@@ -108,3 +108,7 @@ returns-clause-file g c l n f at up =
       moments = changes_weaker S _ _ _ _ _ _ (omega (arith, ap (run_writes (length f.blocks)) e)) (λ i h. h)
           (c.loop-count.invariant.changes l n f at up);
     }
+
+pub returns-in_err-add_block-clause-reads : goal.returns-in_err-add_block-clause-reads
+returns-in_err-add_block-clause-reads g c = omega
+    (arith, c.in_err-add_block.ensures.reads, c.loop-count.invariant.reads)

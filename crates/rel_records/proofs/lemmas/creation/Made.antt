@@ -1,27 +1,6 @@
 -- What creation leaves: the new file as it is kept, and that of all others.
-use Rattle.std.proofs.Common.{
-  ◌≡◌,
-  ℕ,
-  suc,
-  zero,
-  ◌+◌,
-  ◌<◌,
-  inl,
-  inr,
-  List,
-  [],
-  ◌∷◌,
-  ◌++◌,
-  Some,
-  ap,
-  arith,
-  length,
-  map,
-  refl,
-  subst,
-  sym,
-  ◌∙◌,
-}
+use Rattle.std.proofs.Common.{◌≡◌, ℕ, suc, zero, ◌+◌, ◌<◌, inl, inr, List, [], ◌∷◌, ◌++◌, Some, ap, arith, length, map}
+use Rattle.std.proofs.Common.{refl, subst, sym, ◌∙◌}
 use Rattle.std.specs.Prelude.{Ok, OnOk, Result, option_map, slice_get, slice_index, ◌≤◌}
 use Rattle.std.proofs.lemmas.Option.{slice_get-map}
 use Rattle.d64_image.proofs.Moments.{at_end, changes_then, changes_weaker, no_write_change}

@@ -1,42 +1,46 @@
 -- A new file's entry, of whatever type the file is, put into a free slot or linked: this write makes the file.
-use Rattle.std.proofs.Common.{◌≡◌, ℕ, ◌+◌, ◌<◌, inl, inr, false, true, List, [], ◌∷◌, ◌++◌, ap, append-nil}
+use Rattle.std.proofs.Common.{drop, take, ◌≡◌, ℕ, ◌+◌, ◌<◌, inl, inr, false, true, List, [], ◌∷◌, ◌++◌, ap, append-nil}
 use Rattle.std.proofs.Common.{arith, length, map, refl, slice_index, subst, sym, ◌∙◌, ◌*◌, ◌≢◌, IsTrue, None, Some}
+use Rattle.std.proofs.lemmas.List.{map-append, length-map}
+use Rattle.std.proofs.lemmas.List.Elements.{Contains-append_cases, Contains-append_left}
+use Rattle.disk_layout.proofs.lemmas.chains.Chains.{IsChain-grow, chain-front, links-agree, AgreeAt}
+use Rattle.disk_layout.proofs.lemmas.counts.Recounts.{map-map, reread, reslot, slot-of}
+use Rattle.disk_layout.proofs.lemmas.growth.Commit.{all-join, keeps-other}
+use Rattle.disk_layout.proofs.lemmas.growth.LongerDirectory.{used_slots-relinked, IsRelinked}
+use Rattle.disk_layout.proofs.lemmas.layouts.Frames.{KeepsFiles, unless-same}
+use Rattle.disk_layout.proofs.lemmas.lists.Once.{Contains-cases, Contains-here, Contains-nil, flat_map-in}
+use Rattle.disk_layout.proofs.lemmas.lists.Once.{Contains-there, EachOnce-apart}
+use Rattle.disk_layout.specs.Chain.{IsChain, Names, EachOnce}
+use Rattle.disk_layout.specs.Directory.{IsDirectory, directory_start, used_slots, is_used, map_place, slot_in}
+use Rattle.rel_records.proofs.lemmas.directory.NewSlots.{used_slots-sector}
 use Rattle.std.specs.Prelude.{Contains, flat_map, nat_eq, not, slice_get}
-use Rattle.std.proofs.lemmas.List.{length-map}
-use Rattle.std.proofs.lemmas.List.Elements.{Contains-append_left}
-use Rattle.d64_image.proofs.Images.{sector-put_other}
+use Rattle.d64_image.proofs.Images.{sector-put_other, sector-put_same}
 use Rattle.d64_image.specs.Images.{Image, Sector, put, sector}
 use Rattle.d64_image.specs.declared.place.Place.{Place}
-use Rattle.disk_layout.proofs.lemmas.chains.Chains.{AgreeAt}
 use Rattle.disk_layout.proofs.lemmas.counts.CountWrites.{slot-byte}
-use Rattle.disk_layout.proofs.lemmas.counts.Recounts.{reread, reslot, slot-of}
 use Rattle.disk_layout.proofs.lemmas.growth.GrowthRecords.{get-seam}
-use Rattle.disk_layout.proofs.lemmas.growth.LongerDirectory.{IsRelinked}
 use Rattle.disk_layout.proofs.lemmas.lists.Lists.{snoc-last}
-use Rattle.disk_layout.proofs.lemmas.lists.Once.{Contains-there, EachOnce-apart}
-use Rattle.disk_layout.specs.Chain.{EachOnce}
 use Rattle.disk_layout.specs.Clean.{IsCleanLayout, IsExactFile}
-use Rattle.disk_layout.specs.Directory.{is_used, map_place, slot_in}
 use Rattle.disk_layout.specs.Layout.{File, IsFile, Layout, count_field, file_owns, is_rel, owners}
 use Rattle.disk_layout.specs.Map.{IsFirstOn, IsMapOf}
 use Rattle.disk_layout.specs.Same.{AddsFile}
 use Rattle.disk_layout.specs.Whole.{IsWhole}
 use Rattle.disk_layout.specs.declared.slot.Slot.{Slot}
-use Rattle.rel_records.proofs.lemmas.creation.Creating.{SameEntry, with_new}
-use Rattle.rel_records.proofs.lemmas.creation.InSector.{linked-adds, linked-layout}
-use Rattle.rel_records.proofs.lemmas.creation.InSlot.{Made, TakesSlot, made, not_file, same-entry, slot-stays, with_file}
+use Rattle.rel_records.proofs.lemmas.creation.Creating.{SameEntry, created-adds, created-layout, with_new}
+use Rattle.rel_records.proofs.lemmas.creation.InSector.{linked-stays}
+use Rattle.rel_records.proofs.lemmas.creation.InSlot.{Made, TakesSlot, made, not_file, same-entry, slot-stays}
+use Rattle.rel_records.proofs.lemmas.creation.InSlot.{with_file}
 use Rattle.rel_records.proofs.lemmas.creation.NewWrites.{before-same, files-before}
 use Rattle.rel_records.proofs.lemmas.creation.StillClean.{still-clean}
-use Rattle.rel_records.proofs.lemmas.creation.Unowned.{IsUnowned, among, among-directory, map-same, once-linked, owners-with}
+use Rattle.rel_records.proofs.lemmas.creation.Unowned.{IsUnowned, among, among-directory, map-same, once-linked}
+use Rattle.rel_records.proofs.lemmas.creation.Unowned.{owners-with}
 use Rattle.rel_records.proofs.lemmas.directory.AnyEntry.{entry-apart, entry-links, entry-used}
 use Rattle.rel_records.proofs.lemmas.directory.FullSlots.{files-full, slots-before}
-use Rattle.rel_records.proofs.lemmas.whole.Created.{IsLong, linked-stays, more-whole}
+use Rattle.rel_records.proofs.lemmas.whole.Created.{IsLong, more-whole}
 use Rattle.rel_records.specs.creation.Made.{HasFilesOf, IsNewSlot}
 use Rattle.rel_records.specs.creation.NewFile.{ChangesOnly, IsEntered, IsLinkedTo, IsNewDirectory}
-use Rattle.rel_records.specs.creation.Room.{AreFullSectors, IsFirstRoom, IsFirstSlot, IsFullDirectory}
-use Rattle.rel_records.specs.creation.Room.{IsFullSector}
-use Rattle.rel_records.specs.creation.Site.{IsTaking, sector_of}
-use Rattle.rel_records.specs.creation.Site.{sector_or}
+use Rattle.rel_records.specs.creation.Room.{AreFullSectors, IsFirstRoom, IsFirstSlot, IsFullDirectory, IsFullSector}
+use Rattle.rel_records.specs.creation.Site.{IsTaking, sector_of, sector_or}
 use Rattle.rel_records.specs.declared.creation.site.Site.{Site}
 
 -- the slot has the entry
@@ -281,29 +285,82 @@ module _ (a c d : Image) (l : Layout) (n : ℕ) (st : Site) (entry : List ℕ) (
         (subst P (sym (by.owns t)) (subst Q (sym map_is)
         (map-same st.map.bytes _ _ (among-directory l.directory F ps fresh) map_of)))
 
+    out-dir : ¬ (Contains l.directory fresh)
+    out-dir e = no_fresh (Contains-there fresh map_place (owners l) (in-dir fresh e))
+
+    fresh-stays : sector (put d st.place bytes) fresh ≡ sector d fresh
+    fresh-stays = sector-put_other d p fresh bytes (λ e. out-dir (subst (λ x. Contains l.directory x) e listed))
+
+    chain : IsChain (put d st.place bytes) directory_start (l.directory ++ fresh ∷ []) (slice_index (sector d fresh) 1)
+    chain =
+        let dir = was.layout.directory in
+        IsChain-grow d b directory_start fresh l.directory dir.last (slice_index (sector d fresh) 1) dir.chain
+        (links-agree d b dir.chain.front (λ q e. unless-same d p q bytes
+        (λ x. (chain-front d directory_start l.directory dir.last dir.chain q e).1 (sym x ∙ sym is_last))))
+        (subst (λ x. Names (sector b x) 0 fresh) (sym is_last) (rw (sector-put_same d p bytes full) linked.link))
+        (ap (λ x. slice_index x 0) fresh-stays ∙ made_of.ends, ap (λ x. slice_index x 1) fresh-stays) out-dir
+
+    slots : map (λ f. f.slot) (with_new (put d st.place bytes) l.files [] (k (slot_in fresh (sector d fresh) 0)))
+        ≡ used_slots (put d st.place bytes) (l.directory ++ fresh ∷ [])
+    slots =
+        map-append (λ (f : File). f.slot) (map (reread b) l.files) (k t ∷ [])
+        ∙ ap (λ x. map (λ (f : File). f.slot) (map (reread b) l.files) ++ x ∷ []) (by.slot t)
+        ∙ ap (λ xs. xs ++ t ∷ [])
+        (map-map (λ f. f.slot) (reread b) l.files ∙ sym (map-map (reslot b) (λ f. f.slot) l.files)
+        ∙ ap (map (reslot b)) was.layout.directory.slots ∙ sym (used_slots-relinked d p bytes full relinked l.directory))
+        ∙ ap (λ x. used_slots b l.directory ++ slot_in fresh x 0 ∷ []) (sym fresh-stays)
+        ∙ sym (used_slots-sector b l.directory fresh (ap (λ x. is_used (slot_in fresh x 0)) fresh-stays ∙ used)
+        (λ i pos lt. ap (λ x. is_used (slot_in fresh x i)) fresh-stays ∙ free i pos lt))
+
+    directory : IsDirectory (put d st.place bytes) (l.directory ++ fresh ∷ [])
+        (map (λ f. f.slot) (with_new (put d st.place bytes) l.files [] (k (slot_in fresh (sector d fresh) 0))))
+    directory = record {
+      last = slice_index (sector d fresh) 1;
+      chain = chain;
+      on_track = all-join (λ q. q.track ≡ 18) l.directory (fresh ∷ []) was.layout.directory.on_track (lowest.track, tt);
+      not_map = λ e. elim (Contains-append_cases l.directory (fresh ∷ []) map_place e) [
+        | inl on ↦ was.layout.directory.not_map on
+        | inr on ↦ elim (Contains-cases map_place fresh [] on) [
+          | inl x ↦ no_fresh (subst (λ y. Contains (map_place ∷ owners l) y) (sym x) (Contains-here map_place (owners l)))
+          | inr none ↦ Contains-nil map_place none
+        ]
+      ];
+      slots = slots;
+    }
+
+    keeps : KeepsFiles d (put d st.place bytes) l.files
+    keeps = keeps-other d p bytes l.files not-file
+
+    entries : (f : File) → Contains l.files f → SameEntry f.slot (reslot (put d st.place bytes) f.slot)
+    entries f e = (linked-stays d l p bytes full relinked was.layout f e).0
+
     sector-clean : IsCleanLayout (put d st.place bytes) m
     sector-clean = still-clean a d l p bytes same not-file (linked-stays d l p bytes full relinked was.layout)
         (l.directory ++ fresh ∷ []) l.files [] (k t) h.clean (sym (append-nil l.files))
-        (linked-layout d l p bytes full relinked a was.layout was is_last fresh (k t) (by.slot t) linked.link
-        made_of.ends lowest.track no_fresh used free new-right.file once) new-right.exact no-map sector-map
+        (created-layout d b l l.files [] (k t) (l.directory ++ fresh ∷ []) was.layout (sym (append-nil l.files)) keeps
+        entries directory new-right.file once) new-right.exact no-map sector-map
 
     pub sector-made : IsMadeBy a c l st entry k (put d st.place bytes)
-    sector-made = (
-      record {
-        layout = m;
-        clean = sector-clean;
-        slot = t;
-        of = new-of;
-        adds = linked-adds d l p bytes full relinked a was.layout was is_last fresh (k t) (by.slot t) linked.link
-            made_of.ends lowest.track no_fresh used free new-right.file once;
-        new = inr (dir.full, (lowest, (refl, refl)));
-        there = ap (slice_get m.files) (sym (length-map l.files (reread b)
-            ∙ files-full a l h.clean.layout dir.full ∙ sym at))
-            ∙ get-seam (map (reread b) l.files) [] (k t);
-        sector_is = ap (sector_or p) has_sector;
-        number_is = sym first_slot;
-        kept = kept;
-      },
-      more-whole a d p bytes l _ l.files [] (k t) h.clean.layout (sym (append-nil l.files)) refl sector-clean same
-          not-file (linked-stays d l p bytes full relinked was.layout) new-right.long,
-    )
+    sector-made =
+        let made : HasEntered a c l st entry k (put d st.place bytes) = record {
+          layout = m;
+          clean = sector-clean;
+          slot = t;
+          of = new-of;
+          adds = created-adds d b l l.files [] (k t) (l.directory ++ fresh ∷ []) was.layout (sym (append-nil l.files))
+              keeps entries directory new-right.file a was
+              (λ f e q x. unless-same d p q bytes (λ one. not-file (subst (λ y. Contains (flat_map file_owns l.files) y)
+              (sym one) (flat_map-in file_owns l.files f q e (Contains-append_left f.blocks f.sides q x)))))
+              (ap (λ x. take 4 x ++ drop 144 x) (sector-put_other d p map_place bytes no-map));
+          new = inr (dir.full, (lowest, (refl, refl)));
+          there = ap (slice_get m.files) (sym (length-map l.files (reread b)
+              ∙ files-full a l h.clean.layout dir.full ∙ sym at))
+              ∙ get-seam (map (reread b) l.files) [] (k t);
+          sector_is = ap (sector_or p) has_sector;
+          number_is = sym first_slot;
+          kept = kept;
+        } in (
+          made,
+          more-whole a d p bytes l _ l.files [] (k t) h.clean.layout (sym (append-nil l.files)) refl sector-clean same
+              not-file (linked-stays d l p bytes full relinked was.layout) new-right.long,
+        )

@@ -1,26 +1,6 @@
 -- The sectors of a new file are written: the map, the data block, the side sector.
-use Rattle.std.proofs.Common.{
-  ℕ,
-  ◌≡◌,
-  ◌≢◌,
-  ◌≤◌,
-  ◌+◌,
-  inl,
-  inr,
-  List,
-  [],
-  ◌∷◌,
-  ◌++◌,
-  ap,
-  ap₂,
-  drop,
-  length,
-  take,
-  refl,
-  subst,
-  sym,
-  ◌∙◌,
-}
+use Rattle.std.proofs.Common.{ℕ, ◌≡◌, ◌≢◌, ◌≤◌, ◌+◌, inl, inr, List, [], ◌∷◌, ◌++◌, ap, ap₂, drop, length, take, refl}
+use Rattle.std.proofs.Common.{subst, sym, ◌∙◌}
 use Rattle.std.specs.Prelude.{Contains}
 use Rattle.d64_image.proofs.Images.{sector-put_other, sector-put_same}
 use Rattle.d64_image.proofs.Moments.{at_end, one_write_more, write_change}

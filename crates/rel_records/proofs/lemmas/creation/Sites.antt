@@ -138,23 +138,22 @@ module _ (img : Image) (l : Layout) (clean : IsCleanLayout img l) (old mid : Sec
       let all : List Place = ps ++ map_place ∷ owners l in
       let out : ¬ (Contains (ps ++ map_place ∷ owners l) fresh) = set-free mid all fresh map-mid on.free in
       let T : List Place → Type 0 = λ qs. IsMapOf s.map.bytes (fresh ∷ (qs ++ map_place ∷ owners l)) in
-      let U : Place → Type 0 = IsFullDirectory img l.directory in (
-        record {
-          taking = by-header s r blocks bytes place room now.rest.header;
-          map = subst T (sym blocks) (taken-map mid s.map.bytes all (fresh ∷ all) fresh map-mid out now
-              (λ q. (λ d. Contains-cases q fresh all d, either fresh q all)));
-          full = subst U (sym place) full;
-          lowest = record {
-            track = on.track;
-            free = was-free fresh on.free;
-            first = λ q at below free. on.first q at below (still-free q at free);
-          };
-          no_fresh = λ own. out (Contains-append_right ps (map_place ∷ owners l) fresh own);
-          apart = λ c. out (Contains-append_left ps (map_place ∷ owners l) fresh (let W : List Place
-              → Type 0 = λ qs. Contains qs fresh in subst W blocks c));
-          number = number;
-          entry = omega
-              (arith, entry, before, ap length full.split, length-append full.front (r.place ∷ []));
-        },
-        λ none. elim none [ inl few ↦ many enough few | inr (slots, track) ↦ track fresh on.track (was-free fresh on.free) ],
-      )
+      let U : Place → Type 0 = IsFullDirectory img l.directory in
+      let site : IsSectorSite img l count s fresh = record {
+        taking = by-header s r blocks bytes place room now.rest.header;
+        map = subst T (sym blocks) (taken-map mid s.map.bytes all (fresh ∷ all) fresh map-mid out now
+            (λ q. (λ d. Contains-cases q fresh all d, either fresh q all)));
+        full = subst U (sym place) full;
+        lowest = record {
+          track = on.track;
+          free = was-free fresh on.free;
+          first = λ q at below free. on.first q at below (still-free q at free);
+        };
+        no_fresh = λ own. out (Contains-append_right ps (map_place ∷ owners l) fresh own);
+        apart = λ c. out (Contains-append_left ps (map_place ∷ owners l) fresh (let W : List Place
+            → Type 0 = λ qs. Contains qs fresh in subst W blocks c));
+        number = number;
+        entry = omega
+            (arith, entry, before, ap length full.split, length-append full.front (r.place ∷ []));
+      } in
+      (site, λ none. elim none [ inl few ↦ many enough few | inr (slots, track) ↦ track fresh on.track (was-free fresh on.free) ])

@@ -1,8 +1,7 @@
 -- An entry that was put into a slot of a directory sector: what the slot says, and that all others stay.
-use Rattle.std.proofs.Common.{ℕ, zero, suc, ◌≡◌, ◌≢◌, ◌<◌, ◌≤◌, ◌+◌, ◌-◌, ◌*◌, inr, List, [], ◌∷◌, ◌++◌}
-use Rattle.std.proofs.Common.{ap, arith, get_or, length, refl, replicate, slice_index, ◌∙◌, set}
-use Rattle.std.proofs.lemmas.List.{get_or-append_right, get_or-replicate, get_or-set_other}
-use Rattle.std.proofs.lemmas.List.{get_or_append_left}
+use Rattle.std.proofs.Common.{ℕ, zero, suc, ◌≡◌, ◌≢◌, ◌<◌, ◌≤◌, ◌+◌, ◌-◌, ◌*◌, inr, List, [], ◌∷◌, ◌++◌, ap, arith}
+use Rattle.std.proofs.Common.{get_or, length, refl, replicate, slice_index, ◌∙◌, set}
+use Rattle.std.proofs.lemmas.List.{get_or-append_right, get_or-replicate, get_or-set_other, get_or_append_left}
 use Rattle.std.specs.Prelude.{slice_range}
 use Rattle.byteorder.specs.Endian.{little_bytes, little_number}
 use Rattle.d64_image.specs.Images.{Sector}

@@ -1,30 +1,6 @@
 -- How many slots of a directory are used: where all are, and before the first free one.
-use Rattle.std.proofs.Common.{
-  ◌≡◌,
-  ℕ,
-  suc,
-  ◌+◌,
-  ◌*◌,
-  ◌<◌,
-  ◌≤◌,
-  Bool,
-  true,
-  false,
-  IsTrue,
-  List,
-  [],
-  ◌∷◌,
-  ◌++◌,
-  ap,
-  arith,
-  drop,
-  length,
-  length-append,
-  refl,
-  sym,
-  take,
-  ◌∙◌,
-}
+use Rattle.std.proofs.Common.{◌≡◌, ℕ, suc, ◌+◌, ◌*◌, ◌<◌, ◌≤◌, Bool, true, false, IsTrue, List, [], ◌∷◌, ◌++◌, ap}
+use Rattle.std.proofs.Common.{arith, drop, length, length-append, refl, sym, take, ◌∙◌}
 use Rattle.std.specs.Prelude.{Contains, filter, if◌then◌else◌, nat_lt}
 use Rattle.std.proofs.lemmas.Bool.{le-ltb, lt-ltb}
 use Rattle.std.proofs.lemmas.List.{get_or-take, length-drop, length-map, length-take}
@@ -171,4 +147,4 @@ four-writes a l p n h room =
     ) in
     let e : nat_lt (length l.files) (8 * length l.directory) ≡ true = lt-ltb (length l.files) (8 * length l.directory)
     some in
-    ap (λ (b : Bool). if b then 4 else 5) e
+    ap (λ (free : Bool). if free then 4 else 5) e

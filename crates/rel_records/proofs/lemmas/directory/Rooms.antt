@@ -1,30 +1,6 @@
 -- The directory's room for an entry: slot by slot, and sector by sector.
-use Rattle.std.proofs.Common.{
-  ℕ,
-  suc,
-  ◌≡◌,
-  ◌≢◌,
-  ◌<◌,
-  ◌+◌,
-  ◌*◌,
-  ◌++◌,
-  ◌∷◌,
-  List,
-  Some,
-  IsTrue,
-  true,
-  inl,
-  inr,
-  ap,
-  arith,
-  drop,
-  length,
-  sym,
-  slice_index,
-  subst,
-  take,
-  ◌∙◌,
-}
+use Rattle.std.proofs.Common.{ℕ, suc, ◌≡◌, ◌≢◌, ◌<◌, ◌+◌, ◌*◌, ◌++◌, ◌∷◌, List, Some, IsTrue, true, inl, inr, ap, arith}
+use Rattle.std.proofs.Common.{drop, length, sym, slice_index, subst, take, ◌∙◌}
 use Rattle.std.proofs.lemmas.Bool.{cases_eq, ne_eqb}
 use Rattle.std.proofs.lemmas.List.{drop_all, get_or-take, length-take}
 use Rattle.std.proofs.lemmas.Option.{slice_get-get_or, slice_get_within}

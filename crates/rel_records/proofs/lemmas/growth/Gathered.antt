@@ -1,32 +1,6 @@
 -- The data blocks of a file, listed from its side sectors.
-use Rattle.std.proofs.Common.{
-  ◌≡◌,
-  ℕ,
-  zero,
-  suc,
-  ◌+◌,
-  ◌-◌,
-  ◌*◌,
-  ◌<◌,
-  ◌≤◌,
-  List,
-  [],
-  ◌∷◌,
-  ◌++◌,
-  Option,
-  Some,
-  IsSome,
-  length,
-  refl,
-  sym,
-  ◌∙◌,
-  ap,
-  arith,
-  subst,
-  take,
-  drop,
-  min,
-}
+use Rattle.std.proofs.Common.{◌≡◌, ℕ, zero, suc, ◌+◌, ◌-◌, ◌*◌, ◌<◌, ◌≤◌, List, [], ◌∷◌, ◌++◌, Option, Some, IsSome}
+use Rattle.std.proofs.Common.{length, refl, sym, ◌∙◌, ap, arith, subst, take, drop, min}
 use Rattle.std.specs.Prelude.{slice_get, slice_index}
 use Rattle.std.proofs.Math.Seq.{take-add}
 use Rattle.std.proofs.lemmas.List.{length-drop, length-take, take_all}
@@ -140,8 +114,6 @@ module _ (img : Image) (l : Layout) (n : ℕ) (f : File) (v : RelFile) (of : IsF
 
   -- the slot's number
   pub number-low : v.number < 8
-  number-low = omega (
-    arith,
-    of.shows.number,
-    (slot-there img l.directory f.slot (slot-of img l f of.layout (file-in img l n f v of))).1,
-  )
+  number-low =
+      let there = slot-there img l.directory f.slot (slot-of img l f of.layout (file-in img l n f v of)) in
+      omega (arith, of.shows.number, there.1)

@@ -9,12 +9,11 @@ use Rattle.std.specs.Prelude.{Err, IfOk, Ok, Result, option_map, slice_get, slic
 use Rattle.d64_image.specs.History.{Failed, History}
 use Rattle.d64_image.specs.Images.{Image, Sector, sector}
 use Rattle.d64_image.specs.declared.place.Place.{Place}
-use Rattle.disk_layout.proofs.lemmas.lists.Lists.{get-some}
+use Rattle.disk_layout.proofs.lemmas.lists.Lists.{get-some, made-from}
 use Rattle.disk_layout.proofs.lemmas.chains.Chains.{IsChain-one, bad_link-no_chain, loop-no_chain}
 use Rattle.disk_layout.proofs.lemmas.chains.Names.{named-is}
 use Rattle.disk_layout.proofs.lemmas.layouts.Layouts.{IsDirectory-one}
 use Rattle.disk_layout.proofs.lemmas.layouts.Twice.{told-unsound}
-use Rattle.disk_layout.proofs.lemmas.lists.Lists.{made-from}
 use Rattle.disk_layout.specs.Chain.{IsChain, named_at}
 use Rattle.disk_layout.specs.Directory.{IsDirectory}
 use Rattle.disk_layout.specs.Fault.{HoldsOfChain, HoldsOfDirectory, TellsFault}

@@ -1,48 +1,12 @@
 -- Parts of blocks as they are lent and written.
-use Rattle.std.proofs.Common.{
-  List,
-  ap,
-  ap₂,
-  append-nil,
-  append_assoc,
-  arith,
-  drop,
-  get_or,
-  inl,
-  inr,
-  length,
-  length-append,
-  length-drop,
-  sym,
-  take,
-  ℕ,
-  ◌++◌,
-  ◌+◌,
-  ◌-◌,
-  ◌<◌,
-  ◌∙◌,
-  ◌≡◌,
-  ◌≤◌,
-}
+use Rattle.std.proofs.Common.{List, ap, ap₂, append-nil, append_assoc, arith, drop, get_or, inl, inr, length}
+use Rattle.std.proofs.Common.{length-append, length-drop, sym, take, ℕ, ◌++◌, ◌+◌, ◌-◌, ◌<◌, ◌∙◌, ◌≡◌, ◌≤◌}
 use Rattle.std.proofs.Math.ListN.{get_or-append}
 use Rattle.std.proofs.Math.Seq.{drop-append-add, take-append-add}
 use Rattle.std.proofs.lemmas.Bool.{cases_lt}
-use Rattle.std.proofs.lemmas.List.{
-  drop-append-le,
-  drop-drop,
-  drop_all,
-  get_or-append_right,
-  get_or-replicate,
-  get_or-take,
-  get_or_default,
-  get_or_past,
-  length-replicate,
-  length-take-le,
-  same_lists,
-  take-append-le,
-  take_all,
-  take_min,
-}
+use Rattle.std.proofs.lemmas.List.{drop-append-le, drop-drop, drop_all, get_or-append_right, get_or-replicate}
+use Rattle.std.proofs.lemmas.List.{get_or-take, get_or_default, get_or_past, length-replicate, length-take-le}
+use Rattle.std.proofs.lemmas.List.{same_lists, take-append-le, take_all, take_min}
 use Rattle.std.specs.Prelude.{min, replicate}
 use Rattle.std.proofs.lemmas.Slice.{drop-put_mid, take-put_mid}
 use borrow.Rule.Slice.PartMut.{mid_of, put_mid, same_len_mid}

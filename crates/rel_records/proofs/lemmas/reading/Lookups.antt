@@ -1,25 +1,6 @@
 -- Data blocks looked up in side sectors.
-use Rattle.std.proofs.Common.{
-  List,
-  Some,
-  IsSome,
-  Option,
-  ap,
-  arith,
-  get_or,
-  length,
-  subst,
-  sym,
-  refl,
-  ℕ,
-  ◌%◌,
-  ◌*◌,
-  ◌+◌,
-  ◌/◌,
-  ◌<◌,
-  ◌∙◌,
-  ◌≡◌,
-}
+use Rattle.std.proofs.Common.{List, Some, IsSome, Option, ap, arith, get_or, length, subst, sym, refl, ℕ, ◌%◌, ◌*◌, ◌+◌}
+use Rattle.std.proofs.Common.{◌/◌, ◌<◌, ◌∙◌, ◌≡◌}
 use Rattle.std.proofs.lemmas.Option.{slice_get-get_or}
 use Rattle.std.specs.Prelude.{slice_get}
 use Rattle.d64_image.specs.Images.{Image, Sector, sector}

@@ -1,38 +1,31 @@
 -- A record read from the one or two blocks where it lies.
-use Rattle.disk_layout.proofs.lemmas.records.Pieces.{length-pieces}
+use Rattle.disk_layout.proofs.lemmas.records.Pieces.{length-pieces, length-piece, piece, piece-byte, row-le}
 use Rattle.disk_layout.proofs.lemmas.records.RecordWrites.{record-at}
-use Rattle.disk_layout.specs.Layout.{record_length}
-use Rattle.disk_layout.specs.Records.{record_count, records}
+use Rattle.disk_layout.specs.Layout.{record_length, File, Layout}
+use Rattle.disk_layout.specs.Records.{record_count, records, joined}
 use Rattle.rel_records.proofs.lemmas.writing.OneBlock.{inside-blocks, le-rows, one-more, same-count}
 use Rattle.rel_records.specs.Calls.{HasRead}
-use Rattle.rel_records.specs.File.{length_of, records_in}
+use Rattle.rel_records.specs.File.{length_of, records_in, IsFileOf, IsOf, OfItsFile, blocks_of}
 use Rattle.rel_records.specs.reading.Block.{IsBlock}
 use Rattle.rel_records.specs.reading.Kept.{IsKept, number_kept}
 use Rattle.rel_records.specs.Written.{IsRecord}
 use Rattle.rel_records.specs.declared.reading.record_order.LastBlock.{LastBlock}
-use Rattle.std.proofs.Common.{◌%◌, ◌/◌}
-use Rattle.std.proofs.Common.{IsSome, Option}
+use Rattle.std.proofs.Common.{◌%◌, ◌/◌, IsSome, Option, List, [], Some, ap, arith, drop, get_or, inl, inr, length}
+use Rattle.std.proofs.Common.{length-drop, length-append, refl, subst, sym, take, ℕ, suc, zero, ◌*◌, ◌++◌, ◌+◌, ◌-◌}
+use Rattle.std.proofs.Common.{◌<◌, ◌∙◌, ◌∷◌, ◌≡◌, ◌≤◌}
 use Rattle.std.proofs.lemmas.Option.{get_or_from_slice_get, slice_get-get_or, slice_get_within}
 use Rattle.disk_layout.proofs.lemmas.chains.Names.{named-is}
-use Rattle.disk_layout.specs.Chain.{named_at}
-use Rattle.disk_layout.specs.Layout.{File, Layout}
+use Rattle.disk_layout.specs.Chain.{named_at, IsChain, Leads, LinksTo}
 use Rattle.rel_records.proofs.lemmas.reading.Lookups.{some-is}
 use Rattle.rel_records.proofs.lemmas.reading.Opened.{file-rel, records-fit}
-use Rattle.rel_records.specs.File.{IsFileOf, IsOf, OfItsFile, blocks_of}
 use Rattle.rel_records.specs.declared.rel_file.RelFile.{RelFile}
-use Rattle.std.proofs.Common.{List, [], Some, ap, arith, drop, get_or, inl, inr, length, length-drop, length-append}
-use Rattle.std.proofs.Common.{refl, subst, sym, take, ℕ, suc, zero, ◌*◌, ◌++◌, ◌+◌, ◌-◌, ◌<◌, ◌∙◌, ◌∷◌, ◌≡◌, ◌≤◌}
 use Rattle.std.proofs.Math.ListN.{get_or-append}
 use Rattle.std.proofs.lemmas.Bool.{cases_lt}
 use Rattle.std.proofs.lemmas.List.{get_or-append_right, get_or-drop, get_or-take, length-take-le}
-use Rattle.std.specs.Prelude.{slice_get}
+use Rattle.std.specs.Prelude.{slice_get, IfSome}
 use Rattle.d64_image.specs.Images.{Image, IsImage, Sector, sector}
 use Rattle.d64_image.specs.declared.place.Place.{Place}
 use Rattle.disk_layout.proofs.lemmas.records.Joined.{joined-at, length-joined, sector-long}
-use Rattle.disk_layout.proofs.lemmas.records.Pieces.{length-piece, piece, piece-byte, row-le}
-use Rattle.std.specs.Prelude.{IfSome}
-use Rattle.disk_layout.specs.Chain.{IsChain, Leads, LinksTo}
-use Rattle.disk_layout.specs.Records.{joined}
 use Rattle.rel_records.proofs.lemmas.reading.Lent.{same_bytes}
 
 -- the first place of what leads from p

@@ -1,28 +1,6 @@
 -- All files but one stay, and that one keeps its entry, its block count aside.
-use Rattle.std.proofs.Common.{
-  ◌≡◌,
-  ◌≢◌,
-  ℕ,
-  zero,
-  suc,
-  ◌<◌,
-  inl,
-  inr,
-  ◌⊎◌,
-  List,
-  [],
-  ◌∷◌,
-  ◌++◌,
-  map,
-  length,
-  refl,
-  sym,
-  ◌∙◌,
-  ap,
-  arith,
-  subst,
-  length-append,
-}
+use Rattle.std.proofs.Common.{◌≡◌, ◌≢◌, ℕ, zero, suc, ◌<◌, inl, inr, ◌⊎◌, List, [], ◌∷◌, ◌++◌, map, length, refl, sym}
+use Rattle.std.proofs.Common.{◌∙◌, ap, arith, subst, length-append}
 use Rattle.std.specs.Prelude.{Contains, slice_get, Some, flat_map, replicate}
 use Rattle.std.proofs.lemmas.List.{length-replicate}
 use Rattle.std.proofs.lemmas.List.Elements.{Contains-append_left}

@@ -1,29 +1,6 @@
 -- Who owns what once a file has its next block: each place has one owner, and the map is that of the owners.
-use Rattle.std.proofs.Common.{
-  ◌≡◌,
-  ◌≢◌,
-  ℕ,
-  zero,
-  suc,
-  ◌+◌,
-  ◌%◌,
-  ◌⊎◌,
-  inl,
-  inr,
-  List,
-  [],
-  ◌∷◌,
-  ◌++◌,
-  length,
-  refl,
-  sym,
-  ◌∙◌,
-  ap,
-  arith,
-  subst,
-  append_assoc,
-  length-append,
-}
+use Rattle.std.proofs.Common.{◌≡◌, ◌≢◌, ℕ, zero, suc, ◌+◌, ◌%◌, ◌⊎◌, inl, inr, List, [], ◌∷◌, ◌++◌, length, refl, sym}
+use Rattle.std.proofs.Common.{◌∙◌, ap, arith, subst, append_assoc, length-append}
 use Rattle.std.specs.Prelude.{Contains, Some, flat_map, slice_get}
 use Rattle.std.proofs.lemmas.Grind.{flat_map-append}
 use Rattle.d64_image.specs.Images.{Sector}

@@ -1,23 +1,6 @@
 -- Before the write that makes a file longer the disk has the layout and the records that it had.
-use Rattle.std.proofs.Common.{
-  ◌≡◌,
-  ℕ,
-  ◌≤◌,
-  inl,
-  inr,
-  true,
-  false,
-  List,
-  ◌∷◌,
-  ◌++◌,
-  length,
-  refl,
-  sym,
-  ◌∙◌,
-  subst,
-  IsTrue,
-  IsFalse,
-}
+use Rattle.std.proofs.Common.{◌≡◌, ℕ, ◌≤◌, inl, inr, true, false, List, ◌∷◌, ◌++◌, length, refl, sym, ◌∙◌, subst}
+use Rattle.std.proofs.Common.{IsTrue, IsFalse}
 use Rattle.std.specs.Prelude.{Contains, slice_get, Some, flat_map}
 use Rattle.std.proofs.lemmas.Grind.{flat_map-append}
 use Rattle.std.proofs.lemmas.List.Elements.{Contains-append_left, Contains-append_right}
@@ -26,32 +9,17 @@ use Rattle.d64_image.specs.declared.place.Place.{Place}
 use Rattle.disk_layout.proofs.lemmas.chains.Chains.{AgreeAt, links-agree}
 use Rattle.disk_layout.proofs.lemmas.growth.Commit.{IsLayout-replace, alone, own-once}
 use Rattle.disk_layout.proofs.lemmas.growth.SideWrites.{IsLonger, IsSide-shorter, file-there, same-layout}
-use Rattle.disk_layout.proofs.lemmas.layouts.Agree.{
-  owned-block,
-  owned-side,
-  owned-by_files,
-  owned-directory,
-  records-agree,
-}
+use Rattle.disk_layout.proofs.lemmas.layouts.Agree.{owned-block, owned-side, owned-by_files, owned-directory}
+use Rattle.disk_layout.proofs.lemmas.layouts.Agree.{records-agree}
 use Rattle.disk_layout.proofs.lemmas.layouts.Exact.{exact-side}
 use Rattle.disk_layout.proofs.lemmas.layouts.Layouts.{get-contains}
-use Rattle.disk_layout.proofs.lemmas.layouts.Frames.{HasChain-frame, IsSide-frame, KeepsFiles, all_blocks}
-use Rattle.disk_layout.proofs.lemmas.layouts.Frames.{block-owned, side-owned}
+use Rattle.disk_layout.proofs.lemmas.layouts.Frames.{HasChain-frame, IsSide-frame, KeepsFiles, all_blocks, block-owned}
+use Rattle.disk_layout.proofs.lemmas.layouts.Frames.{side-owned}
 use Rattle.disk_layout.proofs.lemmas.lists.Once.{Contains-here, EachOnce-apart}
 use Rattle.disk_layout.specs.Chain.{EachOnce}
 use Rattle.disk_layout.specs.Directory.{map_place}
-use Rattle.disk_layout.specs.Layout.{
-  File,
-  IsFile,
-  IsLayout,
-  IsRelFile,
-  IsSide,
-  Layout,
-  exchanged,
-  file_owns,
-  is_rel,
-  owners,
-}
+use Rattle.disk_layout.specs.Layout.{File, IsFile, IsLayout, IsRelFile, IsSide, Layout, exchanged, file_owns, is_rel}
+use Rattle.disk_layout.specs.Layout.{owners}
 use Rattle.disk_layout.specs.Records.{records}
 use Rattle.rel_records.proofs.lemmas.steps.Others.{has-records, places-same}
 use Rattle.rel_records.specs.Others.{HasRecords}

@@ -1,31 +1,6 @@
 -- Side sectors written one after another.
-use Rattle.std.proofs.Common.{
-  ◌≡◌,
-  ◌≢◌,
-  ℕ,
-  zero,
-  suc,
-  ◌+◌,
-  ◌<◌,
-  ◌≤◌,
-  ◌-◌,
-  inl,
-  inr,
-  List,
-  [],
-  ◌∷◌,
-  length,
-  Result,
-  Ok,
-  Err,
-  OnOk,
-  refl,
-  sym,
-  ◌∙◌,
-  ap,
-  arith,
-  subst,
-}
+use Rattle.std.proofs.Common.{◌≡◌, ◌≢◌, ℕ, zero, suc, ◌+◌, ◌<◌, ◌≤◌, ◌-◌, inl, inr, List, [], ◌∷◌, length, Result, Ok}
+use Rattle.std.proofs.Common.{Err, OnOk, refl, sym, ◌∙◌, ap, arith, subst}
 use Rattle.std.specs.Prelude.{Contains, OnErr, Some, slice_get}
 use Rattle.std.proofs.lemmas.Bool.{cases_lt}
 use Rattle.d64_image.proofs.Images.{sector-put_other, sector-put_same}

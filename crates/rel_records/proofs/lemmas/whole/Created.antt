@@ -6,9 +6,7 @@ use Rattle.std.specs.Prelude.{Contains, Some, flat_map, nat_le, slice_get, ◌&&
 use Rattle.d64_image.specs.Images.{Image, Sector, put, sector}
 use Rattle.d64_image.specs.declared.place.Place.{Place}
 use Rattle.disk_layout.proofs.lemmas.chains.Chains.{AgreeAt}
-use Rattle.disk_layout.proofs.lemmas.counts.Recount.{filter-out}
-use Rattle.disk_layout.proofs.lemmas.counts.Recounts.{reread, reslot, slot-of}
-use Rattle.disk_layout.proofs.lemmas.growth.LongerDirectory.{IsRelinked}
+use Rattle.disk_layout.proofs.lemmas.counts.Recounts.{reread, reslot}
 use Rattle.disk_layout.proofs.lemmas.layouts.Agree.{owned-block, owned-side}
 use Rattle.disk_layout.proofs.lemmas.layouts.Frames.{unless-same}
 use Rattle.disk_layout.proofs.lemmas.layouts.Layouts.{IsLayout-one, get-contains}
@@ -17,13 +15,11 @@ use Rattle.disk_layout.proofs.lemmas.lists.Once.{flat_map-in, insert-out, map-in
 use Rattle.disk_layout.proofs.lemmas.whole.Files.{AreExact, HasEnd, clean-exact, exact-ends, none-behind, not-zeros}
 use Rattle.disk_layout.proofs.lemmas.whole.Files.{rel-not-plain}
 use Rattle.disk_layout.specs.Clean.{IsCleanLayout}
-use Rattle.disk_layout.specs.Directory.{is_used, slots_in, used_slots}
 use Rattle.disk_layout.specs.Layout.{File, IsLayout, Layout, count_field, file_owns, is_rel, is_rel_type, owners}
 use Rattle.disk_layout.specs.Listed.{is_plain}
 use Rattle.disk_layout.specs.Whole.{IsWhole, IsWholeFile}
 use Rattle.disk_layout.specs.declared.slot.Slot.{Slot}
 use Rattle.rel_records.proofs.lemmas.creation.Creating.{SameEntry, with_new}
-use Rattle.rel_records.proofs.lemmas.creation.InSector.{count-any, entry-any}
 use Rattle.rel_records.proofs.lemmas.creation.NewFiles.{new_file}
 use Rattle.rel_records.proofs.lemmas.reading.Opened.{rel-of}
 use Rattle.rel_records.specs.growth.Next.{IsFresh}
@@ -65,15 +61,6 @@ before-whole a c l clean now same w = exact-long c l now exact long
           λ t q last zeros. old.ended t q last
               (same q (owned-block l y q on (get-contains y.blocks _ q last)) ∙ zeros),
         )
-
--- a link in the directory changes no entry
-pub linked-stays : (c : Image) (l : Layout) (p : Place) (bytes : Sector) → length c ≡ 683 → IsRelinked (sector c p) bytes
-    → IsLayout c l → (f : File) → Contains l.files f → SameEntry f.slot (reslot (put c p bytes) f.slot)
-    × (count_field (reslot (put c p bytes) f.slot) ≡ count_field f.slot)
-unfolding used_slots
-linked-stays c l p bytes full relinked is f d =
-    let on = (filter-out is_used (flat_map (λ q. slots_in q (sector c q)) l.directory) f.slot (slot-of c l f is d)).0 in
-    (entry-any c l p bytes full relinked l.directory f.slot on, count-any c l p bytes full relinked l.directory f.slot on)
 
 -- a relative file of one fresh block is
 pub fresh-long : (b : Image) (s : Slot) (block side : Place) (u L : ℕ) → IsTrue (is_rel s)

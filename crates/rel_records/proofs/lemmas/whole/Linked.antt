@@ -1,6 +1,6 @@
 -- Once a file has its next block the files are whole.
-use Rattle.std.proofs.Common.{◌≡◌, ◌≢◌, ℕ, suc, ◌-◌, List, [], ◌∷◌, ◌++◌, length, refl, sym, ◌∙◌, ap}
-use Rattle.std.proofs.Common.{arith, subst, Bool, IsTrue, length-append, slice_index, take, drop}
+use Rattle.std.proofs.Common.{◌≡◌, ◌≢◌, ℕ, suc, ◌-◌, List, [], ◌∷◌, ◌++◌, length, refl, sym, ◌∙◌, ap, arith, subst}
+use Rattle.std.proofs.Common.{Bool, IsTrue, length-append, slice_index, take, drop}
 use Rattle.std.proofs.lemmas.List.Elements.{Contains-append_left}
 use Rattle.std.specs.Prelude.{Contains, Some, replicate, slice_get}
 use Rattle.d64_image.proofs.Images.{sector-put_other}
@@ -23,8 +23,7 @@ use Rattle.rel_records.proofs.lemmas.steps.LaidOut.{IsStep, each, place, rel-fil
 use Rattle.rel_records.proofs.lemmas.steps.LastBlocks.{made}
 use Rattle.rel_records.proofs.lemmas.steps.Others.{others-kept}
 use Rattle.disk_layout.proofs.lemmas.whole.Files.{AreExact, exact-whole, not-zeros}
-use Rattle.rel_records.proofs.lemmas.whole.Files.{agree-exact, clean-whole}
-use Rattle.rel_records.proofs.lemmas.whole.Files.{whole-now}
+use Rattle.rel_records.proofs.lemmas.whole.Files.{agree-exact, clean-whole, whole-now}
 use Rattle.rel_records.specs.Others.{KeepsOthers}
 use Rattle.disk_layout.specs.Whole.{IsWhole}
 use Rattle.rel_records.specs.declared.growth.step_parts.Parts.{Parts}

@@ -1,28 +1,6 @@
 -- A record that is written in one block: what is left, and what was held.
-use Rattle.std.proofs.Common.{
-  append-nil,
-  List,
-  Some,
-  ap,
-  ap₂,
-  arith,
-  inl,
-  inr,
-  length,
-  slice_index,
-  subst,
-  sym,
-  ℕ,
-  suc,
-  zero,
-  ◌*◌,
-  ◌+◌,
-  ◌-◌,
-  ◌<◌,
-  ◌∙◌,
-  ◌≡◌,
-  ◌≤◌,
-}
+use Rattle.std.proofs.Common.{append-nil, List, Some, ap, ap₂, arith, inl, inr, length, slice_index, subst, sym, ℕ, suc}
+use Rattle.std.proofs.Common.{zero, ◌*◌, ◌+◌, ◌-◌, ◌<◌, ◌∙◌, ◌≡◌, ◌≤◌}
 use Rattle.std.proofs.lemmas.Bool.{cases_lt}
 use Rattle.std.specs.Prelude.{slice_get}
 use Rattle.d64_image.proofs.Images.{is_sector, put_is_image}

@@ -1,25 +1,6 @@
 -- A text written over bytes of one block, seen in the joined data of a file.
-use Rattle.std.proofs.Common.{
-  List,
-  Some,
-  ap,
-  arith,
-  get_or,
-  inl,
-  inr,
-  slice_index,
-  subst,
-  sym,
-  ℕ,
-  ◌*◌,
-  ◌+◌,
-  ◌-◌,
-  ◌<◌,
-  ◌∙◌,
-  ◌≡◌,
-  ◌≤◌,
-  ◌⊎◌,
-}
+use Rattle.std.proofs.Common.{List, Some, ap, arith, get_or, inl, inr, slice_index, subst, sym, ℕ, ◌*◌, ◌+◌, ◌-◌, ◌<◌}
+use Rattle.std.proofs.Common.{◌∙◌, ◌≡◌, ◌≤◌, ◌⊎◌}
 use Rattle.std.proofs.lemmas.Bool.{cases_lt}
 use Rattle.std.specs.Prelude.{slice_get}
 use Rattle.d64_image.proofs.Images.{sector-put_same}

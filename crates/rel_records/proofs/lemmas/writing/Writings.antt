@@ -1,27 +1,6 @@
 -- A record that is there is written: in one block, or across two.
-use Rattle.std.proofs.Common.{
-  [],
-  List,
-  Some,
-  ap,
-  arith,
-  get_or,
-  inl,
-  length,
-  refl,
-  set,
-  slice_index,
-  subst,
-  sym,
-  ℕ,
-  ◌*◌,
-  ◌+◌,
-  ◌-◌,
-  ◌<◌,
-  ◌∙◌,
-  ◌≡◌,
-  ◌≤◌,
-}
+use Rattle.std.proofs.Common.{[], List, Some, ap, arith, get_or, inl, length, refl, set, slice_index, subst, sym, ℕ}
+use Rattle.std.proofs.Common.{◌*◌, ◌+◌, ◌-◌, ◌<◌, ◌∙◌, ◌≡◌, ◌≤◌}
 use Rattle.std.specs.Prelude.{Contains, slice_get}
 use Rattle.std.proofs.lemmas.List.{length-set}
 use Rattle.std.proofs.lemmas.List.Elements.{Contains-append_left}

@@ -2,7 +2,7 @@
 use Rattle.std.proofs.Common.{ap, arith, length, refl, subst, ◌∙◌, ◌≡◌}
 use borrow.Author.Count.{below_more}
 use Rattle.std.proofs.lemmas.Option.{slice_get_read}
-use Rattle.d64_image.proofs.Moments.{no_reads, reads_then}
+use Rattle.d64_image.proofs.Moments.{no_reads, reads_then, reads_weaker}
 use Rattle.d64_image.specs.Images.{Image, Sector, sector}
 use Rattle.d64_image.specs.declared.place.Place.{Place}
 use Rattle.rel_records.proofs.lemmas.directory.Rooms.{first-room, no-room, same-get}
@@ -75,3 +75,15 @@ returns-clause-before g c =
     let few = c.requires in
     slice_get_read c.args.places.now (length c.args.places.now) _ c.index-places-before-2.result refl
     (omega (arith, few)) c.index-places-before-2.is
+
+pub returns-in_err-read-clause-reads : goal.returns-in_err-read-clause-reads
+returns-in_err-read-clause-reads g c = reads_then g.D.Sectors.history _ _ _ _ 1 _
+    (omega (arith, c.loop-before-test.true)) c.loop-before.invariant.reads c.read.ensures.reads
+
+pub returns-in-Some-clause-reads : goal.returns-in-Some-clause-reads
+returns-in-Some-clause-reads g c = reads_then g.D.Sectors.history _ _ _ _ 1 _ (omega (arith, c.loop-before-test.true))
+    c.loop-before.invariant.reads c.read.ensures.reads
+
+pub returns-clause-reads : goal.returns-clause-reads
+returns-clause-reads g c = reads_weaker g.D.Sectors.history _ _ _ _ (omega (arith, c.loop-before.auto))
+    c.loop-before.invariant.reads

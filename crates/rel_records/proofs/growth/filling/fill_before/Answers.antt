@@ -82,3 +82,33 @@ returns-in_err-read g c =
       failures = tells-failed g.D.Sectors.history _ _ _ refl c.from_residual.result _ c.from_residual.ensures.1
           c.in_err-read.ensures.failures;
     }
+
+pub overflow_cast-count : goal.overflow_cast-count
+overflow_cast-count g c = omega (arith, c.len-count.ensures.fits)
+
+pub overflow_sub-count : goal.overflow_sub-count
+overflow_sub-count g c = omega (arith, c.len-count.ensures.value, c.requires.some)
+
+pub overflow_mul-count : goal.overflow_mul-count
+overflow_mul-count g c = omega (arith, c.len-count.ensures.fits)
+
+pub overflow_sub-place : goal.overflow_sub-place
+overflow_sub-place g c = omega (arith, c.if-from-count.false, c.len-count.ensures.value)
+
+pub offset_bounds-deref-count : goal.offset_bounds-deref-count
+offset_bounds-deref-count g c = omega (arith, c.len-count.ensures.fits)
+
+pub bounds-deref-count : goal.bounds-deref-count
+bounds-deref-count g c = omega (arith, ap length c.deref.ensures.0, c.len-count.ensures.value, c.requires.some)
+
+pub overflow_cast-count-2 : goal.overflow_cast-count-2
+overflow_cast-count-2 g c = omega (arith, c.len-count.ensures.fits)
+
+pub overflow_sub-count-2 : goal.overflow_sub-count-2
+overflow_sub-count-2 g c = omega (arith, c.if-from-count.false, c.len-count.ensures.value)
+
+pub overflow_mul-count-2 : goal.overflow_mul-count-2
+overflow_mul-count-2 g c = omega (arith, c.len-count.ensures.fits)
+
+pub fill_tail-requires-clause-at : goal.fill_tail-requires-clause-at
+fill_tail-requires-clause-at g c = omega (arith, c.len-count.ensures.fits)

@@ -13,3 +13,6 @@ fill-requires c = record {
   );
   length = c.requires.length.low;
 }
+
+pub overflow_mul-count : goal.overflow_mul-count
+overflow_mul-count c = omega (arith, c.requires.few)

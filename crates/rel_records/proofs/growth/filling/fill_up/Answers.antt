@@ -127,3 +127,15 @@ fill_last-requires-clause-length g c = record {
   low = c.args.parts.now.size_low;
   high = c.args.parts.now.size_high;
 }
+
+pub returns-then-had-total-clause-reads : goal.returns-then-had-total-clause-reads
+returns-then-had-total-clause-reads g c = omega arith
+
+pub returns-clause-reads : goal.returns-clause-reads
+returns-clause-reads g c = omega (arith, c.write.ensures.reads, c.in_ok-fill_before.ensures.reads)
+
+pub overflow_cast-count : goal.overflow_cast-count
+overflow_cast-count g c = omega (arith, c.len-count.ensures.value, c.requires.few)
+
+pub fill_last-requires-clause-few : goal.fill_last-requires-clause-few
+fill_last-requires-clause-few g c = omega (arith, c.len-count.ensures.value, c.requires.few)

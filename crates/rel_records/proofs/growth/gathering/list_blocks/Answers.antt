@@ -16,3 +16,6 @@ loop-number-preserved c qs long named =
     c.loop-number.number c.block.result c.unwrap.result (omega (arith, c.loop-number-test.true, long)) named
     (rw c.new-view.ensures at c.block.ensures) c.unwrap.ensures
     (c.loop-number.invariant qs long named) c.push.ensures.items
+
+pub block-requires : goal.block-requires
+block-requires c = record { listed = omega (arith, c.loop-number-test.true, c.requires.few) }

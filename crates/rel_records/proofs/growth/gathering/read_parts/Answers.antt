@@ -1,6 +1,6 @@
 -- The places, the directory sector, the last block.
 use Rattle.std.proofs.Common.{arith, ap, ◌∙◌, refl, length}
-use Rattle.d64_image.proofs.Moments.{reads_then}
+use Rattle.d64_image.proofs.Moments.{reads_then, reads_weaker}
 use Rattle.d64_image.specs.Images.{sector}
 use Rattle.rel_records.proofs.growth.gathering.read_parts.Goals as goal
 use Rattle.rel_records.proofs.lemmas.growth.Gathered.{number-low}
@@ -77,3 +77,7 @@ read_places-requires g c = record {
   no_sides = c.new-sides.ensures;
   no_blocks = c.new-blocks.ensures;
 }
+
+pub returns-in_err-read_places-clause-reads : goal.returns-in_err-read_places-clause-reads
+returns-in_err-read_places-clause-reads g c = reads_weaker g.D.Sectors.history _ _ 6 8 (omega arith)
+    c.in_err-read_places.ensures.reads

@@ -2,7 +2,7 @@
 use Rattle.std.proofs.Common.{arith, ap, ◌∙◌, refl, ◌≤◌, length, sym, ◌≡◌, ◌+◌, ◌*◌, ◌<◌, ◌∷◌, [], ◌++◌, Some, take}
 use Rattle.std.proofs.Common.{drop}
 use Rattle.std.proofs.lemmas.List.{length-take, take_all}
-use Rattle.d64_image.proofs.Moments.{no_reads, reads_then}
+use Rattle.d64_image.proofs.Moments.{no_reads, reads_then, reads_weaker}
 use Rattle.rel_records.proofs.growth.gathering.read_places.Goals as goal
 use Rattle.rel_records.proofs.lemmas.growth.Gathered.{all-listed, len-low, piece-joined, piece-long, piece-named}
 use Rattle.rel_records.proofs.lemmas.growth.Gathered.{take-one}
@@ -104,3 +104,21 @@ returns-clause-sides g c l n f of =
     let all : length c.args.file.now.sides.items ≤ c.loop-side.side-index =
     omega (arith, c.loop-side-test.false, ap length c.as_slice-side-items.ensures.value) in
     c.loop-side.invariant.sides ∙ take_all c.loop-side.side-index c.args.file.now.sides.items all ∙ of.shows.sides
+
+pub offset_bounds-side-items-side-index : goal.offset_bounds-side-items-side-index
+offset_bounds-side-items-side-index g c = omega (arith, c.loop-side-test.true, c.as_slice-side-items.type_inv.1)
+
+pub list_blocks-requires-clause-few : goal.list_blocks-requires-clause-few
+list_blocks-requires-clause-few g c = omega (arith, c.min-count.ensures)
+
+pub loop-side-smaller : goal.loop-side-smaller
+loop-side-smaller g c = omega (arith, c.loop-side-test.true)
+
+pub returns-clause-reads : goal.returns-clause-reads
+returns-clause-reads g c = reads_weaker g.D.Sectors.history _ _ c.loop-side.side-index 6
+    (omega (arith, c.loop-side.auto.side-index-end, c.as_slice-side-items.ensures.fits)) c.loop-side.invariant.reads
+
+pub returns-in_err-read-clause-reads : goal.returns-in_err-read-clause-reads
+returns-in_err-read-clause-reads g c = reads_then g.D.Sectors.history _ _ _ c.loop-side.side-index 1 6
+    (omega (arith, c.loop-side-test.true, c.as_slice-side-items.ensures.fits)) c.loop-side.invariant.reads
+    c.read.ensures.reads

@@ -19,3 +19,21 @@ take_places-fresh-requires c = record {
   few = c.requires.few;
   sides = c.requires.sides;
 }
+
+pub overflow_cast-count : goal.overflow_cast-count
+overflow_cast-count c = omega (arith, c.len-count.ensures.value, c.requires.few)
+
+pub link_block-requires-clause-some : goal.link_block-requires-clause-some
+link_block-requires-clause-some c = omega (arith, c.len-count.ensures.value, c.requires.some)
+
+pub link_block-requires-clause-few : goal.link_block-requires-clause-few
+link_block-requires-clause-few c = omega (arith, c.len-count.ensures.value, c.requires.few)
+
+pub overflow_add-owned : goal.overflow_add-owned
+overflow_add-owned c = omega (arith, c.len.ensures.fits, c.len-2.ensures.fits)
+
+pub overflow_cast-owned : goal.overflow_cast-owned
+overflow_cast-owned c = omega (arith, c.len.ensures.fits, c.len-2.ensures.fits)
+
+pub make_fresh-requires-clause-few : goal.make_fresh-requires-clause-few
+make_fresh-requires-clause-few c = omega (arith, c.len-count.ensures.value, c.requires.few)

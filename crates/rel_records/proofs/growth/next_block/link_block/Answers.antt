@@ -27,3 +27,6 @@ returns-clause-linked c =
     c.sector.result c.full_records.result c.full_records-total.result
     c.fill.array_long c.track.ensures c.sector.ensures c.full_records.ensures c.full_records-total.ensures
     c.fill.ensures.filled c.fill.ensures.kept
+
+pub overflow_mul-blocks : goal.overflow_mul-blocks
+overflow_mul-blocks c = omega (arith, c.requires.few)

@@ -13,3 +13,6 @@ fill-requires c = record {
   );
   length = c.requires.length.low;
 }
+
+pub overflow_mul-at : goal.overflow_mul-at
+overflow_mul-at c = omega (arith, c.requires.few)

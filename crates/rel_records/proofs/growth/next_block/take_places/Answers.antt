@@ -1,7 +1,7 @@
 -- Where the side sectors are full, a second sector.
 use Rattle.std.proofs.Common.{arith, refl, ◌≡◌, ◌%◌, length, ap, sym, ◌∙◌}
 use Rattle.rel_records.proofs.growth.next_block.take_places.Goals as goal
-use Rattle.rel_records.proofs.lemmas.steps.Taking.{places-side, taken-two}
+use Rattle.rel_records.proofs.lemmas.steps.Taking.{places-side, taken-two, taken-some}
 
 pub returns-clause-places : goal.returns-clause-places
 returns-clause-places c =
@@ -19,3 +19,7 @@ take_next-side-requires-clause-some c = omega (
   taken-two (length c.args.parts.now.blocks.items) (ap (λ n. n % 120) (sym c.len.ensures.value)
       ∙ c.if-not-full.false),
 )
+
+pub take_next-fresh-requires-clause-some : goal.take_next-fresh-requires-clause-some
+take_next-fresh-requires-clause-some c =
+    omega (arith, c.requires.room, taken-some (length c.args.parts.now.blocks.items))

@@ -103,3 +103,18 @@ lay_out-fresh-requires-clause-map g c =
     let (l, n, f, at) = c.requires.at in
     let P : Sector → Type 0 = λ b. IsMapOf b (map_place ∷ owners l) in
     (map_place ∷ owners l, subst P (sym at.map) at.clean.map)
+
+pub returns-clause-reads : goal.returns-clause-reads
+returns-clause-reads g c = omega
+    (arith, c.in_ok-write-2.ensures.reads, c.in_ok-write.ensures.reads, c.in_ok-prepare.ensures.reads)
+
+pub returns-in_err-prepare-clause-reads : goal.returns-in_err-prepare-clause-reads
+returns-in_err-prepare-clause-reads g c = omega (arith, c.in_err-prepare.ensures.reads)
+
+pub returns-in_err-write-clause-reads : goal.returns-in_err-write-clause-reads
+returns-in_err-write-clause-reads g c = omega
+    (arith, c.in_err-write.ensures.reads, c.in_ok-prepare.ensures.reads)
+
+pub returns-in_err-write-2-clause-reads : goal.returns-in_err-write-2-clause-reads
+returns-in_err-write-2-clause-reads g c = omega
+    (arith, c.in_err-write-2.ensures.reads, c.in_ok-write.ensures.reads, c.in_ok-prepare.ensures.reads)

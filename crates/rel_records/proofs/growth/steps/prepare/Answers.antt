@@ -1,5 +1,5 @@
 -- The map, the fresh block, the side sectors.
-use Rattle.std.proofs.Common.{arith, subst, ap, ◌≡◌, ◌∙◌, refl, inl, inr}
+use Rattle.std.proofs.Common.{arith, subst, ap, ◌≡◌, ◌∙◌, refl, inl, inr, length}
 use Rattle.std.proofs.lemmas.Result.{on_ok_weaker}
 use Rattle.d64_image.proofs.Moments.{at_end, changes_weaker, write_change}
 use Rattle.d64_image.specs.Images.{Image, put}
@@ -72,3 +72,9 @@ returns-in_err-write g c =
       failures = tells-failed g.D.Sectors.history _ _ _ refl c.from_residual.result _ c.from_residual.ensures.1
           c.in_err-write.ensures.failures;
     }
+
+pub write_sides-requires-clause-some : goal.write_sides-requires-clause-some
+write_sides-requires-clause-some g c = omega (arith, c.requires.some, ap length c.as_slice-2.ensures.value)
+
+pub write_sides-requires-clause-few : goal.write_sides-requires-clause-few
+write_sides-requires-clause-few g c = omega (arith, c.requires.few, ap length c.as_slice-2.ensures.value)

@@ -3,6 +3,7 @@ use Rattle.std.proofs.Common.{arith, List, ap, ℕ, ◌*◌, ◌+◌, ◌∙◌}
 use Rattle.disk_layout.specs.Chain.{named_at}
 use Rattle.rel_records.proofs.lemmas.reading.Found.{listed-more, listed-some}
 use Rattle.rel_records.proofs.reading.finding.list_sides.Goals as goal
+use Rattle.std.proofs.lemmas.List.{take_all}
 
 pub unwrap-requires : goal.unwrap-requires
 unwrap-requires c =
@@ -18,3 +19,7 @@ loop-number-preserved c = record {
       (c.side.ensures ∙ ap (λ (bytes : List ℕ). named_at bytes (4 + 2 * c.loop-number.number)) c.new-view.ensures)
       c.unwrap.ensures (c.loop-number.invariant.listed qs count names) c.push.ensures.items;
 }
+
+pub returns : goal.returns
+returns c = λ qs count names. c.loop-number.invariant.listed qs count names
+    ∙ take_all c.loop-number.number qs (omega (arith, count, c.loop-number-test.false))

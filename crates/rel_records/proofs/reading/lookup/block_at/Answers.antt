@@ -3,6 +3,7 @@ use Rattle.std.proofs.Common.{arith, refl, ◌∙◌}
 use Rattle.rel_records.proofs.lemmas.Told.{none-done, fault-is, passed-on}
 use Rattle.rel_records.proofs.lemmas.reading.Lookups.{pointer-named, pointer-some, side-at}
 use Rattle.rel_records.proofs.reading.lookup.block_at.Goals as goal
+use Rattle.rel_records.proofs.lemmas.reading.Starts.{pointer-low}
 
 pub known-requires : goal.known-requires
 known-requires g c =
@@ -30,3 +31,12 @@ returns-in_err-read g c =
       failures = passed-on g.D.Sectors.history _ _ _ refl c.from_residual.result _ c.from_residual.ensures.1
           c.in_err-read.ensures.failures;
     }
+
+pub overflow_mul-pointer : goal.overflow_mul-pointer
+overflow_mul-pointer g c = omega (arith, pointer-low c.args.block)
+
+pub overflow_add-pointer : goal.overflow_add-pointer
+overflow_add-pointer g c = omega (arith, pointer-low c.args.block)
+
+pub overflow_add-pointer-2 : goal.overflow_add-pointer-2
+overflow_add-pointer-2 g c = omega (arith, pointer-low c.args.block)

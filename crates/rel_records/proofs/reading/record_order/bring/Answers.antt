@@ -71,3 +71,9 @@ returns-clause-quiet g c kept =
           (w.if-here-block.false (same-number _ _ (sym w.in-Some.is ∙ kept)))
       | in_default w ↦ absurd (no-number _ (sym w.in_default.is ∙ kept))
     ]
+
+pub overflow_sub-block : goal.overflow_sub-block
+overflow_sub-block g c = omega (arith, c.if-here-block-2.true)
+
+pub go_on-requires-clause-there : goal.go_on-requires-clause-there
+go_on-requires-clause-there g c = omega (arith, c.if-block-here-eq1.true, c.if-here-block-2.true, c.requires.there)

@@ -1,6 +1,6 @@
 -- The block behind the one that is kept is the one that its link names.
 use Rattle.rel_records.proofs.lemmas.Told.{fault-is, none-done, passed-on}
-use Rattle.std.proofs.Common.{refl, ◌∙◌}
+use Rattle.std.proofs.Common.{refl, ◌∙◌, arith}
 use Rattle.rel_records.proofs.lemmas.reading.Readings.{behind-is, behind-there, kept-is}
 use Rattle.rel_records.proofs.reading.record_order.go_on.Goals as goal
 
@@ -33,3 +33,6 @@ returns-clause-next g c = record {
   reads = c.read_behind.ensures.reads;
   failures = c.in_ok-read_behind.ensures.failures;
 }
+
+pub overflow_add-last : goal.overflow_add-last
+overflow_add-last g c = omega (arith, c.requires.there, c.args.file.now.few)

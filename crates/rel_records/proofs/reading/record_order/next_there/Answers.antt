@@ -142,3 +142,7 @@ overflow_mul-start g c =
     let fits = inside-of _ c.args.file.now c.args.number c.requires.of (g.D.Sectors.history.whole c.args.disk.now)
     c.requires.low c.requires.high in
     omega (arith, fits, c.args.file.now.few)
+
+pub returns-then-start-size-le-DATA-clause-near : goal.returns-then-start-size-le-DATA-clause-near
+returns-then-start-size-le-DATA-clause-near g c kept =
+    reads_weaker g.D.Sectors.history _ _ 0 _ (omega arith) (c.bring.ensures.quiet kept)

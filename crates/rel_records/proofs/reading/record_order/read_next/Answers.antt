@@ -58,3 +58,16 @@ returns-clause-text g c =
       reads = c.next_there.ensures.text.reads;
       failures = c.next_there.ensures.text.failures;
     }
+
+pub returns-then-number-eq0-clause-near : goal.returns-then-number-eq0-clause-near
+returns-then-number-eq0-clause-near g c kept =
+    reads_weaker g.D.Sectors.history c.args.disk.now c.args.disk.now 0 _ (omega arith)
+    (no_reads g.D.Sectors.history c.args.disk.now)
+
+pub returns-then-not-has_records-clause-near : goal.returns-then-not-has_records-clause-near
+returns-then-not-has_records-clause-near g c kept =
+    reads_weaker g.D.Sectors.history c.args.disk.now c.args.disk.now 0 _ (omega arith)
+    (no_reads g.D.Sectors.history c.args.disk.now)
+
+pub next_there-requires-clause-low : goal.next_there-requires-clause-low
+next_there-requires-clause-low g c = omega (arith, c.if-number-eq0.false)

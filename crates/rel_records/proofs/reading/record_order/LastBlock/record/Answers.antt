@@ -1,6 +1,6 @@
 -- The record's bytes are those of the block that is kept, and of no other.
-use Rattle.std.proofs.Common.{ap, arith, drop, length, length-drop, sym, take, ℕ}
-use Rattle.std.proofs.Common.{◌%◌, ◌*◌, ◌+◌, ◌-◌, ◌++◌, ◌∙◌, ◌≡◌, ◌≤◌}
+use Rattle.std.proofs.Common.{ap, arith, drop, length, length-drop, sym, take, ℕ, ◌%◌, ◌*◌, ◌+◌, ◌-◌, ◌++◌, ◌∙◌, ◌≡◌}
+use Rattle.std.proofs.Common.{◌≤◌}
 use Rattle.std.proofs.lemmas.List.{drop-append-le, drop-drop, take-append-le}
 use Rattle.disk_layout.proofs.lemmas.records.Joined.{sector-long}
 use Rattle.d64_image.specs.Images.{Sector}
@@ -30,3 +30,6 @@ returns-clause-bytes c = λ img w of kept.
     (λ over. absurd (omega (arith, over, c.if-from-size-gt-DATA.false))) long
     (part-lent s (length_of v) _ x.bytes x.bytes (omega arith)
     (omega (arith, length-drop 2 x.bytes, long, c.if-from-size-gt-DATA.false))))
+
+pub overflow_sub-start : goal.overflow_sub-start
+overflow_sub-start c = omega (arith, c.if-number-eq0.false)
