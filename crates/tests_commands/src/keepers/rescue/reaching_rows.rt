@@ -132,9 +132,9 @@ fn are_blocks(rt: &impl Abort, places: &[Place], blocks: &[(u8, u8)]) {
 /// Checks that these blocks are reached, and what ends them.
 fn is_reached(rt: &(impl Abort + AllocGlobal), row: &Row) {
     let &(links, (kind, track, sector), blocks, end) = row;
-    let mut disk = linked(rt, links);
+    let disk = linked(rt, links);
     let mut found = ArrayVec::new();
-    let reach = reach_file(&mut disk, &entry(kind, track, sector), &mut found);
+    let reach = reach_file(&disk, &entry(kind, track, sector), &mut found);
     same_at(rt, reach, wanted(end), links);
     are_blocks(rt, found.as_slice(), blocks);
 }
