@@ -1,4 +1,3 @@
-pub mod AsFar
 pub mod Blank
 pub mod BlankLayout
 pub mod BlankWritten

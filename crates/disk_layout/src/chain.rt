@@ -1,13 +1,13 @@
 //! Chains of sectors: each sector's first two bytes name the next.
 ghost use Rattle.std.specs.Prelude.{◌≤◌, IfOk, IfErr, length};
 ghost use Rattle.d64_image.specs.History.{OnlyReads};
-ghost use Rattle.disk_layout.specs.AsFar.{IsDeviceFault, IsWalk};
 ghost use Rattle.disk_layout.specs.Chain.{IsChain};
 ghost use Rattle.disk_layout.specs.Fault.{HoldsOfChain, TellsFault};
 
+use crate::access::read_sector;
 use crate::faults::Fault;
 use crate::side::MOST_BLOCKS;
-use crate::walk::{WalkEnd, walk};
+use crate::visited::Visited;
 use arrayvec::ArrayVec;
 use d64_image::{Place, Sectors};
 
@@ -35,38 +35,23 @@ pub fn walk_chain<D: Sectors>(
     ensures reads { OnlyReads D.history disk.old disk.new (length places.new.items) }
     ensures few { length places.new.items ≤ 683 }
 {
-    match walk(disk, first, places) {
-        Ok(WalkEnd::Last(index)) => Ok(index),
-        Ok(WalkEnd::Nowhere(at)) => Err(Fault::BadLink(at)),
-        Ok(WalkEnd::Back(at)) => Err(Fault::Loop(at)),
-        Err(fault) => Err(fault),
-    }
-}
-
-/// Follows the links from `first` on as far as they go, on damaged disks too, and fills `places` with the sectors that
-/// they reach, in order and each once. It stops at a sector that ends the chain (byte 0 is 0), whose link is no place of
-/// the disk, or that links to a sector visited before. Returns byte 1 of the sector that ends the chain, the index of its
-/// last used byte; 0 if no sector ends it.
-///
-/// Nothing that the disk holds is an error here. `Device` is returned at a sector that the device failed to read;
-/// `places` then has the sectors visited, the failed one among them. Each sector is read at most once, so 720 places
-/// are enough.
-pub fn walk_as_far<D: Sectors>(
-    disk: &mut D,
-    first: Place,
-    places: &mut ArrayVec<Place, MOST_BLOCKS>,
-) -> Result<u8, Fault>
-    ensures walk { IfOk result (λ u. IsWalk (D.history.image disk.old) first places.new.items u) }
-    ensures fault { IfErr result (IsDeviceFault (D.history.failed_at disk.new)) }
-    ensures failures { TellsFault D.history disk.old disk.new result }
-    // no sector is read twice, and a disk has 683
-    ensures reads { OnlyReads D.history disk.old disk.new (length places.new.items) }
-    ensures few { length places.new.items ≤ 683 }
-{
-    match walk(disk, first, places) {
-        Ok(WalkEnd::Last(index)) => Ok(index),
-        Ok(WalkEnd::Nowhere(_)) => Ok(0),
-        Ok(WalkEnd::Back(_)) => Ok(0),
-        Err(fault) => Err(fault),
+    places.clear();
+    let mut visited = Visited::new();
+    let mut at = first;
+    let mut sector = [0u8; 256];
+    'walk: loop {
+        visited.insert(at);
+        places.push(at);
+        read_sector(disk, at, &mut sector)?;
+        if sector[0] == 0 {
+            return Ok(sector[1]);
+        }
+        let Some(next) = Place::new(sector[0], sector[1]) else {
+            return Err(Fault::BadLink(at));
+        };
+        if visited.contains(next) {
+            return Err(Fault::Loop(next));
+        }
+        at = next;
     }
 }

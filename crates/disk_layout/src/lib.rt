@@ -16,14 +16,13 @@ mod side;
 mod slot;
 mod views;
 mod visited;
-mod walk;
 
 pub use access::{read_sector, write_other, write_sector};
 pub use bam::Bam;
 pub use blank::blank_image;
 pub use blank_laws::{blank_has_top, blank_is_clean, blank_is_whole};
 pub use blank_map::blank_header;
-pub use chain::{walk_as_far, walk_chain};
+pub use chain::walk_chain;
 pub use directory::{
     DIRECTORY_SECTORS, DIRECTORY_TRACK, add_used, directory_start, map_place,
     next_directory_sector, read_directory,
@@ -35,3 +34,4 @@ pub use shop_files::{REQUESTS_LENGTH, REQUESTS_NAME, STOCK_LENGTH, STOCK_NAME};
 pub use side::{LIST_AT, MOST_BLOCKS, MOST_SIDES, POINTERS, POINTERS_AT, SideView, side_bytes};
 pub use slot::Slot;
 pub use views::{BamView, DirView, EntryView};
+pub use visited::Visited;

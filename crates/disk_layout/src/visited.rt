@@ -5,7 +5,7 @@ use d64_image::{Place, SECTORS};
 
 /// A set of places, with one mark for each place of the disk. Looking up and adding take the same time for each place.
 #[derive(Drop)]
-pub(crate) struct Visited {
+pub struct Visited {
     seen: [bool; SECTORS],
     pub ghost full: { length seen ≡ 683 },
 }
@@ -15,7 +15,7 @@ impl Visited {
     ghost use Rattle.disk_layout.specs.Visited.{is_in, room};
 
     /// No place yet.
-    pub(crate) fn new() -> Visited
+    pub fn new() -> Visited
         ensures empty { (p : Place) → is_in result p ≡ false }
         ensures room { room result ≡ 683 }
     {
@@ -25,14 +25,14 @@ impl Visited {
     }
 
     /// Whether the place has been added.
-    pub(crate) fn contains(&self, place: Place) -> bool
+    pub fn contains(&self, place: Place) -> bool
         ensures { result ≡ is_in self.now place }
     {
         self.seen[place.index()]
     }
 
     /// Adds a place that isn't in yet.
-    pub(crate) fn insert(&mut self, place: Place)
+    pub fn insert(&mut self, place: Place)
         requires free { is_in self.old place ≡ false }
         ensures now { (q : Place) → IsTrue (is_in self.new q) ↔ (place ≡ q) ⊎ IsTrue (is_in self.old q) }
         ensures room { room self.new + 1 ≡ room self.old }

@@ -7,10 +7,10 @@ use Rattle.std.proofs.lemmas.List.{take_min}
 use Rattle.d64_image.specs.Images.{Image, Sector}
 use Rattle.d64_image.specs.declared.place.Place.{Place}
 use Rattle.disk_layout.proofs.lemmas.chains.Names.{named-names, named-none}
-use Rattle.disk_layout.specs.AsFar.{IsWalk}
+use Rattle.disk_pictures.specs.Walks.{IsWalk}
 use Rattle.disk_layout.specs.Chain.{named_at}
 use Rattle.disk_layout.specs.Layout.{sides_for}
-use Rattle.disk_layout.proofs.lemmas.chains.AsFar.{walk-of_chain}
+use Rattle.disk_pictures.proofs.Walked.{walk-of_chain}
 use Rattle.disk_layout.specs.Directory.{IsDirectory, directory_start}
 use Rattle.disk_layout.specs.Layout.{File}
 use Rattle.disk_layout.specs.declared.slot.Slot.{Slot}
@@ -89,8 +89,6 @@ drawn-is img ps walked d slots fs u dir walk listed drawn =
     }
 
 -- the same of another image and another number of blocks, which are no others
-pub sides-at : (a b : Image) (bytes : Sector) (m n : ℕ) (sides : List Place) → a ≡ b → m ≡ n
-    → AreDrawnSides a bytes m sides → AreDrawnSides b bytes n sides
-sides-at a b bytes m n sides same few drawn =
-    subst (λ (k : ℕ). AreDrawnSides b bytes k sides) few (subst (λ (img : Image). AreDrawnSides img bytes m sides) same
-    drawn)
+pub sides-at : (img : Image) (bytes : Sector) (m n : ℕ) (sides : List Place) → m ≡ n → AreDrawnSides img bytes m sides
+    → AreDrawnSides img bytes n sides
+sides-at img bytes m n sides few drawn = subst (λ (k : ℕ). AreDrawnSides img bytes k sides) few drawn

@@ -34,3 +34,4 @@ pub mod TileNumbers
 pub mod Told
 pub mod Trimmed
 pub mod Viewed
+pub mod Walked

@@ -8,7 +8,7 @@ use Rattle.d64_image.specs.Images.{Image, Sector, sector}
 use Rattle.d64_image.specs.declared.place.Place.{Place}
 use Rattle.disk_layout.proofs.lemmas.chains.Chains.{Names-one, cons_both, ends-no_link}
 use Rattle.disk_layout.proofs.lemmas.lists.Once.{Contains-here, EachOnce-apart}
-use Rattle.disk_layout.specs.AsFar.{IsWalk, StopsAt}
+use Rattle.disk_pictures.specs.Walks.{IsWalk, StopsAt}
 use Rattle.disk_layout.specs.Chain.{EachOnce, Leads, LinksTo}
 use Rattle.disk_layout.specs.Layout.{File, HasChain, IsRelFile, sides_for}
 use Rattle.disk_pictures.specs.Drawings.{AreDrawnSides}

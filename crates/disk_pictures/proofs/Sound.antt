@@ -7,11 +7,11 @@ use Rattle.std.proofs.lemmas.Bool.{cases_eq}
 use Rattle.d64_image.proofs.Places.{track_from_1}
 use Rattle.d64_image.specs.Images.{Image}
 use Rattle.d64_image.specs.declared.place.Place.{Place}
-use Rattle.disk_layout.proofs.lemmas.chains.AsFar.{walk-of_chain}
+use Rattle.disk_pictures.proofs.Walked.{walk-of_chain}
 use Rattle.disk_layout.proofs.lemmas.chains.Chains.{Names-one}
 use Rattle.disk_layout.proofs.lemmas.layouts.Layouts.{IsDirectory-one, File-ext}
 use Rattle.disk_layout.proofs.lemmas.lists.Once.{EachOnce-left, EachOnce-right}
-use Rattle.disk_layout.specs.AsFar.{IsWalk}
+use Rattle.disk_pictures.specs.Walks.{IsWalk}
 use Rattle.disk_layout.specs.Chain.{EachOnce}
 use Rattle.disk_layout.specs.Directory.{map_place, type_byte}
 use Rattle.disk_layout.specs.Layout.{File, HasChain, IsFile, IsLayout, Layout, file_owns, is_rel, owners}

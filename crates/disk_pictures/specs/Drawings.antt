@@ -4,7 +4,7 @@ use Rattle.std.specs.Prelude.{map, length, take, if◌then◌else◌, nat_eq, Is
 use Rattle.std.specs.List.{AllByRecursion, list_any}
 use Rattle.d64_image.specs.Images.{Image, Sector}
 use Rattle.d64_image.specs.declared.place.Place.{Place}
-use Rattle.disk_layout.specs.AsFar.{IsWalk}
+use Rattle.disk_pictures.specs.Walks.{IsWalk}
 use Rattle.disk_layout.specs.Chain.{EachOnce, Names, NamesNone}
 use Rattle.disk_layout.specs.Directory.{IsDirectory, map_place, type_byte}
 use Rattle.disk_layout.specs.Layout.{File, Layout, OwnsNothing, is_rel, owners, sides_for}

@@ -22,3 +22,4 @@ pub mod TileSectors
 pub mod Tiles
 pub mod Trims
 pub mod Views
+pub mod Walks

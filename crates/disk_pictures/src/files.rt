@@ -1,16 +1,17 @@
 //! What is drawn of an entry: the sectors that its links come to.
 ghost use Rattle.std.specs.Prelude.{◌≡◌, ◌≤◌, IfErr, IfOk, IsFalse, IsTrue, MatchOption, [], length};
 ghost use Rattle.d64_image.specs.Memory.{disk_image};
-ghost use Rattle.disk_layout.specs.AsFar.{IsWalk};
 ghost use Rattle.disk_layout.specs.Layout.{is_rel};
 ghost use Rattle.disk_pictures.specs.Drawings.{AreDrawnSides, IsDrawnFile, file_in};
 ghost use Rattle.disk_pictures.specs.Faults.{IsMemoryFault};
+ghost use Rattle.disk_pictures.specs.Walks.{IsWalk};
 
 use crate::drawn_file::DrawnFile;
 use arrayvec::ArrayVec;
 use command_faults::CommandFault;
 use d64_image::{MemDisk, Place};
-use disk_layout::{EntryView, MOST_BLOCKS, POINTERS, Slot, walk_as_far};
+use disk_layout::{EntryView, MOST_BLOCKS, POINTERS, Slot};
+use disk_rescue::reach_blocks;
 use std::alloc::Global;
 
 /// Room for the sectors of a walk.
@@ -27,25 +28,28 @@ pub(crate) fn list_of(alloc: Global, places: &[Place]) -> Result<Vec<Place>, Com
     }
 }
 
-/// Fills `places` with the sectors that the links come to from `first`, and returns the last index, as `walk_as_far`
-/// does. If there is no first one, there are none. A disk in memory gives every sector.
-pub(crate) fn walk(disk: &mut MemDisk, first: Option<Place>, places: &mut Places) -> u8
+/// Fills `places` with the sectors that the links come to from `first`, and returns the index of the last used byte in the
+/// last one; 0 if no sector ends the chain. If there is no first one, there are none.
+pub(crate) fn walk(disk: &MemDisk, first: Option<Place>, places: &mut Places) -> u8
     ensures ok { MatchOption first ((places.new.items ≡ []) × (result ≡ 0))
-        (λ place. IsWalk (disk_image disk.old) place places.new.items result) }
+        (λ place. IsWalk (disk_image disk.now) place places.new.items result) }
     ensures few { length places.new.items ≤ 720 }
-    ensures same { disk_image disk.new ≡ disk_image disk.old }
 {
     places.clear();
-    match first {
-        Some(first) => walk_as_far(disk, first, places).unwrap_or(0),
-        None => 0,
+    let Some(first) = first else {
+        return 0;
+    };
+    let reach = reach_blocks(disk, first, places);
+    match reach.fault {
+        None => reach.last,
+        Some(_) => 0,
     }
 }
 
 /// What is drawn of the side sectors of an entry with so many blocks.
 fn draw_sides(
     alloc: Global,
-    disk: &mut MemDisk,
+    disk: &MemDisk,
     slot: &Slot,
     blocks: usize,
     places: &mut Places,
@@ -53,8 +57,7 @@ fn draw_sides(
     requires { blocks ≤ 720 }
     ensures plain { IfOk result (λ sides. IsFalse (is_rel slot.now) → sides.items ≡ []) }
     ensures relative { IfOk result (λ sides. IsTrue (is_rel slot.now)
-        → AreDrawnSides (disk_image disk.old) slot.now.bytes blocks sides.items) }
-    ensures same { disk_image disk.new ≡ disk_image disk.old }
+        → AreDrawnSides (disk_image disk.now) slot.now.bytes blocks sides.items) }
     ensures err { IfErr result IsMemoryFault }
 {
     let entry = EntryView::new(&slot.bytes);
@@ -70,13 +73,12 @@ fn draw_sides(
 /// What is drawn of an entry, with room for the sectors of a walk. The only fault is `NoMemory`.
 pub(crate) fn draw_file(
     alloc: Global,
-    disk: &mut MemDisk,
+    disk: &MemDisk,
     slot: &Slot,
     places: &mut Places,
 ) -> Result<DrawnFile, CommandFault>
     ensures slot { IfOk result (λ file. file.slot ≡ slot.now) }
-    ensures ok { IfOk result (λ file. IsDrawnFile (disk_image disk.old) (file_in file)) }
-    ensures same { disk_image disk.new ≡ disk_image disk.old }
+    ensures ok { IfOk result (λ file. IsDrawnFile (disk_image disk.now) (file_in file)) }
     ensures err { IfErr result IsMemoryFault }
 {
     let entry = EntryView::new(&slot.bytes);

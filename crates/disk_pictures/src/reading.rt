@@ -20,15 +20,14 @@ use std::alloc::Global;
 /// What is drawn of these entries, with room for the sectors of a walk.
 fn draw_files(
     alloc: Global,
-    disk: &mut MemDisk,
+    disk: &MemDisk,
     slots: &[Slot],
     places: &mut Places,
 ) -> Result<Vec<DrawnFile>, CommandFault>
     requires { length slots.now ≤ 144 }
     ensures ok { IfOk result
-        (λ files. AreDrawn (disk_image disk.old) slots.now (map file_in files.items)) }
+        (λ files. AreDrawn (disk_image disk.now) slots.now (map file_in files.items)) }
     ensures few { IfOk result (λ files. length files.items ≤ 144) }
-    ensures same { disk_image disk.new ≡ disk_image disk.old }
     ensures err { IfErr result IsMemoryFault }
 {
     let mut files = Vec::new(alloc);

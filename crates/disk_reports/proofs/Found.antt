@@ -21,10 +21,9 @@ use Rattle.disk_layout.proofs.lemmas.lists.Once.{Contains-cases, Contains-here, 
 use Rattle.disk_layout.specs.declared.faults.Fault.{Fault}
 use Rattle.disk_layout.specs.declared.faults.Fault.TheVariants.{BadLink}
 use Rattle.disk_layout.specs.declared.slot.Slot.{Slot}
-use Rattle.disk_rescue.specs.Reached.{IsReached}
 use Rattle.layout_check.proofs.lemmas.judging.Inexact.{same-bytes}
 use Rattle.layout_check.specs.Sides.{NamesEach}
-use Rattle.disk_reports.specs.Trails.{AreLinked, AreSides, AreWrong, HasWholeChain, IsIntact, IsReachedBy}
+use Rattle.disk_reports.specs.Trails.{AreLinked, AreSides, HasWholeChain, IsIntact, IsReachedBy}
 
 -- side sectors led through these to the last one
 pub linked : (img : Image) (first : Place) (n : ℕ) (front new : List Place) (at : Place) → SidesLead img 0 first front at
@@ -180,25 +179,3 @@ reached-some img s blocks end (u, inr (inr (p, names, reach))) whole =
 pub not-some : {X : Type 0} (o : Option X) (b : Bool) → b ≡ is_some o → b ≡ false → o ≡ None
 not-some None b is absent = refl
 not-some (Some x) b is absent = absurd (false≢true (sym absent ∙ is))
-
--- the same of another image and another list, which are no others
-pub reached-by : (a b : Image) (s : Slot) (xs ys : List Place) (end : Option Fault) (u : ℕ) → b ≡ a → ys ≡ xs
-    → IsReached a s xs end u → IsReachedBy b s ys end
-reached-by a b s xs ys end u same all reached = (
-  u,
-  subst (λ (i : Image). IsReached i s ys end u) (sym same)
-      (subst (λ (ps : List Place). IsReached a s ps end u) (sym all) reached),
-)
-
-pub sides-at : (a b : Image) (s : Slot) (xs ys sides : List Place) (end : Option Fault) → b ≡ a → ys ≡ xs
-    → AreSides b s ys end sides → AreSides a s xs end sides
-sides-at a b s xs ys sides end same all are =
-    subst (λ (i : Image). AreSides i s xs end sides) same
-    (subst (λ (ps : List Place). AreSides b s ps end sides) all are)
-
-pub wrong-at : (a b : Image) (s : Slot) (xs ys sides items wrong : List Place) → b ≡ a → ys ≡ xs → items ≡ sides
-    → AreWrong b s ys items wrong → AreWrong a s xs sides wrong
-wrong-at a b s xs ys sides items wrong same all each are =
-    subst (λ (i : Image). AreWrong i s xs sides wrong) same
-    (subst (λ (ps : List Place). AreWrong b s ps sides wrong) all
-    (subst (λ (qs : List Place). AreWrong b s ys qs wrong) each are))

@@ -13,19 +13,17 @@ use disk_layout::{Fault, Slot, read_directory};
 pub(crate) type Slots = ArrayVec<Slot, 144>;
 
 /// Whether the fault concerns an entry.
-fn is_concerned(disk: &mut MemDisk, slot: &Slot, fault: Fault) -> bool
-    ensures concerned { IsTrue result → IsConcerned (disk_image disk.old) fault slot.now }
-    ensures other { IsFalse result → IsUnconcerned (disk_image disk.old) fault slot.now }
-    ensures same { disk_image disk.new ≡ disk_image disk.old }
+fn is_concerned(disk: &MemDisk, slot: &Slot, fault: Fault) -> bool
+    ensures concerned { IsTrue result → IsConcerned (disk_image disk.now) fault slot.now }
+    ensures other { IsFalse result → IsUnconcerned (disk_image disk.now) fault slot.now }
 {
     shows(&follow(disk, slot), fault)
 }
 
 /// Lists those of these entries that the fault concerns.
-fn keep_concerned(disk: &mut MemDisk, slots: &[Slot], fault: Fault, files: &mut Slots)
+fn keep_concerned(disk: &MemDisk, slots: &[Slot], fault: Fault, files: &mut Slots)
     requires { length slots.now ≤ 144 }
-    ensures files { AreConcerned (disk_image disk.old) fault slots.now files.new.items }
-    ensures same { disk_image disk.new ≡ disk_image disk.old }
+    ensures { AreConcerned (disk_image disk.now) fault slots.now files.new.items }
 {
     files.clear();
     for slot in slots {

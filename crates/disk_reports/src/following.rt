@@ -11,10 +11,9 @@ use disk_layout::Slot;
 use disk_rescue::reach_file;
 
 /// What the links of a used entry come to; nothing of one that isn't closed.
-pub(crate) fn follow(disk: &mut MemDisk, slot: &Slot) -> Trail
-    ensures trail { IsTrail (disk_image disk.old) result }
+pub(crate) fn follow(disk: &MemDisk, slot: &Slot) -> Trail
+    ensures trail { IsTrail (disk_image disk.now) result }
     ensures slot { result.slot ≡ slot.now }
-    ensures same { disk_image disk.new ≡ disk_image disk.old }
 {
     let mut blocks = ArrayVec::new();
     let mut sides = ArrayVec::new();

@@ -30,15 +30,10 @@ pub(crate) struct Links {
 }
 
 /// What the links of these entries come to. The only error is `NoMemory`.
-fn follow_entries(
-    alloc: Global,
-    disk: &mut MemDisk,
-    slots: &[Slot],
-) -> Result<Vec<Trail>, CommandFault>
-    ensures ok { IfOk result (λ trails. AreFollowed (disk_image disk.old) slots.now trails.items) }
+fn follow_entries(alloc: Global, disk: &MemDisk, slots: &[Slot]) -> Result<Vec<Trail>, CommandFault>
+    ensures ok { IfOk result (λ trails. AreFollowed (disk_image disk.now) slots.now trails.items) }
     ensures few { IfOk result (λ trails. length trails.items ≡ length slots.now) }
     ensures err { IfErr result (λ fault. fault ≡ faults.NoMemory) }
-    ensures same { disk_image disk.new ≡ disk_image disk.old }
 {
     let mut trails = Vec::new(alloc);
     for slot in slots {

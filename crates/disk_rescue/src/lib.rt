@@ -15,7 +15,7 @@ pub use directory::{DirectorySectors, Entries, read_so_far};
 pub use names::{disk_name, entry_name};
 pub use nearness::near_entries;
 pub use owning::owners_of;
-pub use reaching::{Reach, reach_file};
+pub use reaching::{Reach, reach_blocks, reach_file};
 pub use sharing::Owners;
 pub use sizes::{error_at, first_tracks};
 pub use types::{TypeText, type_name};

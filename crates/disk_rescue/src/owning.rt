@@ -1,5 +1,5 @@
 //! The owners of the sectors of a disk.
-ghost use Rattle.std.specs.Prelude.{◌≡◌, List};
+ghost use Rattle.std.specs.Prelude.{List};
 ghost use Rattle.d64_image.specs.Memory.{disk_image};
 ghost use Rattle.d64_image.specs.declared.place.Place.{Place};
 ghost use Rattle.disk_rescue.specs.Owned.{CountsAll};
@@ -13,10 +13,8 @@ use disk_layout::Slot;
 
 /// How many have each sector: the map, a directory with these sectors, and the files of these entries, each with the
 /// blocks that can be reached of it.
-pub fn owners_of(disk: &mut MemDisk, directory: &[Place], slots: &[Slot]) -> Owners
-    ensures owned { (all : List Place) × IsOwned (disk_image disk.old) directory.now slots.now all
-        × CountsAll result all }
-    ensures same { disk_image disk.new ≡ disk_image disk.old }
+pub fn owners_of(disk: &MemDisk, directory: &[Place], slots: &[Slot]) -> Owners
+    ensures { (all : List Place) × IsOwned (disk_image disk.now) directory.now slots.now all × CountsAll result all }
 {
     let mut owners = Owners::of_directory(directory);
     let mut blocks = ArrayVec::new();

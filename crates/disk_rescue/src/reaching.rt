@@ -1,12 +1,11 @@
 //! The blocks of a file as far as its chain goes, and the fault that ends it.
-ghost use Rattle.std.specs.Prelude.{◌≡◌, ◌≤◌, ◌↔◌, IsTrue, length};
+ghost use Rattle.std.specs.Prelude.{◌≡◌, ◌↔◌, IsTrue, Some};
 ghost use Rattle.d64_image.specs.Memory.{disk_image};
-ghost use Rattle.disk_layout.specs.AsFar.{IsWalk};
 ghost use Rattle.disk_rescue.specs.Reached.{IsReach, IsReached, NamesNoBlock};
 
 use arrayvec::ArrayVec;
 use d64_image::{MemDisk, Place};
-use disk_layout::{EntryView, Fault, MOST_BLOCKS, Slot, walk_as_far};
+use disk_layout::{EntryView, Fault, MOST_BLOCKS, Slot, Visited};
 
 /// The end of the blocks of a file that can be reached.
 #[derive(Clone, Copy, Debug, PartialEq, Eq)]
@@ -17,42 +16,50 @@ pub struct Reach {
     pub fault: Option<Fault>,
 }
 
-/// The end of the walk from `first` over these sectors.
-fn end_of(disk: &MemDisk, first: Place, places: &[Place], last: u8) -> Reach
-    requires { IsWalk (disk_image disk.now) first places.now last }
-    ensures { IsReach (disk_image disk.now) first places.now result.fault result.last }
+/// The end of a chain that this fault ends early, after a block that is the file's with all of its bytes.
+fn broken(fault: Fault) -> Reach
+    ensures fault { result.fault ≡ Some fault }
+    ensures last { result.last ≡ 255 }
 {
-    let [.., end] = places else {
-        return Reach { last, fault: None };
-    };
-    let sector = disk.sector(*end);
-    if sector[0] == 0 {
-        return Reach {
-            last: sector[1],
-            fault: None,
-        };
-    }
-    let fault = match Place::new(sector[0], sector[1]) {
-        None => Fault::BadLink(*end),
-        Some(next) => Fault::Loop(next),
-    };
     Reach {
         last: 255,
         fault: Some(fault),
     }
 }
 
-/// Fills `blocks` with the sectors that the links from `first` reach, as far as they go.
-fn reach_blocks(
-    disk: &mut MemDisk,
+/// Fills `blocks` with the sectors that the links from `first` reach, in order and each once, as far as they go, and
+/// returns what ends them.
+///
+/// The fault is `BadLink` at a block that links to no place of the disk, or `Loop` at the one to which the last one links
+/// back. After a fault the last block counts with all of its bytes, up to index 255. The disk has 683 sectors, so 720 places are enough.
+pub fn reach_blocks(
+    disk: &MemDisk,
     first: Place,
     blocks: &mut ArrayVec<Place, MOST_BLOCKS>,
 ) -> Reach
-    ensures reach { IsReach (disk_image disk.old) first blocks.new.items result.fault result.last }
-    ensures same { disk_image disk.new ≡ disk_image disk.old }
+    ensures { IsReach (disk_image disk.now) first blocks.new.items result.fault result.last }
 {
-    let last = walk_as_far(disk, first, blocks).unwrap_or(0);
-    end_of(disk, first, blocks.as_slice(), last)
+    blocks.clear();
+    let mut visited = Visited::new();
+    let mut at = first;
+    'walk: loop {
+        visited.insert(at);
+        blocks.push(at);
+        let sector = disk.sector(at);
+        if sector[0] == 0 {
+            return Reach {
+                last: sector[1],
+                fault: None,
+            };
+        }
+        let Some(next) = Place::new(sector[0], sector[1]) else {
+            return broken(Fault::BadLink(at));
+        };
+        if visited.contains(next) {
+            return broken(Fault::Loop(next));
+        }
+        at = next;
+    }
 }
 
 /// Whether the entry names no block and needs none: its file then has no bytes.
@@ -69,13 +76,8 @@ fn names_no_block(slot: &Slot) -> bool
 /// The fault is `BadLink` at a block that links to no place of the disk, or at the entry's directory sector if the entry
 /// should name a first block and names none. It is `Loop` at the block to which the last one links back. After a fault
 /// the file has all bytes of the last block, up to index 255.
-pub fn reach_file(
-    disk: &mut MemDisk,
-    slot: &Slot,
-    blocks: &mut ArrayVec<Place, MOST_BLOCKS>,
-) -> Reach
-    ensures reached { IsReached (disk_image disk.old) slot.now blocks.new.items result.fault result.last }
-    ensures same { disk_image disk.new ≡ disk_image disk.old }
+pub fn reach_file(disk: &MemDisk, slot: &Slot, blocks: &mut ArrayVec<Place, MOST_BLOCKS>) -> Reach
+    ensures { IsReached (disk_image disk.now) slot.now blocks.new.items result.fault result.last }
 {
     blocks.clear();
     if names_no_block(slot) {
@@ -84,11 +86,11 @@ pub fn reach_file(
             fault: None,
         };
     }
-    let Some(first) = EntryView::new(&slot.bytes).first_block() else {
-        return Reach {
+    match EntryView::new(&slot.bytes).first_block() {
+        Some(first) => reach_blocks(disk, first, blocks),
+        None => Reach {
             last: 0,
             fault: Some(Fault::BadLink(slot.sector)),
-        };
-    };
-    reach_blocks(disk, first, blocks)
+        },
+    }
 }

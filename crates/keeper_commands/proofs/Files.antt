@@ -41,14 +41,13 @@ slot-is slots kind name n s first is = same-slot slots n s first.slot
 -- the file as far as it can be reached, in lists that are equal to those that were filled
 pub find-had : (img : Image) (kind : Kind) (name : List ℕ) (directory : List Place) (entries : List Slot)
     (ended : Option Fault) → IsReadSoFar img directory entries ended → (slots : List Slot) → slots ≡ entries → (n : ℕ)
-    → IsFirstAsked slots kind name n → (s : Slot) → get_or slots n s ≡ s → (now : Image) → now ≡ img
-    → (blocks : List Place) (broken : Option Fault) (last : ℕ) → IsReached now s blocks broken last
-    → (after : Image) → after ≡ img → (sectors : List Place) → sectors ≡ directory → (all : List Place)
-    → IsOwned after sectors slots all → (shared : Option Place) → shared ≡ first_shared all blocks → (fault : Option Fault)
+    → IsFirstAsked slots kind name n → (s : Slot) → get_or slots n s ≡ s → (blocks : List Place) (broken : Option Fault)
+    (last : ℕ) → IsReached img s blocks broken last → (sectors : List Place) → sectors ≡ directory → (all : List Place)
+    → IsOwned img sectors slots all → (shared : Option Place) → shared ≡ first_shared all blocks → (fault : Option Fault)
     → fault ≡ option_or (option_or (option_or ended broken) (shared_fault shared)) (unclosed s)
     → IsHad img kind name n s blocks last fault
-find-had img kind name directory entries ended read slots listed n first s is now same blocks broken last reached after
-    stays sectors are all owned shared several fault found = record {
+find-had img kind name directory entries ended read slots listed n first s is blocks broken last reached sectors are all
+    owned shared several fault found = record {
       directory = directory;
       entries = slots;
       ended = ended;
@@ -56,10 +55,9 @@ find-had img kind name directory entries ended read slots listed n first s is no
       first = first;
       entry = slot-is slots kind name n s first is;
       broken = broken;
-      reached = subst (λ (i : Image). IsReached i s blocks broken last) same reached;
+      reached = reached;
       all = all;
-      owned = subst (λ (i : Image). IsOwned i directory slots all) stays
-          (subst (λ (ps : List Place). IsOwned after ps slots all) are owned);
+      owned = subst (λ (ps : List Place). IsOwned img ps slots all) are owned;
       fault_is = found
           ∙ ap (λ (o : Option Place). option_or (option_or (option_or ended broken) (shared_fault o)) (unclosed s)) several;
     }

@@ -62,18 +62,18 @@ module _ {W : Type 0} (contents : W → Option (List ℕ)) (form : RecordForm) (
 
     -- this was found, and these bytes are read of it
     module _ (new : W) (n : ℕ) (s : Slot) (blocks : List Place) (last : ℕ) (own : Option Fault)
-        (had : IsHad second (Records Closed) name n s blocks last own) (third : Image) (still : third ≡ second)
+        (had : IsHad second (Records Closed) name n s blocks last own)
         (ps : List Place) (are : ps ≡ blocks) where
       here : IsHad (sectors_in image) (Records Closed) name n s blocks last own
       here = at (λ i. IsHad i (Records Closed) name n s blocks last own) had
 
       abbrev text : List ℕ
-      text = records_as form (records_of (record_length s) (file_bytes third ps last))
+      text = records_as form (records_of (record_length s) (file_bytes second ps last))
 
       text-is : text ≡ records_as form (records_of (record_length s) (file_bytes (sectors_in image) blocks last))
       text-is =
           ap (λ (i : Image). records_as form (records_of (record_length s) (file_bytes i ps last)))
-          (still ∙ same ∙ loaded.1)
+          (same ∙ loaded.1)
           ∙ ap (λ (qs : List Place). records_as form (records_of (record_length s) (file_bytes (sectors_in image) qs last)))
           are
 
@@ -124,11 +124,11 @@ module _ {W : Type 0} (contents : W → Option (List ℕ)) (form : RecordForm) (
               inr (inr (unwrap_or own fault, reached-file fault holds _ refl, rw text-is at part))
 
       -- all of them were printed
-      pub taken : (cut : Option Place) → IsSound img → IsToldOfDisk third (Some n) cut
+      pub taken : (cut : Option Place) → IsSound img → IsToldOfDisk second (Some n) cut
           → Appends (contents old) (contents new) text → AreRecordsTaken contents form image name old new cut
       taken cut sound told printed = let file = sound-file sound in (
         record { file = file.0; is_file = file.1; printed = rw file.3 at printed },
-        rw file.2 (rw (still ∙ same ∙ loaded.1) at told),
+        rw file.2 (rw (same ∙ loaded.1) at told),
       )
 
       pub reached : (fault told : Fault) → Holds nowhere img fault → told ≡ unwrap_or own fault

@@ -9,14 +9,14 @@ use Rattle.d64_image.proofs.Images.{is_sector}
 use Rattle.d64_image.proofs.Places.{track_from_1}
 use Rattle.d64_image.specs.Images.{Image, IsImage}
 use Rattle.d64_image.specs.declared.place.Place.{Place}
-use Rattle.disk_layout.proofs.lemmas.chains.Chains.{IsChain-one, Leads-push, Names-one, bad_link-no_chain, loop-no_chain}
+use Rattle.disk_layout.proofs.lemmas.chains.Chains.{Leads-push, Names-one}
 use Rattle.disk_layout.proofs.lemmas.layouts.Layouts.{get-contains}
 use Rattle.disk_layout.proofs.lemmas.layouts.Unsound.{no_bad_link, no_loop}
 use Rattle.disk_layout.proofs.lemmas.lists.Lists.{all-map}
 use Rattle.disk_layout.proofs.lemmas.lists.Once.{all-in}
 use Rattle.disk_layout.proofs.lemmas.records.Joined.{length-joined}
 use Rattle.disk_layout.proofs.lemmas.records.Pieces.{pieces-same}
-use Rattle.disk_layout.specs.Chain.{IsChain, Names, byte}
+use Rattle.disk_layout.specs.Chain.{Names, byte}
 use Rattle.disk_layout.specs.Directory.{IsDirectoryPlace, directory_start}
 use Rattle.disk_layout.specs.Fault.{IsDirectorySector}
 use Rattle.disk_layout.specs.Layout.{File, IsFile, IsLayout, IsRelFile, Layout, is_rel, record_length}
@@ -25,6 +25,7 @@ use Rattle.disk_layout.specs.Rest.{IsFirst, IsNamed}
 use Rattle.disk_layout.specs.declared.faults.Fault.{Fault}
 use Rattle.disk_layout.specs.declared.faults.Fault.TheVariants.{BadLink, Loop}
 use Rattle.disk_layout.specs.declared.slot.Slot.{Slot}
+use Rattle.disk_rescue.proofs.Walked.{reach-chain}
 use Rattle.disk_rescue.specs.Directories.{IsReadSoFar}
 use Rattle.disk_rescue.specs.Reached.{IsReach, IsReached}
 use Rattle.rel_records.proofs.lemmas.reading.Found.{first-found, none-found, slot-file, slots-listed}
@@ -34,17 +35,6 @@ use Rattle.keeper_commands.specs.Found.{HasNone, IsAsked, IsHad}
 use Rattle.keeper_commands.specs.Records.{records_of}
 use Rattle.keeper_commands.specs.declared.finding.Candidates.TheVariants.{Closed}
 use Rattle.keeper_commands.specs.declared.finding.Kind.TheVariants.{Records}
-
--- a chain that ends early at a block isn't a file's
-reach-chain : (img : Image) (first : Place) (ps qs : List Place) (fault : Option Fault) (u w : ℕ)
-    → IsReach img first ps fault u → IsChain img first qs w → (ps ≡ qs) × (u ≡ w)
-reach-chain img first ps qs None u w h chain = IsChain-one img first ps qs u w
-    (record { front = h.front; last = h.last; places = h.places; leads = h.leads; ends = h.ends; once = h.once }) chain
-reach-chain img first ps qs (Some (BadLink p)) u w h chain =
-    absurd (bad_link-no_chain img first h.last h.front qs w h.leads h.ends.1 chain)
-reach-chain img first ps qs (Some (Loop p)) u w h chain = absurd (loop-no_chain img first p (h.front ++ h.last ∷ []) qs w
-    (Leads-push img first h.front h.last p h.leads h.ends.0) (rw h.places at h.ends.1) chain)
-reach-chain img first ps qs (Some fault) u w h chain = absurd h.ends
 
 -- what can be reached of a relative file is all of it
 reached-all : (img : Image) (s : Slot) (f : File) (ps : List Place) (fault : Option Fault) (u : ℕ) → IsRelOf img s f
@@ -56,8 +46,9 @@ reached-all img s f ps fault u of rel reached = elim reached [
   | inr (inr (p, named, reach)) ↦
       let one : p ≡ first =
       Names-one s.bytes 3 p first named (subst (λ (t : Slot). Names t.bytes 3 first) of.slot names) in
-      reach-chain img first ps f.blocks fault u f.last
-      (subst (λ (q : Place). IsReach img q ps fault u) one reach) of.file.chain.2
+      let both = reach-chain img first ps f.blocks fault u f.last
+      (subst (λ (q : Place). IsReach img q ps fault u) one reach) of.file.chain.2 in
+      (both.0, both.1)
 ]
   where
     first : Place

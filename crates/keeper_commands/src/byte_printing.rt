@@ -64,7 +64,7 @@ pub fn bytes_image<W: Write>(
 {
     let mut disk = load(alloc, image)?;
     let mut blocks = ArrayVec::new();
-    let file = match find_file(&mut disk, Kind::Any(candidates), name, &mut blocks) {
+    let file = match find_file(&disk, Kind::Any(candidates), name, &mut blocks) {
         Ok(file) => file,
         Err(ended) => return Err(no_file(ended)),
     };

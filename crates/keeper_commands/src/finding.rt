@@ -123,15 +123,14 @@ fn unclosed_fault(slot: &Slot) -> Option<Fault>
 /// first block that the map, the directory or another entry has too; `Unclosed` at its directory sector. Without such an
 /// entry the error is what ends the directory early, or none.
 pub(crate) fn find_file(
-    disk: &mut MemDisk,
+    disk: &MemDisk,
     kind: Kind,
     name: &[u8],
     blocks: &mut ArrayVec<Place, MOST_BLOCKS>,
 ) -> Result<FoundFile, Option<Fault>>
     ensures ok { IfOk result (λ file.
-        IsHad (disk_image disk.old) kind name.now file.number file.slot blocks.new.items file.last file.fault) }
-    ensures err { IfErr result (HasNone (disk_image disk.old) kind name.now) }
-    ensures same { disk_image disk.new ≡ disk_image disk.old }
+        IsHad (disk_image disk.now) kind name.now file.number file.slot blocks.new.items file.last file.fault) }
+    ensures err { IfErr result (HasNone (disk_image disk.now) kind name.now) }
 {
     let mut sectors = ArrayVec::new();
     let mut entries = ArrayVec::new();

@@ -73,7 +73,7 @@ pub fn records_image<W: Write>(
     let first = unsoundness(&mut disk);
     let mut blocks = ArrayVec::new();
     let kind = Kind::Records(Candidates::Closed);
-    let Ok(file) = find_file(&mut disk, kind, name, &mut blocks) else {
+    let Ok(file) = find_file(&disk, kind, name, &mut blocks) else {
         return Err(no_file(first));
     };
     put_reached(alloc, &disk, file, blocks.as_slice(), form, out)?;

@@ -31,7 +31,7 @@ pub fn unclosed_records_image<W: Write>(
     let mut disk = load(alloc, image)?;
     let mut blocks = ArrayVec::new();
     let kind = Kind::Records(Candidates::All);
-    let file = match find_file(&mut disk, kind, name, &mut blocks) {
+    let file = match find_file(&disk, kind, name, &mut blocks) {
         Ok(file) => file,
         Err(ended) => return Err(no_file(ended)),
     };

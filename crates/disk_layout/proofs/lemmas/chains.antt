@@ -1,5 +1,4 @@
 -- Chains of sectors, and the directory's.
-pub mod AsFar
 pub mod Chains
 pub mod Counting
 pub mod Directories

@@ -90,16 +90,15 @@ fn add_unshared(
 /// can be reached is also the map's, the directory's or one of the files'. The only error is `NoMemory`.
 fn add_undeleted(
     alloc: Global,
-    disk: &mut MemDisk,
+    disk: &MemDisk,
     directory: &[Place],
     files: &mut Vec<Rescued>,
 ) -> Result<(), CommandFault>
     requires { length directory.now ≤ 18 }
     ensures ok { OnOk result ((found : List Rescued) × (files.new.items ≡ files.old.items ++ found)
-        × AreUndeleted (disk_image disk.old) directory.now files.old.items
-        (deleted.deleted_slots (disk_image disk.old) directory.now) found) }
+        × AreUndeleted (disk_image disk.now) directory.now files.old.items
+        (deleted.deleted_slots (disk_image disk.now) directory.now) found) }
     ensures err { IfErr result (λ fault. fault ≡ faults.NoMemory) }
-    ensures same { disk_image disk.new ≡ disk_image disk.old }
 {
     let used = files.as_slice().len();
     let mut room = ArrayVec::new();
@@ -117,15 +116,14 @@ fn add_undeleted(
 /// The only error is `NoMemory`.
 pub(crate) fn rescue_chosen(
     alloc: Global,
-    disk: &mut MemDisk,
+    disk: &MemDisk,
     choice: Choice,
     directory: &[Place],
 ) -> Result<Vec<Rescued>, CommandFault>
     requires { length directory.now ≤ 18 }
-    ensures ok { IfOk result (λ files. AreChosen choice (disk_image disk.old) directory.now files.items) }
+    ensures ok { IfOk result (λ files. AreChosen choice (disk_image disk.now) directory.now files.items) }
     ensures few { IfOk result (λ files. length files.items ≤ 144) }
     ensures err { IfErr result (λ fault. fault ≡ faults.NoMemory) }
-    ensures same { disk_image disk.new ≡ disk_image disk.old }
 {
     let entries = used_of(disk, directory);
     let mut files = rescue_all(alloc, disk, entries.as_slice())?;

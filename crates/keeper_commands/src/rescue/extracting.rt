@@ -147,12 +147,12 @@ pub fn extract_image<F: NewFolder>(
     ensures ok { IfOk result (IsExtracted F.files choice image.now folder.old folder.new) }
     ensures err { IfErr result (IsExtractFault F.files choice image.now folder.old folder.new) }
 {
-    let mut disk = load(alloc, image)?;
+    let disk = load(alloc, image)?;
     let mut sectors = ArrayVec::new();
     let mut entries = ArrayVec::new();
     let found = read_so_far(&disk, &mut sectors, &mut entries);
     add_chosen(&disk, choice, &mut sectors);
-    let files = rescue_chosen(alloc, &mut disk, choice, sectors.as_slice())?;
+    let files = rescue_chosen(alloc, &disk, choice, sectors.as_slice())?;
     extract_files(
         alloc,
         &disk,

@@ -27,14 +27,13 @@ pub struct Rescued {
 /// What can be reached of an entry's file, with room for its blocks. The only error is `NoMemory`.
 pub(crate) fn rescue(
     alloc: Global,
-    disk: &mut MemDisk,
+    disk: &MemDisk,
     slot: &Slot,
     room: &mut ArrayVec<Place, MOST_BLOCKS>,
 ) -> Result<Rescued, CommandFault>
     ensures slot { IfOk result (λ file. file.slot ≡ slot.now) }
-    ensures ok { IfOk result (IsRescued (disk_image disk.old)) }
+    ensures ok { IfOk result (IsRescued (disk_image disk.now)) }
     ensures err { IfErr result (λ fault. fault ≡ faults.NoMemory) }
-    ensures same { disk_image disk.new ≡ disk_image disk.old }
 {
     let reach = reach_file(disk, slot, room);
     match Vec::from_slice(alloc, room.as_slice()) {
@@ -51,13 +50,12 @@ pub(crate) fn rescue(
 /// What can be reached of these entries' files. The only error is `NoMemory`.
 pub(crate) fn rescue_all(
     alloc: Global,
-    disk: &mut MemDisk,
+    disk: &MemDisk,
     slots: &[Slot],
 ) -> Result<Vec<Rescued>, CommandFault>
-    ensures ok { IfOk result (λ files. AreRescued (disk_image disk.old) slots.now files.items) }
+    ensures ok { IfOk result (λ files. AreRescued (disk_image disk.now) slots.now files.items) }
     ensures few { IfOk result (λ files. length files.items ≡ length slots.now) }
     ensures err { IfErr result (λ fault. fault ≡ faults.NoMemory) }
-    ensures same { disk_image disk.new ≡ disk_image disk.old }
 {
     let mut files = Vec::new(alloc);
     let mut room = ArrayVec::new();

@@ -14,7 +14,6 @@ returns-in_err-blocks c =
     record {
       slot = rw told tt;
       ok = rw told tt;
-      same = c.walk-last.ensures.same;
       err = rw told refl;
     }
 
@@ -25,7 +24,6 @@ returns-in_err-sides c =
     record {
       slot = rw told tt;
       ok = rw told tt;
-      same = c.draw_sides.ensures.same ∙ c.walk-last.ensures.same;
       err = rw told refl;
     }
 
@@ -42,6 +40,5 @@ returns-clause-ok c =
           (goes-from img bytes _ 3 c.first_block.result _ last c.new-entry.ensures c.first_block.ensures
           c.walk-last.ensures.ok);
       plain = c.in_ok-sides.ensures.plain;
-      relative = λ rel. sides-at _ img bytes _ _ _ c.walk-last.ensures.same (ap length c.as_slice-2.ensures.value)
-          (c.in_ok-sides.ensures.relative rel);
+      relative = λ rel. sides-at img bytes _ _ _ (ap length c.as_slice-2.ensures.value) (c.in_ok-sides.ensures.relative rel);
     }

@@ -10,8 +10,5 @@ returns-clause-relative c = IfOk-weaker c.list_of.result _ _
     c.as_slice-found.ensures.value c.min.ensures part)
     c.list_of.ensures.ok
 
-pub returns-clause-same : goal.returns-clause-same
-returns-clause-same c = c.walk.ensures.same
-
 pub returns-clause-err : goal.returns-clause-err
 returns-clause-err c = c.list_of.ensures.err

@@ -1,17 +1,14 @@
 -- One entry more was drawn.
-use Rattle.std.proofs.Common.{◌≡◌, ◌+◌, ℕ, length, ap, refl, subst, ◌∙◌, arith}
+use Rattle.std.proofs.Common.{◌≡◌, ◌+◌, ℕ, length, ap, refl, ◌∙◌, arith}
 use Rattle.std.proofs.lemmas.List.{length_push}
 use Rattle.std.proofs.lemmas.Result.{err_from_is_err_and}
-use Rattle.d64_image.specs.Images.{Image}
 use Rattle.disk_pictures.proofs.Drawn.{drawn-all, held-more, held-none, pushed}
-use Rattle.disk_pictures.specs.Drawings.{IsDrawnFile, file_in}
 use Rattle.disk_pictures.proofs.reading.draw_files.Goals as goal
 
 pub loop-slot-init : goal.loop-slot-init
 loop-slot-init c = record {
   drawn = held-none _ _ c.new-files.ensures.items;
   count = ap length c.new-files.ensures.items;
-  same = refl;
 }
 
 pub loop-slot-preserved : goal.loop-slot-preserved
@@ -20,10 +17,9 @@ loop-slot-preserved c =
     let more = pushed _ _ _ _ _ c.if-is_err.false c.is_err.ensures.negation c.push.ensures.items in
     record {
       drawn = held-more _ _ _ _ _ _ _ c.loop-slot-test.true c.slot-item.is old.drawn c.in_ok-file.ensures.slot
-          (subst (λ (img : Image). IsDrawnFile img (file_in c.in_ok-file.file)) old.same c.in_ok-file.ensures.ok) more;
+          c.in_ok-file.ensures.ok more;
       count = ap length more ∙ length_push c.loop-slot.files.items c.in_ok-file.file
           ∙ ap (λ (n : ℕ). n + 1) old.count;
-      same = c.in_ok-file.ensures.same ∙ old.same;
     }
 
 pub returns-in_err-file : goal.returns-in_err-file
@@ -32,7 +28,6 @@ returns-in_err-file c =
     record {
       ok = rw p.1 tt;
       few = rw p.1 tt;
-      same = c.in_err-file.ensures.same ∙ c.loop-slot.invariant.same;
       err = rw (p.1, p.2) c.in_err-file.ensures.err;
     }
 
@@ -40,7 +35,6 @@ pub returns-then-is_err : goal.returns-then-is_err
 returns-then-is_err c = record {
   ok = tt;
   few = tt;
-  same = c.in_ok-file.ensures.same ∙ c.loop-slot.invariant.same;
   err = refl;
 }
 
@@ -51,6 +45,5 @@ returns c =
     record {
       ok = drawn-all _ _ _ _ end c.loop-slot.invariant.drawn;
       few = omega (arith, c.requires, end, c.loop-slot.invariant.count);
-      same = c.loop-slot.invariant.same;
       err = tt;
     }

@@ -1,9 +1,7 @@
 -- An entry more, which the fault concerns or doesn't.
-use Rattle.std.proofs.Common.{arith, subst, ◌∙◌}
-use Rattle.d64_image.specs.Images.{Image}
+use Rattle.std.proofs.Common.{arith}
 use Rattle.d64_image.specs.Memory.{disk_image}
 use Rattle.disk_reports.proofs.Kept.{all-kept, kept-more, left-more}
-use Rattle.disk_reports.specs.Outcomes.{IsConcerned, IsUnconcerned}
 use Rattle.disk_reports.proofs.concerned.keep_concerned.Goals as goal
 use Rattle.disk_reports.proofs.concerned.keep_concerned.Goals.{then-is_concerned, else-is_concerned}
 
@@ -14,24 +12,20 @@ loop-slot-preserved c =
     let s = c.slot-item.result in
     elim c.if-is_concerned.branch [
       | then-is_concerned w ↦ record {
-        same = c.is_concerned.ensures.same ∙ old.same;
         few = rw w.files-is (omega (arith, w.push.ensures.len, old.few));
         those = rw w.files-is (kept-more img c.args.fault c.args.slots.now c.loop-slot.files.items w.push.new.self.items
             c.loop-slot.slot-index s c.loop-slot-test.true c.slot-item.is
-            (subst (λ (i : Image). IsConcerned i c.args.fault s) old.same
-            (c.is_concerned.ensures.concerned w.if-is_concerned.true)) w.push.ensures.items old.those);
+            (c.is_concerned.ensures.concerned w.if-is_concerned.true) w.push.ensures.items old.those);
       }
       | else-is_concerned w ↦ record {
-        same = c.is_concerned.ensures.same ∙ old.same;
         few = rw w.files-is (omega (arith, old.few));
         those = rw w.files-is (left-more img c.args.fault c.args.slots.now c.loop-slot.files.items c.loop-slot.slot-index s
             c.loop-slot-test.true c.slot-item.is
-            (subst (λ (i : Image). IsUnconcerned i c.args.fault s) old.same
-            (c.is_concerned.ensures.other w.if-is_concerned.false)) old.those);
+            (c.is_concerned.ensures.other w.if-is_concerned.false) old.those);
       }
     ]
 
-pub returns-clause-files : goal.returns-clause-files
-returns-clause-files c =
+pub returns : goal.returns
+returns c =
     all-kept (disk_image c.args.disk.now) c.args.fault c.args.slots.now c.loop-slot.files.items c.loop-slot.slot-index
     (omega (arith, c.loop-slot-test.false, c.loop-slot.auto.slot-index-end)) c.loop-slot.invariant.those

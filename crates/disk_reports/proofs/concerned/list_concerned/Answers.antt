@@ -20,5 +20,5 @@ returns-clause-files c =
       subst (λ (i : Image). AreConcerned i c.args.fault c.read_directory.new.slots.items files)
           c.read_directory.ensures.reads.image
           (subst (λ (ss : List Slot). AreConcerned (disk_image c.read_directory.new.disk) c.args.fault ss files) c.as_slice.ensures.value
-          c.keep_concerned.ensures.files),
+          c.keep_concerned.ensures),
     )

@@ -1,16 +1,13 @@
 -- One entry more.
-use Rattle.std.proofs.Common.{◌≡◌, ◌+◌, ℕ, length, ap, refl, subst, ◌∙◌, arith}
+use Rattle.std.proofs.Common.{◌≡◌, ◌+◌, ℕ, length, ap, refl, ◌∙◌, arith}
 use Rattle.std.proofs.lemmas.List.{length_push}
-use Rattle.d64_image.specs.Images.{Image}
 use Rattle.disk_reports.proofs.Followed.{followed-all, followed-more, followed-none, pushed}
-use Rattle.disk_reports.specs.Trails.{IsTrail}
 use Rattle.disk_reports.proofs.links.follow_entries.Goals as goal
 
 pub loop-slot-init : goal.loop-slot-init
 loop-slot-init c = record {
   followed = followed-none _ _ c.new-trails.ensures.items;
   count = ap length c.new-trails.ensures.items;
-  same = refl;
 }
 
 pub loop-slot-preserved : goal.loop-slot-preserved
@@ -19,10 +16,9 @@ loop-slot-preserved c =
     let more = pushed _ _ _ _ _ c.if-is_err.false c.is_err.ensures.negation c.push.ensures.items in
     record {
       followed = followed-more _ _ _ _ _ _ _ c.loop-slot-test.true c.slot-item.is old.followed c.follow-trail.ensures.slot
-          (subst (λ (img : Image). IsTrail img c.follow-trail.result) old.same c.follow-trail.ensures.trail) more;
+          c.follow-trail.ensures.trail more;
       count = ap length more ∙ length_push c.loop-slot.trails.items c.follow-trail.result
           ∙ ap (λ (n : ℕ). n + 1) old.count;
-      same = c.follow-trail.ensures.same ∙ old.same;
     }
 
 pub returns-then-is_err : goal.returns-then-is_err
@@ -30,7 +26,6 @@ returns-then-is_err c = record {
   ok = tt;
   few = tt;
   err = refl;
-  same = c.follow-trail.ensures.same ∙ c.loop-slot.invariant.same;
 }
 
 pub returns : goal.returns
@@ -41,5 +36,4 @@ returns c =
       ok = followed-all _ _ _ _ end c.loop-slot.invariant.followed;
       few = c.loop-slot.invariant.count ∙ end;
       err = tt;
-      same = c.loop-slot.invariant.same;
     }

@@ -4,18 +4,18 @@ use Rattle.std.proofs.lemmas.Bool.{false≢true}
 use Rattle.disk_layout.proofs.lemmas.chains.Names.{named-match}
 use Rattle.disk_rescue.proofs.reaching.reach_file.Goals as goal
 
-pub returns-in_default-clause-reached : goal.returns-in_default-clause-reached
-returns-in_default-clause-reached c = inr (inl (
+pub returns-in-None : goal.returns-in-None
+returns-in-None c = inr (inl (
   λ none. false≢true (sym c.if-names_no_block.false ∙ c.names_no_block.ensures.1 none),
-  named-match c.args.slot.now.bytes _ 3 _ c.new.ensures c.in_default.ensures,
+  named-match c.args.slot.now.bytes _ 3 _ c.new.ensures c.in-None.ensures,
   c.clear.ensures,
   refl,
   refl,
 ))
 
-pub returns-clause-reached : goal.returns-clause-reached
-returns-clause-reached c = inr (inr (
+pub returns-in-Some : goal.returns-in-Some
+returns-in-Some c = inr (inr (
   c.in-Some.first,
   named-match c.args.slot.now.bytes _ 3 _ c.new.ensures c.in-Some.ensures,
-  c.reach_blocks.ensures.reach,
+  c.reach_blocks.ensures,
 ))

@@ -30,7 +30,7 @@ returns-in_err-put_file g c =
           c.args.name.now c.args.out.now c.put_file.new.out c.in-Ok.file.fault (file-there c.args.image.now
           (Any c.args.candidates) c.args.name.now (disk_image c.in_ok-disk.disk) c.in-Ok.file.number c.in-Ok.file.slot
           c.find_file.new.blocks.items c.in-Ok.file.last c.in-Ok.file.fault loaded.0 loaded.1 c.in-Ok.ensures.ok) _
-          (c.find_file.ensures.same ∙ loaded.1) _ c.as_slice.ensures.value c.in_err-put_file.ensures.part);
+          loaded.1 _ c.as_slice.ensures.value c.in_err-put_file.ensures.part);
     }
 
 pub returns-in_err-flush : goal.returns-in_err-flush
@@ -49,7 +49,7 @@ returns-in_err-flush g c =
           c.args.name.now c.args.out.now c.flush.new.out c.in-Ok.file.fault (file-there c.args.image.now
           (Any c.args.candidates) c.args.name.now (disk_image c.in_ok-disk.disk) c.in-Ok.file.number c.in-Ok.file.slot
           c.find_file.new.blocks.items c.in-Ok.file.last c.in-Ok.file.fault loaded.0 loaded.1 c.in-Ok.ensures.ok) _
-          (c.find_file.ensures.same ∙ loaded.1) _ c.as_slice.ensures.value
+          loaded.1 _ c.as_slice.ensures.value
           (part-all _ _ _ (Appends-kept _ _ _ _ c.in_ok-put_file.ensures.ok c.flush.ensures.kept)));
     }
 
@@ -65,14 +65,14 @@ returns g c =
     let both = printed-end c.args.image.now (Any c.args.candidates) c.args.name.now
     (AreBytesPrinted g.W.Write.contents c.args.form c.args.candidates c.args.image.now c.args.name.now c.args.out.now
     c.flush.new.out) c.args.out.now c.flush.new.out (λ f t. t.file.number) _
-    (c.find_file.ensures.same ∙ loaded.1) c.in-Ok.file.number c.in-Ok.file.fault
+    loaded.1 c.in-Ok.file.number c.in-Ok.file.fault
     c.ended.result c.ended.ensures (record {
       file = file;
       printed = subst (λ (img : Image). Appends before after
           (bytes_as c.args.form (file_bytes img c.find_file.new.blocks.items c.in-Ok.file.last)))
-          (c.find_file.ensures.same ∙ loaded.1)
+          loaded.1
           (subst (λ (bs : List Place). Appends before after
-          (bytes_as c.args.form (file_bytes (disk_image c.find_file.new.disk) bs c.in-Ok.file.last)))
+          (bytes_as c.args.form (file_bytes (disk_image c.in_ok-disk.disk) bs c.in-Ok.file.last)))
           c.as_slice.ensures.value printed);
     }) refl in
     record {
@@ -80,5 +80,5 @@ returns g c =
       err = both.1;
       part = at-error c.ended.result (bytes-part g.W.Write.contents c.args.form c.args.candidates c.args.image.now
           c.args.name.now c.args.out.now c.flush.new.out c.in-Ok.file.fault file _
-          (c.find_file.ensures.same ∙ loaded.1) _ c.as_slice.ensures.value (part-all _ _ _ printed));
+          loaded.1 _ c.as_slice.ensures.value (part-all _ _ _ printed));
     }

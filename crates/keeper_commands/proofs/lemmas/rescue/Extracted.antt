@@ -16,41 +16,41 @@ use Rattle.keeper_commands.specs.declared.rescue.choices.Choice.{Choice}
 use Rattle.keeper_commands.specs.declared.rescue.rescuing.Rescued.{Rescued}
 
 module _ {F : Type 0} (files : F → Option (List NewFile)) (choice : Choice) (image : List ℕ) (old new : F)
-    (first second third : Image)
+    (img : Image)
     (chain sectors chosen shown : List Place) (entries : List Slot) (all lent : List Rescued) (found : Option Fault)
-    (size : length image ≡ 174848) (is : first ≡ sectors_in image) (same : second ≡ first) (again : third ≡ second)
-    (read : IsReadSoFar first chain entries found) (grown : sectors ≡ sectors_of choice first chain)
+    (size : length image ≡ 174848) (is : img ≡ sectors_in image)
+    (read : IsReadSoFar img chain entries found) (grown : sectors ≡ sectors_of choice img chain)
     (chosen-is : chosen ≡ sectors)
-    (rescued : AreChosen choice second chosen all) (shown-is : shown ≡ sectors) (lent-is : lent ≡ all)
+    (rescued : AreChosen choice img chosen all) (shown-is : shown ≡ sectors) (lent-is : lent ≡ all)
   where
     rescue : IsRescue choice image sectors all found
     rescue = record {
       size = size;
       chain = chain;
       entries = entries;
-      read = subst (λ (img : Image). IsReadSoFar img chain entries found) is read;
-      sectors = grown ∙ ap (λ (img : Image). sectors_of choice img chain) is;
+      read = subst (λ (i : Image). IsReadSoFar i chain entries found) is read;
+      sectors = grown ∙ ap (λ (i : Image). sectors_of choice i chain) is;
       rescued = subst (λ (ps : List Place). AreChosen choice (sectors_in image) ps all) chosen-is
-          (subst (λ (img : Image). AreChosen choice img chosen all) (same ∙ is) rescued);
+          (subst (λ (i : Image). AreChosen choice i chosen all) is rescued);
     }
 
     -- the files are those of the image
-    files-are : all_files third shown lent ≡ all_files (sectors_in image) sectors all
+    files-are : all_files img shown lent ≡ all_files (sectors_in image) sectors all
     files-are =
-        ap (λ (fs : List Rescued). all_files third shown fs) lent-is
-        ∙ ap (λ (ps : List Place). all_files third ps all) shown-is
-        ∙ ap (λ (img : Image). all_files img sectors all) (again ∙ same ∙ is)
+        ap (λ (fs : List Rescued). all_files img shown fs) lent-is
+        ∙ ap (λ (ps : List Place). all_files img ps all) shown-is
+        ∙ ap (λ (i : Image). all_files i sectors all) is
 
-    fault-is : first_fault third (owned shown lent) 1 found lent
+    fault-is : first_fault img (owned shown lent) 1 found lent
         ≡ first_fault (sectors_in image) (owned sectors all) 1 found all
     fault-is =
-        ap (λ (fs : List Rescued). first_fault third (owned shown fs) 1 found fs) lent-is
-        ∙ ap (λ (ps : List Place). first_fault third (owned ps all) 1 found all) shown-is
-        ∙ ap (λ (img : Image). first_fault img (owned sectors all) 1 found all) (again ∙ same ∙ is)
+        ap (λ (fs : List Rescued). first_fault img (owned shown fs) 1 found fs) lent-is
+        ∙ ap (λ (ps : List Place). first_fault img (owned ps all) 1 found all) shown-is
+        ∙ ap (λ (i : Image). first_fault i (owned sectors all) 1 found all) is
 
     pub extracted : (r : Result (Option Fault) CommandFault)
-        → IfOk r (λ fault. AddsFiles (files old) (files new) (all_files third shown lent)
-        × (fault ≡ first_fault third (owned shown lent) 1 found lent)) → IfOk r (IsExtracted files choice image old new)
+        → IfOk r (λ fault. AddsFiles (files old) (files new) (all_files img shown lent)
+        × (fault ≡ first_fault img (owned shown lent) 1 found lent)) → IfOk r (IsExtracted files choice image old new)
     extracted r = IfOk-weaker r _ _ (λ fault holds. record {
       directory = sectors;
       rescued = all;
@@ -60,7 +60,7 @@ module _ {F : Type 0} (files : F → Option (List NewFile)) (choice : Choice) (i
       told = holds.1 ∙ fault-is;
     })
 
-    part : AddsPart (files old) (files new) (all_files third shown lent) → IsExtractedPart files choice image old new
+    part : AddsPart (files old) (files new) (all_files img shown lent) → IsExtractedPart files choice image old new
     part added = record {
       directory = sectors;
       rescued = all;
@@ -70,7 +70,7 @@ module _ {F : Type 0} (files : F → Option (List NewFile)) (choice : Choice) (i
     }
 
     pub not-extracted : (r : Result (Option Fault) CommandFault)
-        → IfErr r (λ fault. IsMakeFault fault × AddsPart (files old) (files new) (all_files third shown lent))
+        → IfErr r (λ fault. IsMakeFault fault × AddsPart (files old) (files new) (all_files img shown lent))
         → IfErr r (IsExtractFault files choice image old new)
     not-extracted r = IfErr-weaker r _ _ (λ fault holds. elim holds.0 [
       | inl file ↦ subst (IsExtractFault files choice image old new) (sym file) (size, part holds.1)

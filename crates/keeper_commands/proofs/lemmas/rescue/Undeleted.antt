@@ -185,16 +185,15 @@ front-same old found shown now n long are is =
     ap (λ (k : ℕ). take k shown) long ∙ ap (take (length old)) (are ∙ is) ∙ take-append_seam old found
 
 -- a directory has few entries, with the deleted ones
-pub few-all : (img now : Image) (ps : List Place) (entries : List Slot) (used found all : List Rescued)
-    → length ps ≤ 18 → entries ≡ used_slots img ps → length used ≡ length entries → now ≡ img
-    → AreUndeleted now ps used (deleted_slots now ps) found → all ≡ used ++ found → length all ≤ 144
-few-all img now ps entries used found all few are same still found-are is = omega (
+pub few-all : (img : Image) (ps : List Place) (entries : List Slot) (used found all : List Rescued) → length ps ≤ 18
+    → entries ≡ used_slots img ps → length used ≡ length entries
+    → AreUndeleted img ps used (deleted_slots img ps) found → all ≡ used ++ found → length all ≤ 144
+few-all img ps entries used found all few are same found-are is = omega (
   arith,
   few-entries img ps few,
   ap (λ (ss : List Slot). length ss) are,
   same,
-  undeleted-few img ps used (deleted_slots img ps) found
-      (subst (λ (i : Image). AreUndeleted i ps used (deleted_slots i ps) found) still found-are),
+  undeleted-few img ps used (deleted_slots img ps) found found-are,
   ap (λ (fs : List Rescued). length fs) is,
   length-append used found,
 )
@@ -224,13 +223,11 @@ added-rescued true img directory files found are =
     undeleted-rescued img directory files (deleted_slots img directory) found are
 added-rescued false img directory files found are = subst (AllByRecursion (IsRescued img)) (sym are) tt
 
-pub chosen-rescued : (choice : Choice) (img now : Image) (directory : List Place) (files shown : List Rescued)
-    → AreChosen choice img directory files → now ≡ img → shown ≡ files → AllByRecursion (IsRescued now) shown
-chosen-rescued choice img now directory files shown are same is =
-    subst (λ (i : Image). AllByRecursion (IsRescued i) shown) (sym same)
-    (subst (AllByRecursion (IsRescued img)) (sym (is ∙ are.all))
-    (all-both (IsRescued img) are.used are.found are.entries.reached
-    (added-rescued choice.deleted img directory are.used are.found are.deleted)))
+pub chosen-rescued : (choice : Choice) (img : Image) (directory : List Place) (files shown : List Rescued)
+    → AreChosen choice img directory files → shown ≡ files → AllByRecursion (IsRescued img) shown
+chosen-rescued choice img directory files shown are is =
+    subst (AllByRecursion (IsRescued img)) (sym (is ∙ are.all)) (all-both (IsRescued img) are.used are.found
+    are.entries.reached (added-rescued choice.deleted img directory are.used are.found are.deleted))
 
 -- and few without them
 pub few-used : (img : Image) (ps : List Place) (entries : List Slot) (all used : List Rescued) → length ps ≤ 18

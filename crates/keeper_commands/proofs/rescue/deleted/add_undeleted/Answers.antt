@@ -1,13 +1,12 @@
 -- One deleted entry more.
 use Rattle.std.proofs.Common.{◌≡◌, ◌+◌, ◌++◌, ◌∷◌, [], List, Option, ap, append_assoc, length, subst, sym, take, ◌∙◌}
 use Rattle.std.proofs.lemmas.List.{take_more}
-use Rattle.d64_image.specs.Images.{Image}
 use Rattle.d64_image.specs.Memory.{disk_image}
 use Rattle.d64_image.specs.declared.place.Place.{Place}
 use Rattle.disk_layout.specs.declared.slot.Slot.{Slot}
 use Rattle.disk_rescue.specs.Sharing.{first_shared}
 use Rattle.keeper_commands.proofs.lemmas.rescue.Undeleted.{front-same, undeleted-more}
-use Rattle.keeper_commands.specs.rescue.Rescues.{AreUndeleted, IsRescued, with_unshared}
+use Rattle.keeper_commands.specs.rescue.Rescues.{AreUndeleted, with_unshared}
 use Rattle.keeper_commands.specs.rescue.Sharing.{owned}
 use Rattle.keeper_commands.specs.declared.rescue.rescuing.Rescued.{Rescued}
 use Rattle.keeper_commands.proofs.rescue.deleted.add_undeleted.Goals as goal
@@ -17,7 +16,7 @@ loop-slot-preserved c =
     let old = c.args.files.now.items in
     let directory = c.args.directory.now in
     let file = c.in_ok-file.file in
-    let (found, items, are) = c.loop-slot.invariant.found in
+    let (found, items, are) = c.loop-slot.invariant in
     let shared : Option Place = first_shared (owned directory (old ++ file ∷ [])) file.blocks.items in
     let told : c.shared_with-shared.result ≡ shared = c.shared_with-shared.ensures
     ∙ ap (λ (fs : List Rescued). first_shared (owned directory (fs ++ file ∷ [])) file.blocks.items)
@@ -28,19 +27,14 @@ loop-slot-preserved c =
     let k = c.loop-slot.slot-index in
     let taken : take (k + 1) slots ≡ take k slots ++ c.slot-item.result ∷ [] =
     take_more slots k c.slot-item.result c.loop-slot-test.true
-    ∙ ap (λ (s : Slot). take k slots ++ s ∷ []) (sym c.slot-item.is) in
-    record {
-      found = (
-        found ++ with_unshared shared file [],
-        c.in_ok-add_unshared.ensures.ok
-            ∙ ap (λ (o : Option Place). c.loop-slot.files.items ++ with_unshared o file []) told
-            ∙ ap (λ (fs : List Rescued). fs ++ with_unshared shared file []) items
-            ∙ append_assoc old found (with_unshared shared file []),
-        subst (λ (ss : List Slot). AreUndeleted (disk_image c.args.disk.now) directory old ss
-            (found ++ with_unshared shared file [])) (sym taken)
-            (undeleted-more (disk_image c.args.disk.now) directory old (take k slots) c.slot-item.result file found are
-            c.in_ok-file.ensures.slot
-            (subst (λ (img : Image). IsRescued img file) c.loop-slot.invariant.same c.in_ok-file.ensures.ok)),
-      );
-      same = c.rescue.ensures.same ∙ c.loop-slot.invariant.same;
-    }
+    ∙ ap (λ (s : Slot). take k slots ++ s ∷ []) (sym c.slot-item.is) in (
+      found ++ with_unshared shared file [],
+      c.in_ok-add_unshared.ensures.ok
+          ∙ ap (λ (o : Option Place). c.loop-slot.files.items ++ with_unshared o file []) told
+          ∙ ap (λ (fs : List Rescued). fs ++ with_unshared shared file []) items
+          ∙ append_assoc old found (with_unshared shared file []),
+      subst (λ (ss : List Slot). AreUndeleted (disk_image c.args.disk.now) directory old ss
+          (found ++ with_unshared shared file [])) (sym taken)
+          (undeleted-more (disk_image c.args.disk.now) directory old (take k slots) c.slot-item.result file found are
+          c.in_ok-file.ensures.slot c.in_ok-file.ensures.ok),
+    )

@@ -1,4 +1,4 @@
--- What was found of the deleted entries so far; the disk stays.
+-- What was found of the deleted entries so far.
 use Rattle.std.proofs.Common.{◌≡◌, ◌++◌, List, take}
 use Rattle.d64_image.specs.Memory.{disk_image}
 use Rattle.keeper_commands.specs.rescue.Rescues.{AreUndeleted}
@@ -6,8 +6,5 @@ use Rattle.keeper_commands.specs.declared.rescue.rescuing.Rescued.{Rescued}
 use Rattle.keeper_commands.proofs.rescue.deleted.add_undeleted.Given as goal
 
 abbrev pub invariant-loop-slot : goal.invariant-loop-slot
-invariant-loop-slot l = record {
-  found : (found : List Rescued) × (l.files.items ≡ l.fn.files.items ++ found)
-      × AreUndeleted (disk_image l.fn.disk) l.directory l.fn.files.items (take l.slot-index l.slots) found;
-  same : disk_image l.disk ≡ disk_image l.fn.disk;
-}
+invariant-loop-slot l = (found : List Rescued) × (l.files.items ≡ l.fn.files.items ++ found)
+    × AreUndeleted (disk_image l.disk) l.directory l.fn.files.items (take l.slot-index l.slots) found

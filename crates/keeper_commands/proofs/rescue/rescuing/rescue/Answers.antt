@@ -10,6 +10,6 @@ returns-in-Ok-clause-ok c =
     let same = c.in-Ok.ensures.items ∙ c.as_slice.ensures.value in
     record {
       reached = subst (λ (ps : List Place). IsReached (disk_image c.args.disk.now) c.args.slot.now ps
-          c.reach_file-reach.result.fault c.reach_file-reach.result.last) (sym same) c.reach_file-reach.ensures.reached;
+          c.reach_file-reach.result.fault c.reach_file-reach.result.last) (sym same) c.reach_file-reach.ensures;
       few = omega (arith, ap length c.in-Ok.ensures.items, c.as_slice.ensures.fits);
     }

@@ -1,17 +1,14 @@
 -- One entry more.
-use Rattle.std.proofs.Common.{◌≡◌, ◌+◌, ℕ, length, ap, refl, subst, ◌∙◌, arith}
+use Rattle.std.proofs.Common.{◌≡◌, ◌+◌, ℕ, length, ap, refl, ◌∙◌, arith}
 use Rattle.std.proofs.lemmas.List.{length_push}
 use Rattle.std.proofs.lemmas.Result.{err_from_is_err_and}
-use Rattle.d64_image.specs.Images.{Image}
 use Rattle.keeper_commands.proofs.lemmas.rescue.Reached.{pushed, rescued-all, rescued-more, rescued-none}
-use Rattle.keeper_commands.specs.rescue.Rescues.{IsRescued}
 use Rattle.keeper_commands.proofs.rescue.rescuing.rescue_all.Goals as goal
 
 pub loop-slot-init : goal.loop-slot-init
 loop-slot-init c = record {
   rescued = rescued-none _ _ c.new-files.ensures.items;
   count = ap length c.new-files.ensures.items;
-  same = refl;
 }
 
 pub loop-slot-preserved : goal.loop-slot-preserved
@@ -20,10 +17,9 @@ loop-slot-preserved c =
     let more = pushed _ _ _ _ _ c.if-is_err.false c.is_err.ensures.negation c.push.ensures.items in
     record {
       rescued = rescued-more _ _ _ _ _ _ _ c.loop-slot-test.true c.slot-item.is old.rescued c.in_ok-file.ensures.slot
-          (subst (λ (img : Image). IsRescued img c.in_ok-file.file) old.same c.in_ok-file.ensures.ok) more;
+          c.in_ok-file.ensures.ok more;
       count = ap length more ∙ length_push c.loop-slot.files.items c.in_ok-file.file
           ∙ ap (λ (n : ℕ). n + 1) old.count;
-      same = c.in_ok-file.ensures.same ∙ old.same;
     }
 
 pub returns-in_err-file : goal.returns-in_err-file
@@ -33,7 +29,6 @@ returns-in_err-file c =
       ok = rw p.1 tt;
       few = rw p.1 tt;
       err = rw (p.1, p.2) c.in_err-file.ensures.err;
-      same = c.in_err-file.ensures.same ∙ c.loop-slot.invariant.same;
     }
 
 pub returns-then-is_err : goal.returns-then-is_err
@@ -41,7 +36,6 @@ returns-then-is_err c = record {
   ok = tt;
   few = tt;
   err = refl;
-  same = c.in_ok-file.ensures.same ∙ c.loop-slot.invariant.same;
 }
 
 pub returns : goal.returns
@@ -52,5 +46,4 @@ returns c =
       ok = rescued-all _ _ _ _ end c.loop-slot.invariant.rescued;
       few = c.loop-slot.invariant.count ∙ end;
       err = tt;
-      same = c.loop-slot.invariant.same;
     }

@@ -1,4 +1,4 @@
--- What can be reached of the entries so far; the disk stays.
+-- What can be reached of the entries so far.
 use Rattle.std.proofs.Common.{◌≡◌, length, take}
 use Rattle.d64_image.specs.Memory.{disk_image}
 use Rattle.keeper_commands.specs.rescue.Rescues.{AreRescued}
@@ -6,7 +6,6 @@ use Rattle.keeper_commands.proofs.rescue.rescuing.rescue_all.Given as goal
 
 abbrev pub invariant-loop-slot : goal.invariant-loop-slot
 invariant-loop-slot l = record {
-  rescued : AreRescued (disk_image l.fn.disk) (take l.slot-index l.slots) l.files.items;
+  rescued : AreRescued (disk_image l.disk) (take l.slot-index l.slots) l.files.items;
   count : length l.files.items ≡ l.slot-index;
-  same : disk_image l.disk ≡ disk_image l.fn.disk;
 }

@@ -3,7 +3,7 @@ use Rattle.std.proofs.Common.{◌≡◌, ◌+◌, false, length}
 use Rattle.d64_image.specs.History.{OnlyReads}
 use Rattle.disk_layout.specs.Chain.{Leads, EachOnce}
 use Rattle.disk_layout.specs.Visited.{IsSetOf, is_in, room}
-use Rattle.disk_layout.proofs.walk.walk.Given as goal
+use Rattle.disk_layout.proofs.chain.walk_chain.Given as goal
 
 abbrev pub invariant-walk : goal.invariant-walk
 invariant-walk g l =
