@@ -5,6 +5,5 @@ pub mod WholeFiles
 pub mod Shops
 pub mod WholeShops
 pub mod Noted
-pub mod Known
 pub mod Snapshots
 pub mod OneFile

@@ -5,7 +5,6 @@
 
 mod disk;
 mod disk_file;
-mod known;
 mod noting;
 mod runs;
 mod snapshots;
@@ -13,7 +12,6 @@ mod whole_file;
 
 pub use disk::{Disk, IMAGE_BYTES};
 pub use disk_file::{DiskFile, Lock};
-pub use known::{Known, KnownFile};
 pub use noting::{NotedLines, NotedReplies, RecordedReply};
 pub use runs::play_in_file;
 pub use snapshots::host::Snapshot;

@@ -5,12 +5,10 @@ ghost use Rattle.ledger_jobs.specs.Jobs.{IsFit};
 use crate::comparing::same_at;
 use crate::images::formatted;
 use image_file::HostFiles;
-use image_looks::Look;
 use ledger_cli::{Job, job, run};
-use ledger_jobs::do_job;
 use std::io::Cursor;
 use std::process::Abort;
-use test_files::{Known, Snapshot, Store, do_over};
+use test_files::{Snapshot, Store, do_over};
 
 /// What stands at a path once a job is done.
 #[derive(Clone, Copy)]
@@ -267,23 +265,6 @@ fn jobs_that_write_are_done_over_known_files(rt: HostRuntime) {
     for row in &WRITING {
         see_done(&rt, row, false, image.as_slice());
     }
-}
-
-// The check refuses a row over this host whose job writes.
-#[test]
-fn an_image_is_checked_where_nothing_may_be_written(rt: HostRuntime) {
-    let image = formatted(&rt);
-    let host = Known {
-        alloc: rt.alloc(),
-        bytes: image.as_slice(),
-    };
-    let job = Job::Look {
-        what: Look::Check,
-        image: "a.d64",
-    };
-    let mut out = Vec::new(rt.alloc());
-    same_at(&rt, do_job(&host, &job, &mut out), Ok(None), "done");
-    same_at(&rt, out.as_slice(), b"OK\n".as_slice(), "prints");
 }
 
 // A name is looked at before its file is opened, and may lead nowhere by then. The folder of an image at the root is synced.

@@ -1,5 +1,5 @@
 -- A turn visits one more sector; where the walk stops, the sectors visited are all that the links come to.
-use Rattle.std.proofs.Common.{lit<, refl, subst, sym, ◌∙◌}
+use Rattle.std.proofs.Common.{lit<, refl, sym, ◌∙◌}
 use Rattle.std.proofs.lemmas.Bool.{false≢true}
 use Rattle.d64_image.proofs.Places.{place_at-some}
 use Rattle.disk_layout.proofs.lemmas.chains.Chains.{Leads-push}
