@@ -4,6 +4,7 @@ use Rattle.std.specs.Io.KnownBytes.{Appends}
 use Rattle.d64_image.specs.Images.{Image, sector}
 use Rattle.d64_image.specs.Memory.{sectors_in}
 use Rattle.d64_image.specs.declared.place.Place.{Place}
+use Rattle.damaged_files.specs.cut.Told.{IsToldOfImage}
 use Rattle.disk_layout.specs.Clean.{IsVerdict}
 use Rattle.disk_layout.specs.Directory.{IsDirectory, map_place}
 use Rattle.disk_layout.specs.Fault.{HoldsOfDirectory, nowhere}
@@ -42,15 +43,17 @@ AreFound img None files = files ≡ []
 AreFound img (Some fault) files = AreFilesOf img fault files
 
 -- The image was described on an output that held `old` and holds `new`: by the object of what a check finds, with the
--- files that this concerns.
+-- files that this concerns, and of the first file that is cut short.
 pub record IsDescribed {W : Type 0} (contents : W → Option (List ℕ)) (name image : List ℕ) (old new : W)
     (found : Option Fault) : Type 0 where
   pub size : length image ≡ 174848
   pub verdict : IsVerdict (sectors_in image) found
   pub files : List Slot
   pub concerned : AreFound (sectors_in image) found files
+  pub cut : Option Place
+  pub short : IsToldOfImage image None cut
   pub printed : Appends (contents old) (contents new)
-      (object_text name found files (sector (sectors_in image) map_place))
+      (object_text name found files (sector (sectors_in image) map_place) cut)
 
 -- why an image isn't described: its size, memory, or the output
 abbrev pub IsDescribeFault : List ℕ → CommandFault → Type 0

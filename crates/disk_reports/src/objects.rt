@@ -1,10 +1,11 @@
 //! Objects of JSON, written.
 ghost use Rattle.std.specs.Prelude.{◌≡◌, OnOk, flat_map};
 ghost use Rattle.std.specs.Io.KnownBytes.{Appends};
-ghost use Rattle.disk_reports.specs.Objects.{disk_name_text, disk_text, files_text, found_text, head_text, names_text, next_name};
+ghost use Rattle.disk_reports.specs.Objects.{disk_name_text, disk_text, end_text, files_text, found_text, head_text, names_text, next_name};
 ghost use Rattle.disk_reports.specs.Objects.{object_text, refused_head, refused_text, size_text, verdict_text};
 
 use crate::json::{put_string, put_typed};
+use d64_image::Place;
 use disk_layout::{BamView, Fault, Slot};
 use disk_rescue::{disk_name, entry_name};
 use std::io::{self, Write};
@@ -81,14 +82,27 @@ fn put_disk_name<W: Write>(out: &mut W, map: &[u8; 256]) -> io::Result<()>
     put_typed(out, disk_name(map))
 }
 
-/// Writes what 18/0 says of the disk, and the end of the object.
-fn put_disk<W: Write>(out: &mut W, map: &[u8; 256]) -> io::Result<()>
-    ensures { OnOk result (Appends (W.contents out.old) (W.contents out.new) (disk_text map.now)) }
+/// Writes the sector where the first file that is cut short ends, if one is, and the end of the object.
+fn put_end<W: Write>(out: &mut W, cut: Option<Place>) -> io::Result<()>
+    ensures { OnOk result (Appends (W.contents out.old) (W.contents out.new) (end_text cut)) }
+{
+    match cut {
+        None => out.write_all(b",\"short\":null}\n"),
+        Some(place) => {
+            let (track, sector) = (place.track(), place.sector());
+            writeln!(out, ",\"short\":\"{track}/{sector}\"}}")
+        }
+    }
+}
+
+/// Writes what 18/0 says of the disk, where a file is cut short, and the end.
+fn put_disk<W: Write>(out: &mut W, map: &[u8; 256], cut: Option<Place>) -> io::Result<()>
+    ensures { OnOk result (Appends (W.contents out.old) (W.contents out.new) (disk_text map.now cut)) }
 {
     put_disk_name(out, map)?;
     out.write_all(b",\"id\":")?;
     put_typed(out, BamView::new(map).id())?;
-    out.write_all(b"}\n")
+    put_end(out, cut)
 }
 
 /// Writes the object of an image up to the files.
@@ -100,20 +114,22 @@ fn put_verdict<W: Write>(out: &mut W, name: &[u8], found: Option<Fault>) -> io::
     put_found(out, found)
 }
 
-/// Writes the object of an image of which a check finds this, with the files that this concerns and the bytes of 18/0.
+/// Writes the object of an image of which a check finds this, with the files that this concerns, the bytes of 18/0, and where
+/// the first file that is cut short ends.
 pub(crate) fn put_object<W: Write>(
     out: &mut W,
     name: &[u8],
     found: Option<Fault>,
     files: &[Slot],
     map: &[u8; 256],
+    cut: Option<Place>,
 ) -> io::Result<()>
     ensures { OnOk result (Appends (W.contents out.old) (W.contents out.new)
-        (object_text name.now found files.now map.now)) }
+        (object_text name.now found files.now map.now cut)) }
 {
     put_verdict(out, name, found)?;
     put_files(out, files)?;
-    put_disk(out, map)
+    put_disk(out, map, cut)
 }
 
 /// Writes a size, if it is known.
@@ -148,6 +164,6 @@ pub(crate) fn put_refused<W: Write>(
     put_refused_head(out, name, size)?;
     put_string(out, why)?;
     out.write_all(
-        b",\"track\":null,\"sector\":null,\"files\":[],\"free\":null,\"disk\":null,\"id\":null}\n",
+        b",\"track\":null,\"sector\":null,\"files\":[],\"free\":null,\"disk\":null,\"id\":null,\"short\":null}\n",
     )
 }

@@ -10,9 +10,12 @@ pub listed-kept : {W : Type 0} (contents : W → Option (List ℕ)) (image : Lis
     → AreListed contents image old mid found → Keeps (contents mid) (contents new)
     → AreListed contents image old new found
 listed-kept contents image old mid new found h kept =
-    let (text, listing, put) = h.listed in
     record {
       size = h.size;
       verdict = h.verdict;
-      listed = (text, listing, Appends-kept (contents old) (contents mid) (contents new) text put kept);
+      cut = h.cut;
+      short = h.short;
+      text = h.text;
+      listing = h.listing;
+      printed = Appends-kept (contents old) (contents mid) (contents new) _ h.printed kept;
     }

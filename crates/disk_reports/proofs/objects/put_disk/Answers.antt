@@ -6,6 +6,6 @@ use Rattle.disk_reports.proofs.objects.put_disk.Goals as goal
 pub returns : goal.returns
 returns g c =
     let id = rw (c.id.ensures, c.new.ensures) at c.in_ok-put_typed.ensures in
-    on_ok_weaker c.write_all-2.result
+    on_ok_weaker c.put_end.result
     (four _ _ _ _ _ _ _ _ _ c.in_ok-put_disk_name.ensures c.in_ok-write_all.ensures.bytes id)
-    c.write_all-2.ensures.bytes
+    c.put_end.ensures
