@@ -10,9 +10,7 @@ use image_edits::{do_copying, do_edit, do_new, do_salvaging};
 use image_file::{EndedFile, HostFiles, Locks};
 use image_looks::{do_comparing, do_describing, do_extracting, do_look, do_several, do_sheet};
 use opened_files::{Older, Refusal};
-use shop_jobs::{
-    do_dry, do_format, do_logged_playing, do_logged_serving, do_making, do_playing,
-};
+use shop_jobs::{do_dry, do_format, do_logged_playing, do_logged_serving, do_making, do_playing};
 use std::fs::OpenFile;
 use std::io::{Read, Write};
 
