@@ -1,5 +1,7 @@
 //! Jobs over a host that says what its files held: what is promised of them has no premise left.
-ghost use Rattle.std.specs.Prelude.{◌≡◌, List, ℕ, true};
+ghost use Rattle.std.specs.Prelude.{◌≡◌, List, ℕ, true, ⊤};
+ghost use Rattle.image_file.specs.Remains.{unknown};
+ghost use Rattle.image_file.specs.paths.Traces.{untraced};
 ghost use Rattle.ledger_jobs.specs.JobRights.{MayDo};
 ghost use Rattle.ledger_jobs.specs.JobRuns.{IsJobOver};
 ghost use Rattle.ledger_jobs.specs.Jobs.{IsFit};
