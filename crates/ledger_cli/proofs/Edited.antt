@@ -5,7 +5,7 @@ use Rattle.disk_changes.specs.declared.changes.Why.{Why}
 use Rattle.folder_changes.specs.declared.stops.Stop.{Stop}
 use Rattle.folder_changes.specs.declared.stops.Stop.TheVariants as stops
 use Rattle.ledger_cli.specs.Changed.{IsChangeJob, IsChangeWritten}
-use Rattle.image_edits.proofs.ChangedOver.{told-weaker}
+use Rattle.folder_changes.proofs.Changed.{told-weaker}
 use Rattle.opened_files.specs.Ends.{JobEnd}
 use Rattle.image_edits.specs.declared.edit.Effect.{Effect}
 use Rattle.image_edits.specs.declared.edit.Effect.TheVariants.{Printed, Written}

@@ -49,8 +49,8 @@ where
         Job::New {
             image,
             ref name,
-            id,
-        } => do_new(rt, image, name, id, out),
+            ref id,
+        } => do_new(rt, image, name, *id, out),
         Job::Look { ref what, image } => do_look(rt, what, image, out),
         Job::Dry { script } => do_dry(rt, script, out),
         Job::Play {

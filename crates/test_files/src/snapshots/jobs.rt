@@ -1,5 +1,7 @@
 //! Jobs over a host that says what its files held: what is promised of them has no premise left.
-ghost use Rattle.std.specs.Prelude.{◌≡◌, List, ℕ, true};
+ghost use Rattle.std.specs.Prelude.{◌≡◌, List, ℕ, true, ⊤};
+ghost use Rattle.image_file.specs.Remains.{unknown};
+ghost use Rattle.image_file.specs.paths.Traces.{untraced};
 ghost use Rattle.ledger_jobs.specs.JobRights.{MayDo};
 ghost use Rattle.ledger_jobs.specs.JobRuns.{IsJobOver};
 ghost use Rattle.ledger_jobs.specs.Jobs.{IsFit};
@@ -9,6 +11,7 @@ ghost use Rattle.opened_files.specs.Makings.{IsMadeAt};
 ghost use Rattle.test_files.specs.OneFile.{one_remains, one_traces};
 ghost use Rattle.test_files.specs.Snapshots.{image_path, snapshot_rights, snapshot_stands, text_path};
 ghost use Rattle.test_files.specs.declared.snapshots.host.Snapshot as hosts;
+ghost use Rattle.test_files.specs.declared.snapshots.open_file.SnapshotFile.{SnapshotFile};
 
 use crate::snapshots::host::Snapshot;
 use disk_layout::Fault;
@@ -23,7 +26,7 @@ pub fn do_over<W: Write>(
     out: &mut W,
 ) -> Result<Option<Fault>, Refusal>
     requires fit { IsFit job.now }
-    ensures { IsJobOver snapshot_rights snapshot_stands untraced unknown (λ _ _ _ _. ⊤) W.contents host.now job.now out.old out.new result }
+    ensures { IsJobOver {F = SnapshotFile} snapshot_rights snapshot_stands untraced unknown (λ _ _ _ _. ⊤) W.contents host.now job.now out.old out.new result }
 {
     do_job(host, job, out)
 }
