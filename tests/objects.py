@@ -23,7 +23,7 @@ from pathlib import Path
 from disks import shop_after_a_day
 from drawn import MAP, PLACES, SIZE, name_text, start
 
-KEYS = ["name", "size", "verdict", "track", "sector", "files", "free", "disk", "id"]
+KEYS = ["name", "size", "verdict", "track", "sector", "files", "free", "disk", "id", "short"]
 ON_DISK = set(PLACES)
 RELATIVE = (0x84, 0xC4)
 CLOSED = {*range(0x80, 0x85), *range(0xC0, 0xC5)}
@@ -140,8 +140,8 @@ def damage(draw, image):
     return bytes(image)
 
 
-def judge(path, image, line, verdict):
-    """What is wrong with the line of an image, or None."""
+def judge(path, image, line, verdict, short):
+    """What is wrong with the line of an image, or None. `short` is where `repair` refuses a file that is cut short."""
     told = json.loads(line)
     head = image[start(MAP):start(MAP) + 256]
     fault, _, place = verdict.partition(" ")
@@ -150,7 +150,7 @@ def judge(path, image, line, verdict):
         "name": str(path), "size": SIZE, "verdict": verdict, "track": at and at[0], "sector": at and at[1],
         "files": Reader(image).concerned(fault, at) if at else [],
         "free": sum(head[4 * track] for track in range(1, 36) if track != 18),
-        "disk": name_text(head[0x90:0xA0].rstrip(b"\xa0")), "id": name_text(head[0xA2:0xA4]),
+        "disk": name_text(head[0x90:0xA0].rstrip(b"\xa0")), "id": name_text(head[0xA2:0xA4]), "short": short,
     }
     if list(told) != KEYS or told != want:
         return f"{told}\n{want}"
@@ -178,7 +178,9 @@ def main():
         for path, image, line, one in zip(paths, images, lines, plain):
             verdict = one.stdout.decode().rstrip("\n")
             met[verdict.split()[0]] += 1
-            if wrong := judge(path, image, line, verdict):
+            repaired = subprocess.run([program, "repair", "--dry-run", path], stdout=subprocess.DEVNULL, stderr=subprocess.PIPE)
+            word, _, place = repaired.stderr.decode().rstrip("\n").partition(" ")
+            if wrong := judge(path, image, line, verdict, place if word == "SHORT" else None):
                 Path("differs.d64").write_bytes(image)
                 print(f"objects: differs.d64: {wrong}")
                 return 1

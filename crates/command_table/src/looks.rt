@@ -58,8 +58,8 @@ It prints OK, or a fault and its sector, for example LOOP 17/0:
   BADTYPE     a closed entry in this sector has a type that doesn't exist
   BADLENGTH   a relative file's entry in this sector has record length 0 or 255
 \"man ledger-1541\" says what to do about each.
-If a file is cut short, SHORT and its last sector follow on a terminal or with
---explain, but not for several images.
+If a file is cut short, SHORT and its last sector follow with --all, in `short`
+with --json, and for one image on a terminal or with --explain.
 With several images each line begins with the image's name, also for an image
 that is refused. The exit status is then the highest of all.
 With --json each image has a line, an object of JSON. Its `files` are those that
