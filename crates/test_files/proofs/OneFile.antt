@@ -1,5 +1,5 @@
 -- What is said of an image that was made holds of one path and one image.
-use Rattle.std.proofs.Common.{◌≡◌, [], ◌∷◌, ℕ, List, Some, ap, refl, subst, sym, ◌∙◌}
+use Rattle.std.proofs.Common.{◌≡◌, [], ◌∷◌, ℕ, List, Some, ap, arith, length, refl, sym, ◌∙◌}
 use Rattle.image_file.specs.Replacing.{NowAll}
 use Rattle.opened_files.specs.Makings.{IsMadeAt}
 use Rattle.test_files.specs.OneFile.{Left, Made, Stage, one_remains, one_traces, stage_bytes}
@@ -15,7 +15,7 @@ module _ (path image : List ℕ) where
 
   one-bytes : (bytes : List ℕ) (left : Stage) → NowAll (one_remains path image) left (λ s. s ≡ bytes) → bytes ≡ image
   one-bytes bytes Made all =
-      let no : [] ≡ 0 ∷ [] = all [] tt ∙ sym (all (0 ∷ []) tt) in cc
+      let no : 0 ≡ 1 = ap length (all [] tt ∙ sym (all (0 ∷ []) tt)) in absurd (omega (arith, no))
   one-bytes bytes Left all = sym (all image refl)
 
   -- and holds of nothing else

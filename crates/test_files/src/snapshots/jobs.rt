@@ -26,7 +26,8 @@ pub fn do_over<W: Write>(
     out: &mut W,
 ) -> Result<Option<Fault>, Refusal>
     requires fit { IsFit job.now }
-    ensures { IsJobOver {F = SnapshotFile} snapshot_rights snapshot_stands untraced unknown (λ _ _ _ _. ⊤) W.contents host.now job.now out.old out.new result }
+    ensures { IsJobOver {F = SnapshotFile} snapshot_rights snapshot_stands untraced unknown (λ _ _ _ _. ⊤) W.contents
+        host.now job.now out.old out.new result }
 {
     do_job(host, job, out)
 }
