@@ -46,7 +46,7 @@ module _ (host : Snapshot) where
   source what = tt
 
   pub may-do : (job : Job) → MayDo snapshot_rights host job
-  may-do (jobs.Format image tills) = (make image.now, refl)
+  may-do (jobs.Format image tills) = (make image.now, change image.now)
   may-do (jobs.FormatNew image tills) = make image.now
   may-do (jobs.New image name id) = make image.now
   may-do (jobs.Look image what) = read image.now
