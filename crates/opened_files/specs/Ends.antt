@@ -125,12 +125,6 @@ IsEndOver (Ok _) end = end ≡ Ok None
 IsEndOver (Err faults.File) end = IsErr end
 IsEndOver (Err fault) end = end ≡ as_run (Err fault)
 
--- a run over a file that is made, which may be refused, ended so, and its job with it
-abbrev pub IsMadeEnd : Result Unit Refusal → JobEnd → Type 0
-IsMadeEnd (Ok _) end = end ≡ Ok None
-IsMadeEnd (Err (refusals.Fault faults.File)) end = IsErr end
-IsMadeEnd (Err refusal) end = end ≡ Err refusal
-
 -- something was printed, with the fault of the layout that it reports, if it reports one; or this is why not, and unless the
 -- output failed nothing was printed
 abbrev pub IsPrintEnd : {W : Type 0} → (Printed : W → W → Option Fault → Type 0) → (Why : CommandFault → Type 0) → W → W

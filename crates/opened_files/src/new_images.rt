@@ -22,9 +22,8 @@ fn told_new<T>(made: io::Result<T>) -> Result<T, Refusal>
     ensures { IfOk result (λ it. made ≡ Ok it) }
 {
     match made {
-        Ok(it) => Ok(it),
         Err(error) if error.kind() == io::ErrorKind::AlreadyExists => Err(Refusal::Exists),
-        Err(error) => Err(Refusal::Fault(CommandFault::of_io(&error))),
+        made => told(made),
     }
 }
 

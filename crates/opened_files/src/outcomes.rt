@@ -1,6 +1,6 @@
 //! What came of a call of the system or of a run, as the end of a job.
 ghost use Rattle.std.specs.Prelude.{◌≡◌};
-ghost use Rattle.opened_files.specs.Ends.{IsEndOver, IsMadeEnd, as_job, as_run, told_of};
+ghost use Rattle.opened_files.specs.Ends.{IsEndOver, as_job, as_run, told_of};
 
 use crate::refusals::Refusal;
 use command_faults::CommandFault;
@@ -48,19 +48,5 @@ pub fn over_end(
     match (ended, refused) {
         (Err(CommandFault::File), Some(refusal)) => Err(refusal),
         (ended, _) => run_end(ended),
-    }
-}
-
-/// The same of a run that may be refused itself.
-pub fn made_end(
-    ended: Result<(), Refusal>,
-    refused: Option<Refusal>,
-) -> Result<Option<Fault>, Refusal>
-    ensures { IsMadeEnd ended result }
-{
-    match (ended, refused) {
-        (Ok(()), _) => Ok(None),
-        (Err(Refusal::Fault(CommandFault::File)), Some(refusal)) => Err(refusal),
-        (Err(refusal), _) => Err(refusal),
     }
 }

@@ -1,0 +1,11 @@
+-- The object is of the bytes that were read.
+use Rattle.std.proofs.Common.{List, ℕ, IfOk, subst}
+use Rattle.image_looks.specs.Descriptions.{IsImageObject}
+use Rattle.image_looks.proofs.descriptions.put_object_of.Goals as goal
+
+pub returns-in-Ok : goal.returns-in-Ok
+returns-in-Ok g c = record {
+  ok = rw c.in-Ok.is (subst (λ (image : List ℕ). IfOk c.put_object.result
+      (IsImageObject g.W.Write.contents c.args.path.now image c.args.out.now c.put_object.new.out)) c.as_slice.ensures.value
+      c.put_object.ensures.ok);
+}
