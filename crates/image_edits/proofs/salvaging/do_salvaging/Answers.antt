@@ -1,5 +1,5 @@
 -- The image that is made is that of the bytes that the host says.
-use Rattle.std.proofs.Common.{◌≡◌, ◌∙◌, List, ap, inl, inr, subst, sym, ℕ}
+use Rattle.std.proofs.Common.{◌∙◌, List, ap, inl, inr, subst, ℕ}
 use Rattle.std.specs.Prelude.{vec_items}
 use Rattle.d64_image.specs.Memory.{bytes_of}
 use Rattle.image_edits.specs.Salvages.{IsSalvageEnd}

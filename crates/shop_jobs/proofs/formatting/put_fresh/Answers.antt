@@ -1,8 +1,6 @@
 -- The disk is fresh.
 use Rattle.std.proofs.Common.{◌∙◌, subst, sym}
-use Rattle.d64_image.specs.Memory.{disk_image}
 use Rattle.shop_commands.specs.Images.{IsFreshDisk}
-use Rattle.shop_log.proofs.lemmas.life.Times.{on_ok}
 use Rattle.shop_jobs.proofs.FormatTold.{fresh-moments}
 use Rattle.shop_jobs.proofs.formatting.put_fresh.Goals as goal
 
