@@ -10,7 +10,9 @@ use crate::image_logs::see_one_place;
 use crate::outcomes::told;
 use crate::refusals::Refusal;
 use command_faults::CommandFault;
-use image_file::{EndedFile, HostFiles, Identity, Locks, OpensFile, read_script, regular, regular_at};
+use image_file::{
+    EndedFile, HostFiles, Identity, Locks, OpensFile, read_script, regular, regular_at,
+};
 use shop_log::{LogNames, find_log, forget_log};
 use std::fs::{Metadata, OpenFile};
 use std::io;

@@ -14,9 +14,7 @@ use command_faults::CommandFault;
 use d64_image::IMAGE_BYTES;
 use disk_layout::Fault;
 use image_file::{EndedFile, HostFiles, Locks, OverwrittenFile};
-use opened_files::{
-    AtPath, Refusal, opened_alone, over_end, run_end, see_size, size_of, told,
-};
+use opened_files::{AtPath, Refusal, opened_alone, over_end, run_end, see_size, size_of, told};
 use shop_commands::{format_image, fresh_disk, put_whole};
 use shop_log::{
     ImageFolder, LogFile, LogFolder, LogNames, LogRoom, find_log, image_room, sectors_of, supersede,
@@ -119,12 +117,7 @@ where
 
 /// Makes the image at a path, where nothing stands, or over a file that is no image. The log of what is replaced stays until
 /// the image is whole.
-fn make_shop<F, R, W>(
-    rt: &R,
-    path: &str,
-    tills: u8,
-    out: &mut W,
-) -> Result<Option<Fault>, Refusal>
+fn make_shop<F, R, W>(rt: &R, path: &str, tills: u8, out: &mut W) -> Result<Option<Fault>, Refusal>
 where
     F: EndedFile + Locks + OpenFile + Drop,
     R: HostFiles<File = F> + AllocGlobal,
