@@ -204,7 +204,7 @@ DEFINITION = r"(?:abbrev |unfoldable )pub |pub (?:record|data)\b"
 
 
 def product_crates():
-    return sorted(it for it in TOP.glob("crates/*") if (it / "src").is_dir() and not re.match(r"tests?_", it.name))
+    return sorted(it for it in TOP.glob("crates/*") if (it / "src").is_dir() and not re.match(r"tests?_|benchmarks", it.name))
 
 
 def help_findings(text):

@@ -19,7 +19,7 @@ from spec_files import TOP  # noqa: E402
 NAMES = {
     "Product": r"(?!tests?_|example_)",
     "Tests": r"tests_",
-    "Tools": r"test_",
+    "Tools": r"test_|benchmarks$",
     "Example": r"example_",
 }
 
