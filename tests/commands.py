@@ -91,7 +91,7 @@ COMMANDS = [
     command(CHANGES, f"repair {IMAGE} --sides"),
     command(CHANGES, f"make {IMAGE} ADDRESS --length 40"),
     command(CHANGES, f"store {IMAGE} NOTES {RECORDS}"),
-    command(CHANGES, f"store {IMAGE} NOTES {RECORDS} --fields"),
+    command(CHANGES, f"store {IMAGE} NOTES /dev/stdin --fields", "store --fields", b"1,A,\\.\n"),
     command(CHANGES, f"store {IMAGE} NOTES {RECORDS} --at 1,9"),
     command(CHANGES, f"store {IMAGE} NOTES /dev/stdin", "store -", b"1,A\n"),
     command(CHANGES, f"put {IMAGE} LINES {RECORDS} --type seq"),
