@@ -10,6 +10,7 @@ A FAULT is one of these; files are told by their names:
 - `input-fails`: standard input fails behind its last byte (ETIMEDOUT); `input-in N`: it comes N bytes at a time, behind an interrupted
   call; `input-not-ready N`: its Nth read finds nothing yet (EAGAIN); `unreadable`: each read of *.d64 fails (EIO)
 - `others unknown`: no lock is known (EOPNOTSUPP); `shared N`: the Nth lock that isn't for one program alone
+- `longest N`: a file may have so many bytes (`ulimit -f`)
 - `gone N`, `other N`, `cut N`: before the Nth look at the name of *.d64 the file goes to *.d64-elsewhere, and another of its bytes comes, or
   half of its bytes go; `unseen N`: that look finds nothing (ENOENT); `log-gone N`: before its Nth sync *.d64-log goes
 
@@ -21,8 +22,10 @@ import errno
 import fcntl
 import os
 import re
+import resource
 import select
 import shutil
+import signal
 import socket
 import struct
 import sys
@@ -166,6 +169,9 @@ def main(words):
     child = os.fork()
     if not child:
         LIBC.prctl(END_WITH_PARENT, 9, 0, 0, 0)
+        for most in (int(it.partition(" ")[2]) for it in words[1:cut] if it.startswith("longest ")):
+            resource.setrlimit(resource.RLIMIT_FSIZE, (most, most))
+            signal.signal(signal.SIGXFSZ, signal.SIG_DFL)
         socket.send_fds(theirs, [b"."], [watched()])
         os.execv(words[cut + 1], words[cut + 2 :])
     faults = Faults(words[1:cut])

@@ -11,22 +11,29 @@ is calculated by `shop_rule.py`. It tries:
   room is left for a new one, `serve` ends with `DEVICE`, and every answered line is in the shop.
 - `copy`, `format --new`, `new` and `extract` without room: `FILE`, status 3, and nothing is left. With room they work.
 - A folder that can't be written, with a log and without one: words that read work, words that write report `FILE` and change nothing.
+- Each command with limits on the length of a file (`ulimit -f`), its output and standard error in files, too: no signal ends it. It ends
+  as without a limit, or with `FILE`, or `DEVICE` where a change has no log, and each file is as it was, or as the command leaves it.
 
 The status is 1 at the first difference; the last line says how much was tried."""
 
 import os
 import random
+import resource
 import shutil
+import signal
 import subprocess
 import sys
 import tempfile
 from pathlib import Path
 
+from commands import CHANGES, COMMANDS, scene
 from days import day
 from served import Served, run, script, sure, want
 from shop_rule import Shop, request_of
 
 PAGE, IMAGE_BYTES, LOG_BYTES = 4096, 174848, 4198400
+# how long a file may be
+LIMITS = (0, 1, 7, 100, 1000, 30_000, 91_648, IMAGE_BYTES - 1, IMAGE_BYTES, 200_000, LOG_BYTES - 1, LOG_BYTES)
 TILLS = 8
 INSIDE = "--inside"
 
@@ -165,6 +172,39 @@ class Trial:
             want({it.name: it.read_bytes() for it in disk.folder.iterdir()} == held, "a word has changed a file")
             disk.close()
 
+    def limited_run(self, command, folder, most):
+        """What a run with such a limit leaves: its status, output, standard error, and the files of its folder."""
+        def limit():
+            signal.signal(signal.SIGXFSZ, signal.SIG_DFL)
+            resource.setrlimit(resource.RLIMIT_FSIZE, (most, most))
+
+        scene(self.program, folder)
+        with tempfile.TemporaryFile() as out, tempfile.TemporaryFile() as err:
+            started = subprocess.run([self.program, *command.over()], cwd=folder, input=command.given, stdout=out, stderr=err, preexec_fn=limit)
+            out.seek(0)
+            err.seek(0)
+            return started.returncode, out.read(), err.read(), {it.name: it.read_bytes() for it in sorted(folder.rglob("*")) if it.is_file()}
+
+    def limited(self):
+        """Limits on the length of a file, for each command."""
+        folder = self.room / "limited"
+        folder.mkdir()
+        for command in COMMANDS:
+            scene(self.program, folder)
+            before = {it.name: it.read_bytes() for it in folder.iterdir()}
+            status, out, err, after = self.limited_run(command, folder, resource.RLIM_INFINITY)
+            want(status == 0, f"{command.name}: {status}, {err}")
+            for most in LIMITS:
+                got = self.limited_run(command, folder, most)
+                what = f"{command.name} with at most {most} bytes in a file"
+                is_done = got[:3] == (status, out, err)
+                told = {b"FILE\n"[:most], b"DEVICE\n"[:most] if command.does == CHANGES else b""}
+                want(is_done or got[0] == 3 and got[2] in {b"", *told}, f"{what}: {got[:3]}")
+                want(is_done or len(got[1]) <= most and out.startswith(got[1]), f"{what} prints {got[1]}")
+                for name in {*before, *after, *got[3]} - {"shop.d64-log.new"}:
+                    want(got[3].get(name) in (before.get(name), after.get(name)), f"{what} leaves another {name}")
+                self.tried += 1
+
 
 def main():
     words = [it for it in sys.argv[1:] if it != INSIDE]
@@ -176,7 +216,7 @@ def main():
     with tempfile.TemporaryDirectory() as room:
         trial = Trial(str(Path(words[0]).resolve()), draw, Path(room))
         try:
-            for one in (trial.room_for_part_of_a_log, trial.filled_while_serving, trial.no_room_for_an_image, trial.read_only):
+            for one in (trial.room_for_part_of_a_log, trial.filled_while_serving, trial.no_room_for_an_image, trial.read_only, trial.limited):
                 one()
                 print(f"{one.__doc__} As it has to be", flush=True)
         finally:

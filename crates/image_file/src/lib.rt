@@ -20,6 +20,7 @@ mod streams;
 pub use durability::WritesAt;
 pub use locks::Locks;
 pub use noted::failures::{Failure, Failures};
+pub use noted::limits::LimitedErrors;
 pub use noted::noted_file::NotedFile;
 pub use noted::noted_reader::NotedReader;
 pub use noted::noted_runtime::NotedRuntime;

@@ -11,7 +11,7 @@ use crate::words::command_line;
 use command_faults::CommandFault;
 use disk_layout::Fault;
 use image_edits::do_trim;
-use image_file::{EndedFile, Failure, Failures, Locks, NotedRuntime, Subject};
+use image_file::{EndedFile, Failure, Failures, LimitedErrors, Locks, NotedRuntime, Subject};
 use ledger_jobs::{Job, announce, do_job, explain, files_of, tell_verdict};
 use opened_files::{Refusal, end};
 use std::alloc::{AllocError, Global};
@@ -97,15 +97,34 @@ fn explain_words<E: Write>(fault: &JobFault, err: &mut E) {
     };
 }
 
+/// Prints what `clap` says of the words: help on the output, and why they are refused on standard error.
+fn print_words<R, E>(rt: &R, said: &clap::Error, err: &mut E) -> io::Result<()>
+where
+    R: Files + Print + AllocGlobal,
+    E: Write,
+{
+    let mut text = Vec::new(rt.alloc());
+    write!(text, "{said}")?;
+    if said.use_stderr() {
+        return err.write_all(text.as_slice());
+    }
+    let failures = Failures::none();
+    Print::write_all(&NotedRuntime::new(rt, &[], &failures), text.as_slice())
+}
+
 /// Reports why the words ask for nothing, or prints the help that they ask for, and returns the exit status.
-fn refuse_words<R: Print + Eprint, E: Write>(rt: &R, fault: &JobFault, err: &mut E) -> u8 {
+fn refuse_words<R, E>(rt: &R, fault: &JobFault, err: &mut E) -> u8
+where
+    R: Files + Print + AllocGlobal,
+    E: Write,
+{
     let status = fault.status();
     let ended = match fault {
         // If memory ran out, there may be no text.
         JobFault::Words(_) if status == CommandFault::NoMemory.status() => {
             return end(Err(Refusal::Fault(CommandFault::NoMemory)), err).status;
         }
-        JobFault::Words(error) => error.print(rt),
+        JobFault::Words(error) => print_words(rt, error, err),
         _ => writeln!(err, "{fault}"),
     };
     explain_words(fault, err);
@@ -233,7 +252,7 @@ fn texts_of<'a>(alloc: Global, words: &'a [String]) -> Result<Vec<&'a str>, Allo
 fn obey<F, R, E>(rt: &R, words: &[String], told: Audience, err: &mut E) -> u8
 where
     F: EndedFile + Read + Locks + OpenFile + Drop,
-    R: Files<File = F> + Input + Print + Eprint + AllocGlobal,
+    R: Files<File = F> + Input + Print + AllocGlobal,
     E: Write,
 {
     let texts = match texts_of(rt.alloc(), words) {
@@ -272,14 +291,14 @@ fn words_of<R: Env + AllocGlobal, E: Write>(rt: &R, err: &mut E) -> Result<Vec<S
 }
 
 /// The whole program: does what the words of its command line ask for, and returns its exit status. What it prints goes
-/// to the runtime's output. What it reports goes to `err`, which is the runtime's standard error. Refused words are
-/// reported there in any case. `told` says who reads it.
+/// to the runtime's output. What it reports goes to `err`, which is the runtime's standard error. `told` says who reads it.
 pub fn program<F, R, E>(rt: &R, told: Audience, err: &mut E) -> u8
 where
     F: EndedFile + Read + Locks + OpenFile + Drop,
-    R: Files<File = F> + Env + Input + Print + Eprint + AllocGlobal,
+    R: Files<File = F> + Env + Input + Print + AllocGlobal,
     E: Write,
 {
+    let err = &mut LimitedErrors::new(rt, err);
     match words_of(rt, err) {
         Ok(words) => obey(rt, words.as_slice(), told, err),
         Err(status) => status,

@@ -13,6 +13,8 @@ const UNWRITTEN: &str = "; copy it to another medium, check the copy, and go on 
 
 const FULL: &str = "; make room there, and go on";
 
+const LIMITED: &str = "; raise it, and go on";
+
 const GONE: &str = "its name doesn't lead to the file that was opened, or that has another length";
 
 const LOGGED: &str = "; all replies are in its log, which goes with it (docs/KEEPERS.md, DEVICE)";
@@ -127,6 +129,7 @@ pub(crate) fn tell_device<E: Write>(job: &Job<'_>, cause: Option<Failure<'_>>, e
     };
     match failure.error.kind() {
         ErrorKind::NotFound => tell_failure(err, &failure, logged),
+        ErrorKind::FileTooLarge => tell_failure(err, &failure, LIMITED),
         ErrorKind::StorageFull | ErrorKind::QuotaExceeded => tell_failure(err, &failure, FULL),
         _ => tell_failure(err, &failure, UNWRITTEN),
     }

@@ -1,17 +1,18 @@
 //! Open files that keep why a call of theirs failed.
-ghost use Rattle.std.specs.Prelude.{◌≡◌, IfSome};
+ghost use Rattle.std.specs.Prelude.{◌≡◌, ◌≤◌, IfSome, OnOk};
 ghost use Rattle.d64_image.specs.Places.{index_of};
 
 use crate::durability::WritesAt;
 use crate::locks::Locks;
 use crate::noted::failures::Failures;
+use crate::noted::limits::{SizeLimit, end_of};
 use crate::noted::subjects::Subject;
 use crate::reading::read_image;
 use crate::remaining::EndedFile;
 use d64_image::{Place, SECTORS};
 use std::alloc::Global;
 use std::fs::{Metadata, OpenFile, TryLockError};
-use std::io::{self, Read, Seek, SeekFrom, Write};
+use std::io::{self, Read, Seek, SeekFrom};
 
 /// The sector that an image has at this index, if it has so many.
 fn place_at(index: u64) -> Option<Place>
@@ -24,10 +25,12 @@ fn place_at(index: u64) -> Option<Place>
     }
 }
 
-/// An open file, whose failures are kept. All calls go on to the file, and what they return is handed back as it is.
+/// An open file, whose failures are kept. Calls go on to the file, and what they return is handed back as it is. Only a call
+/// that would make the file longer than the limit of the process isn't made, and fails.
 #[derive(Drop)]
 pub struct NotedFile<'n, 'a, F> {
     file: F,
+    limit: SizeLimit,
     subject: Option<Subject<'a>>,
     failures: &'n Failures<'a>,
 }
@@ -36,11 +39,13 @@ impl<'n, 'a, F> NotedFile<'n, 'a, F> {
     /// This file, which is about that.
     pub(crate) fn new(
         file: F,
+        limit: SizeLimit,
         subject: Option<Subject<'a>>,
         failures: &'n Failures<'a>,
     ) -> NotedFile<'n, 'a, F> {
         NotedFile {
             file,
+            limit,
             subject,
             failures,
         }
@@ -51,6 +56,16 @@ impl<'n, 'a, F> NotedFile<'n, 'a, F> {
         ensures { result ≡ outcome }
     {
         self.failures.noted(self.subject, None, outcome)
+    }
+
+    /// An error, which is kept, if a file that ends after so many bytes is longer than the limit.
+    fn see_end(&self, end: u64) -> io::Result<()>
+        ensures { OnOk result (end ≤ self.now.limit.most) }
+    {
+        match self.limit.see_end(end) {
+            Ok(()) => Ok(()),
+            limited => self.noted(limited),
+        }
     }
 
     /// What came of writing so many bytes from a place on, kept if it failed.
@@ -80,22 +95,24 @@ impl<F: Read> Read for NotedFile<'_, '_, F> {
     }
 }
 
-impl<F: Write> Write for NotedFile<'_, '_, F> {
-    fn write(&mut self, buf: &[u8]) -> io::Result<usize> {
-        let outcome = self.file.write(buf);
-        self.noted(outcome)
-    }
-
-    fn flush(&mut self) -> io::Result<()> {
-        let outcome = self.file.flush();
-        self.noted(outcome)
-    }
-}
-
 impl<F: Seek> Seek for NotedFile<'_, '_, F> {
     fn seek(&mut self, to: SeekFrom) -> io::Result<u64> {
         let outcome = self.file.seek(to);
         self.noted(outcome)
+    }
+}
+
+impl<F: OpenFile> NotedFile<'_, '_, F> {
+    /// An error, which is kept, if it is the file of a word and longer than the limit, so that some of its bytes can't be
+    /// written.
+    pub(crate) fn see_length(&self) -> io::Result<()> {
+        match self.subject {
+            Some(Subject::File(_)) if self.limit.is_set() => {
+                let length = self.metadata()?.len();
+                self.see_end(length)
+            }
+            _ => Ok(()),
+        }
     }
 }
 
@@ -105,6 +122,7 @@ impl<F: OpenFile> OpenFile for NotedFile<'_, '_, F> {
     }
 
     fn set_len(&self, size: u64) -> io::Result<()> {
+        self.see_end(size)?;
         self.noted(self.file.set_len(size))
     }
 
@@ -119,11 +137,13 @@ impl<F: OpenFile> OpenFile for NotedFile<'_, '_, F> {
 
 impl<F: EndedFile> EndedFile for NotedFile<'_, '_, F> {
     fn put_over(&mut self, bytes: &[u8], at: u64) -> io::Result<()> {
+        self.see_end(end_of(bytes, at))?;
         let outcome = self.file.put_over(bytes, at);
         self.noted_at(bytes.len(), at, outcome)
     }
 
     fn end_at(&mut self, bytes: u64) -> io::Result<()> {
+        self.see_end(bytes)?;
         let outcome = self.file.end_at(bytes);
         self.noted(outcome)
     }
@@ -151,6 +171,7 @@ impl<F: WritesAt> WritesAt for NotedFile<'_, '_, F> {
     // In line, as all on the way to the file is: a return right after a call of the system is dear.
     #[inline(always)]
     fn write_all_at(&mut self, bytes: &[u8], at: u64) -> io::Result<()> {
+        self.see_end(end_of(bytes, at))?;
         let outcome = self.file.write_all_at(bytes, at);
         self.noted_at(bytes.len(), at, outcome)
     }

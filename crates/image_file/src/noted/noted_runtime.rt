@@ -2,6 +2,7 @@
 ghost use Rattle.std.specs.Prelude.{◌≡◌};
 
 use crate::noted::failures::Failures;
+use crate::noted::limits::{OUTPUT, SizeLimit, StreamRoom};
 use crate::noted::noted_file::NotedFile;
 use crate::noted::noted_reader::NotedReader;
 use crate::noted::subjects::Subject;
@@ -10,16 +11,20 @@ use std::alloc::{Allocator, Global};
 use std::fmt::Display;
 use std::fs::Metadata;
 use std::io::{self, BufRead, Lines};
+use std::rt::Files;
 
-/// A runtime that hands all calls on to another, and keeps those that fail.
+/// A runtime that hands calls on to another, and keeps those that fail. A call that would make a file, or that of standard
+/// output, longer than the limit of the process isn't made, and fails.
 #[derive(Drop)]
 pub struct NotedRuntime<'n, 'a, R> {
     rt: &'n R,
     words: &'n [&'a str],
     failures: &'n Failures<'a>,
+    limit: SizeLimit,
+    output: StreamRoom,
 }
 
-impl<'n, 'a, R> NotedRuntime<'n, 'a, R> {
+impl<'n, 'a, R: Files> NotedRuntime<'n, 'a, R> {
     /// A runtime over this one, for a job whose files these words name. The failures of a job without such words aren't
     /// kept, except those of its input and output.
     pub fn new(
@@ -27,13 +32,18 @@ impl<'n, 'a, R> NotedRuntime<'n, 'a, R> {
         words: &'n [&'a str],
         failures: &'n Failures<'a>,
     ) -> NotedRuntime<'n, 'a, R> {
+        let limit = SizeLimit::of_process();
         NotedRuntime {
             rt,
             words,
             failures,
+            limit,
+            output: StreamRoom::of(rt, limit, OUTPUT),
         }
     }
+}
 
+impl<'n, 'a, R> NotedRuntime<'n, 'a, R> {
     /// What came of a call about a path, kept if it failed.
     fn noted<T: Drop>(&self, path: &str, outcome: io::Result<T>) -> io::Result<T>
         ensures { result ≡ outcome }
@@ -53,7 +63,7 @@ impl<'n, 'a, R> NotedRuntime<'n, 'a, R> {
     ) -> io::Result<NotedFile<'n, 'a, F>> {
         let subject = Subject::of(self.words, path);
         let file = self.failures.noted(subject, None, outcome)?;
-        Ok(NotedFile::new(file, subject, self.failures))
+        Ok(NotedFile::new(file, self.limit, subject, self.failures))
     }
 
     /// What came of printing, kept if it failed.
@@ -101,7 +111,9 @@ impl<'n, 'a, R: HostFiles> HostFiles for NotedRuntime<'n, 'a, R> {
     }
 
     fn open_to_change(&self, path: &str) -> io::Result<NotedFile<'n, 'a, R::File>> {
-        self.opened(path, self.rt.open_to_change(path))
+        let file = self.opened(path, self.rt.open_to_change(path))?;
+        file.see_length()?;
+        Ok(file)
     }
 
     fn open_to_write(&self, path: &str) -> io::Result<NotedFile<'n, 'a, R::File>> {
@@ -163,10 +175,16 @@ impl<R: Print> Print for NotedRuntime<'_, '_, R> {
     }
 
     fn write_all(&self, bytes: &[u8]) -> io::Result<()> {
-        self.printed(Print::write_all(self.rt, bytes))
+        self.printed(match self.output.take(bytes) {
+            Ok(()) => Print::write_all(self.rt, bytes),
+            limited => limited,
+        })
     }
 
     fn write_some(&self, bytes: &[u8]) -> io::Result<usize> {
-        self.printed(self.rt.write_some(bytes))
+        self.printed(match self.output.take(bytes) {
+            Ok(()) => self.rt.write_some(bytes),
+            Err(limited) => Err(limited),
+        })
     }
 }
