@@ -1,5 +1,5 @@
 -- Files that are made in a folder: their names, and what the folder holds then. Our own.
-use Rattle.std.specs.Prelude.{◌≡◌, ◌≢◌, ◌⊎◌, ◌≤◌, ⊤, ℕ, List, [], ◌∷◌, ◌++◌, Contains, None, Option, Some, codes, length, take}
+use Rattle.std.specs.Prelude.{◌≡◌, ◌≢◌, ◌⊎◌, ◌≤◌, ⊤, ℕ, List, [], ◌∷◌, ◌++◌, Contains, None, Option, Some, codes, length, slice_get, take}
 
 -- a file: its name, and its bytes
 pub record NewFile : Type 0 where
@@ -19,6 +19,11 @@ pub record StaysInside (name : List ℕ) : Type 0 where
   pub no_zero : ¬ (Contains name 0)
   pub not_here : name ≢ codes "."
   pub not_above : name ≢ codes ".."
+
+-- none of the files that a folder got has this name, if they are known
+abbrev pub LacksName : Option (List NewFile) → (name : List ℕ) → Type 0
+LacksName None name = ⊤
+LacksName (Some had) name = (k : ℕ) (file : NewFile) → slice_get had k ≡ Some file → file.name ≢ name
 
 -- a folder of which it is known that it got the files `old` got these after them, and no other
 abbrev pub AddsFiles : Option (List NewFile) → Option (List NewFile) → List NewFile → Type 0

@@ -1,6 +1,6 @@
 //! Folders in which files are made.
 ghost use Rattle.std.specs.Prelude.{None, OnErr, OnOk, Option, List, [], ◌∷◌};
-ghost use Rattle.keeper_commands.specs.rescue.Folders.{AddsFiles, AddsPart, NewFile, StaysInside, new_file};
+ghost use Rattle.keeper_commands.specs.rescue.Folders.{AddsFiles, AddsPart, LacksName, NewFile, StaysInside, new_file};
 
 use std::io;
 
@@ -14,6 +14,7 @@ pub trait NewFolder {
     /// error. At any error the file may be there with a beginning of its bytes.
     fn make(&mut self, name: &[u8], bytes: &[u8]) -> io::Result<()>
         requires inside { StaysInside name.now }
+        ensures free { OnOk result (LacksName (files self.old) name.now) }
         ensures made { OnOk result (AddsFiles (files self.old) (files self.new) (new_file name.now bytes.now ∷ [])) }
         ensures part { OnErr result (AddsPart (files self.old) (files self.new) (new_file name.now bytes.now ∷ [])) };
 }

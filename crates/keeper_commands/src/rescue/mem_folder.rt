@@ -1,6 +1,7 @@
 //! A folder in memory.
-ghost use Rattle.std.specs.Prelude.{◌≡◌, IfOk, Some};
+ghost use Rattle.std.specs.Prelude.{◌≡◌, ◌↔◌, IfOk, IsTrue, Some, slice_get, vec_items, ℕ};
 ghost use Rattle.keeper_commands.specs.rescue.Folders.{new_file};
+ghost use Rattle.keeper_commands.specs.declared.rescue.mem_folder.MemFile.{MemFile};
 ghost use Rattle.keeper_commands.specs.rescue.Memory.{file_in};
 
 use crate::rescue::folders::NewFolder;
@@ -42,16 +43,19 @@ impl MemFolder {
     {
         self.files.as_slice()
     }
+}
 
-    /// Whether a file has this name.
-    fn has(&self, name: &[u8]) -> bool {
-        for file in self.files.as_slice() {
-            if file.name.as_slice() == name {
-                return true;
-            }
+/// Whether one of these files has this name.
+fn has(files: &[MemFile], name: &[u8]) -> bool
+    ensures { IsTrue result ↔ ((k : ℕ) × (file : MemFile) × (slice_get files.now k ≡ Some file)
+        × (vec_items file.name ≡ name.now)) }
+{
+    for file in files {
+        if file.name.as_slice() == name {
+            return true;
         }
-        false
     }
+    false
 }
 
 /// A file of this name with these bytes. `OutOfMemory` if memory is refused.
@@ -69,7 +73,7 @@ impl NewFolder for MemFolder {
     ghost files = { λ folder. Some (files_in folder) };
 
     fn make(&mut self, name: &[u8], bytes: &[u8]) -> io::Result<()> {
-        if self.has(name) {
+        if has(self.files.as_slice(), name) {
             return Err(io::ErrorKind::AlreadyExists.into());
         }
         let file = file_of(self.alloc, name, bytes)?;

@@ -1,10 +1,13 @@
 -- Files added one after another.
 use Rattle.std.proofs.Common.{◌≡◌, ◌++◌, ◌∷◌, List, [], Option, Some, None, Ok, Err, Bool, true, not, inl, inr, ap, append_assoc, refl, subst, sym, take, ◌∙◌}
 use Rattle.std.proofs.lemmas.List.{append-nil}
-use Rattle.std.specs.Prelude.{OnErr, Result, if◌then◌else◌, map}
+use Rattle.std.proofs.lemmas.Bool.{false≢true}
+use Rattle.std.proofs.lemmas.Option.{slice_get-map}
+use Rattle.std.proofs.lemmas.Slice.Eq.{bytes_eq-Decides}
+use Rattle.std.specs.Prelude.{◌≢◌, ℕ, IsTrue, OnErr, Result, bytes_eq, false, if◌then◌else◌, map, option_map, slice_get}
 use Rattle.keeper_commands.specs.rescue.Memory.{file_in}
 use Rattle.keeper_commands.specs.declared.rescue.mem_folder.MemFile.{MemFile}
-use Rattle.keeper_commands.specs.rescue.Folders.{AddsFiles, AddsPart, BeginsNext, IsPartOf, NewFile, new_file}
+use Rattle.keeper_commands.specs.rescue.Folders.{AddsFiles, AddsPart, BeginsNext, IsPartOf, LacksName, NewFile, new_file}
 
 pub adds-none : (a : Option (List NewFile)) → AddsFiles a a []
 adds-none None = tt
@@ -96,3 +99,33 @@ not-pushed ok err new more old x failed is now =
     let same : new ≡ old = now ∙ ap (λ (b : Bool). if b then more else old) (is ∙ ap not failed) in
     subst (λ (fs : List MemFile). AddsPart (Some (map file_in old)) (Some (map file_in fs)) (x ∷ [])) (sym same)
     (none-added (Some (map file_in old)) (x ∷ []))
+
+-- a file has a name that was compared with it
+pub is-named : (file : MemFile) (slice name : List ℕ) (same : Bool) → slice ≡ file.name.items → same ≡ bytes_eq slice name
+    → same ≡ true → file.name.items ≡ name
+is-named file slice name same is compared on = sym is ∙ (bytes_eq-Decides slice name).0 (sym compared ∙ on)
+
+same-file : (files : List MemFile) (n : ℕ) (f g : MemFile) → slice_get files n ≡ Some f → slice_get files n ≡ Some g → f ≡ g
+same-file files n f g at to = cc
+
+-- or hasn't it
+pub not-named : (files : List MemFile) (n : ℕ) (file : MemFile) (slice name : List ℕ) (same : Bool) → slice ≡ file.name.items
+    → same ≡ bytes_eq slice name → same ≡ false → slice_get files n ≡ Some file → (other : MemFile)
+    → slice_get files n ≡ Some other → other.name.items ≢ name
+not-named files n file slice name same is compared off there other at named =
+    let one : file ≡ other = same-file files n file other there at in
+    false≢true (sym off ∙ compared ∙ (bytes_eq-Decides slice name).1
+    (is ∙ ap (λ (f : MemFile). f.name.items) one ∙ named))
+
+of-mapped : (o : Option MemFile) (file : NewFile) → option_map file_in o ≡ Some file
+    → (f : MemFile) × (o ≡ Some f) × (f.name.items ≡ file.name)
+of-mapped (Some f) file is = (f, refl, cc)
+of-mapped None file is = cc
+
+-- so no file of the folder has it
+pub lacks : (files : List MemFile) (name : List ℕ) (had : Bool) → had ≡ false
+    → ((k : ℕ) × (file : MemFile) × (slice_get files k ≡ Some file) × (file.name.items ≡ name) → IsTrue had)
+    → LacksName (Some (map file_in files)) name
+lacks files name had off has k file at named =
+    let x = of-mapped (slice_get files k) file (sym (slice_get-map file_in files k) ∙ at) in
+    false≢true (sym off ∙ has (k, x.0, x.1, x.2 ∙ named))

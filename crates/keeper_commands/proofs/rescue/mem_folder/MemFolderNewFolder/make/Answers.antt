@@ -1,6 +1,6 @@
 -- The folder has what it had, or one file more.
-use Rattle.std.proofs.Common.{Some, [], ◌∷◌}
-use Rattle.keeper_commands.proofs.lemmas.rescue.Parts.{none-added, not-pushed, on-err}
+use Rattle.std.proofs.Common.{Some, sym, [], ◌∷◌}
+use Rattle.keeper_commands.proofs.lemmas.rescue.Parts.{lacks, none-added, not-pushed, on-err}
 use Rattle.keeper_commands.specs.rescue.Folders.{new_file}
 use Rattle.keeper_commands.specs.rescue.Memory.{files_in}
 use Rattle.keeper_commands.proofs.rescue.mem_folder.MemFolderNewFolder.make.Goals as goal
@@ -18,3 +18,7 @@ pub returns-then-is_err-clause-part : goal.returns-then-is_err-clause-part
 returns-then-is_err-clause-part c =
     not-pushed _ _ _ _ c.args.self.now.files.items (new_file c.args.name.now c.args.bytes.now) c.if-is_err.true
     c.is_err.ensures.negation c.push.ensures.items
+
+pub returns-clause-free : goal.returns-clause-free
+returns-clause-free c =
+    lacks c.args.self.now.files.items c.args.name.now c.has.result c.if-has.false (rw (sym c.as_slice.ensures.value) c.has.ensures.1)
