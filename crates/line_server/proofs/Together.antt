@@ -20,9 +20,6 @@ pub record HasLines (old now : Option (List ℕ)) (kept : List (List ℕ)) : Typ
   pub read : Consumes old now handled
   pub same : AreSame kept (lines handled)
 
-pub no_lines : (old : Option (List ℕ)) → HasLines old old []
-no_lines old = record { handled = []; whole = inl refl; read = Consumes-nil old; same = refl }
-
 -- one line more, and a look behind it that takes nothing
 pub line_more : (old now new seen : Option (List ℕ)) (kept : List (List ℕ)) (raw line : List ℕ)
     → HasLines old now kept → LacksLf raw → request_of line ≡ request_of (without_cr raw)

@@ -1,16 +1,14 @@
--- An image that is made and said to be, by how its two steps ended.
-use Rattle.std.proofs.Common.{◌≡◌, ◌≤◌, ◌⊎◌, ◌∙◌, ℕ, List, Option, Result, Ok, Err, ap, inl, inr, refl, subst, sym}
-use Rattle.std.specs.Prelude.{IfErr, OnOk, codes}
-use Rattle.std.specs.Io.KnownBytes.{Appends}
+-- An image that is written over a file, by how that ended.
+use Rattle.std.proofs.Common.{◌≡◌, ◌≤◌, ◌⊎◌, ◌∙◌, ℕ, List, Result, Ok, Err, ap, inl, inr, refl, subst, sym}
+use Rattle.std.specs.Prelude.{OnOk}
 use Rattle.d64_image.specs.Chunks.{sectors_in-bytes_of}
 use Rattle.d64_image.specs.Images.{Image}
 use Rattle.d64_image.specs.Memory.{sectors_in}
 use Rattle.disk_layout.proofs.lemmas.blank.BlankWhole.{blank-files-whole}
 use Rattle.disk_layout.specs.Whole.{IsWhole}
-use Rattle.line_text.specs.Handed.{AppendsPart}
 use Rattle.image_file.specs.Remains.{Remains}
 use Rattle.image_file.specs.Replacing.{IsNoDisk, IsReplaced, Since}
-use Rattle.shop_commands.specs.Images.{AreFreshBytes, IsFormatted, IsHandedOver, IsHandedPart, IsUncut, IsWritten}
+use Rattle.shop_commands.specs.Images.{AreFreshBytes, IsHandedOver, IsHandedPart, IsUncut, IsWritten}
 use Rattle.command_faults.specs.declared.faults.CommandFault.{CommandFault}
 use Rattle.command_faults.specs.declared.faults.CommandFault.TheVariants as faults
 
@@ -71,41 +69,3 @@ written_part into tills file new_file bytes some few fresh put is =
       remain = is.remain;
       uncut = uncut into tills file new_file bytes some few fresh is.remain;
     }
-
--- the image wasn't written whole, and nothing was said
-pub not_written : {F W : Type 0} (into : Remains F) (contents : W → Option (List ℕ)) (tills : ℕ)
-    (file new_file : F) (out : W) (result : Result Unit CommandFault) (fault : CommandFault) → result ≡ Err fault
-    → IsWritten into tills file new_file (Err fault) → IsFormatted into contents tills file new_file out out result
-not_written {F} {W} into contents tills file new_file out result fault told is =
-    subst (IsFormatted into contents tills file new_file out out) (sym told) (so fault is)
-  where
-    so : (f : CommandFault) → IsWritten into tills file new_file (Err f)
-        → IsFormatted into contents tills file new_file out out (Err f)
-    so faults.File part = inl (part, refl)
-    so faults.NoMemory same = (same, refl)
-    so faults.ImageSize never = absurd never
-    so (faults.Layout why) never = absurd never
-    so faults.NoFile never = absurd never
-    so faults.FileExists never = absurd never
-    so faults.DiskFull never = absurd never
-    so faults.Locked never = absurd never
-    so faults.NoStock never = absurd never
-    so faults.NoRequests never = absurd never
-    so (faults.BadCard item) never = absurd never
-    so (faults.BadRequestCard till) never = absurd never
-    so faults.TwoIntents never = absurd never
-    so (faults.ScriptLine line) never = absurd never
-    so (faults.RecordsLine line) never = absurd never
-    so faults.Geos never = absurd never
-    so faults.Format never = absurd never
-    so faults.Device never = absurd never
-
--- it was, and that was said, or a part of it
-pub formatted : {F W : Type 0} (into : Remains F) (contents : W → Option (List ℕ)) (tills : ℕ)
-    (file new_file : F) (old new : W) → IsHandedOver into tills file new_file → (result : Result Unit CommandFault)
-    → OnOk result (Appends (contents old) (contents new) (codes "FORMATTED\n"))
-    → IfErr result (λ fault. (fault ≡ faults.File) × AppendsPart (contents old) (contents new) (codes "FORMATTED\n"))
-    → IsFormatted into contents tills file new_file old new result
-formatted into contents tills file new_file old new made (Ok _) said part = (made, said)
-formatted into contents tills file new_file old new made (Err fault) said part =
-    subst (λ f. IsFormatted into contents tills file new_file old new (Err f)) (sym part.0) (inr (made, part.1))

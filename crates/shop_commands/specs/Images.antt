@@ -1,12 +1,10 @@
 -- What making a shop's image comes to. The names of a fresh disk are our own.
-use Rattle.std.specs.Prelude.{◌≡◌, ◌⊎◌, ℕ, List, Option, Some, Err, Ok, Result, codes, length, slice_index}
-use Rattle.std.specs.Io.KnownBytes.{Appends}
+use Rattle.std.specs.Prelude.{◌≡◌, ◌⊎◌, ℕ, List, Some, Err, Ok, Result, codes, length, slice_index}
 use Rattle.d64_image.specs.Images.{Image, IsImage, sector}
 use Rattle.d64_image.specs.Memory.{bytes_of, sectors_in}
 use Rattle.d64_image.specs.declared.place.Place.{Place}
 use Rattle.disk_layout.specs.Blank.{IsBlank}
 use Rattle.disk_layout.specs.Whole.{IsWhole}
-use Rattle.line_text.specs.Handed.{AppendsPart}
 use Rattle.image_file.specs.Remains.{Remains}
 use Rattle.image_file.specs.Replacing.{IsNoDisk, NowAll, Since}
 use Rattle.command_faults.specs.declared.faults.CommandFault.{CommandFault}
@@ -59,25 +57,3 @@ IsWritten r tills old new (Ok _) = IsHandedOver r tills old new
 IsWritten r tills old new (Err faults.File) = IsHandedPart r tills old new
 IsWritten r tills old new (Err faults.NoMemory) = new ≡ old
 IsWritten r tills old new (Err _) = ⊥
-
--- the file or the output failed: the file was handed a part of the image, and nothing was printed; or it was handed all
--- of it, and a part of the message was printed
-abbrev pub IsFormattedPart : {F W : Type 0} → Remains F → (W → Option (List ℕ)) → ℕ → F → F → W → W → Type 0
-IsFormattedPart into contents tills file new_file old new =
-    (IsHandedPart into tills file new_file × (new ≡ old))
-    ⊎ (IsHandedOver into tills file new_file × AppendsPart (contents old) (contents new) (codes "FORMATTED\n"))
-
--- what making such an image and printing that came to: the file was handed all of it, and the message was printed; or in
--- part; or there was no memory, and nothing was done
-abbrev pub IsFormatted : {F W : Type 0} → Remains F → (W → Option (List ℕ)) → ℕ → F → F → W → W
-    → Result Unit CommandFault → Type 0
-IsFormatted into contents tills file new_file old new (Ok _) =
-    IsHandedOver into tills file new_file × Appends (contents old) (contents new) (codes "FORMATTED\n")
-IsFormatted into contents tills file new_file old new (Err faults.File) =
-    IsFormattedPart into contents tills file new_file old new
-IsFormatted into contents tills file new_file old new (Err faults.NoMemory) = (new_file ≡ file) × (new ≡ old)
-IsFormatted into contents tills file new_file old new (Err _) = ⊥
-
--- why no disk is made: the file or the output, or memory
-abbrev pub IsFormatFault : CommandFault → Type 0
-IsFormatFault fault = (fault ≡ faults.File) ⊎ (fault ≡ faults.NoMemory)

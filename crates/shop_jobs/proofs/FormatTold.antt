@@ -4,24 +4,13 @@ use Rattle.std.specs.Prelude.{IsErr, codes}
 use Rattle.command_faults.specs.declared.faults.CommandFault.{CommandFault}
 use Rattle.command_faults.specs.declared.faults.CommandFault.TheVariants as faults
 use Rattle.d64_image.specs.Images.{Image}
-use Rattle.shop_commands.specs.Images.{IsFormatted, IsFreshDisk}
-use Rattle.image_file.specs.Remains.{Remains}
+use Rattle.shop_commands.specs.Images.{IsFreshDisk}
 use Rattle.opened_files.specs.Ends.{JobEnd}
 use Rattle.opened_files.specs.Makings.{IsMakingEnd, IsMakingTold}
 use Rattle.shop_jobs.specs.Formats.{KeepsOrGivesFresh}
 use Rattle.shop_log.specs.life.Folders.{FolderHistory, LeavesFolders}
 use Rattle.shop_log.specs.life.Replacing.{KeepsOrGives}
 use Rattle.shop_log.proofs.lemmas.life.Steps.{weaker}
-
-module _ {F W : Type 0} (contents : W → Option (List ℕ)) (file after : F) (old new : W) (r : Remains F) where
-  pub format-told : (tills : ℕ) (ended : Result Unit CommandFault)
-      → IsFormatted r contents tills file after old new ended
-      → IsMakingTold contents (codes "FORMATTED\n") old new ended
-  format-told tills (Ok _) (over, printed) = printed
-  format-told tills (Err faults.File) (inl (part, quiet)) = inl quiet
-  format-told tills (Err faults.File) (inr (over, part)) = inr part
-  format-told tills (Err faults.NoMemory) (same, quiet) = quiet
-  format-told tills (Err _) none = absurd none
 
 -- before anything is done
 pub not-begun : {W : Type 0} (contents : W → Option (List ℕ)) (w : W) (end : JobEnd) → IsErr end

@@ -4,24 +4,26 @@ ghost use Rattle.d64_image.specs.Images.{Image};
 ghost use Rattle.command_faults.specs.declared.faults.CommandFault.TheVariants as faults;
 ghost use Rattle.opened_files.specs.Makings.{IsMakingEnd, IsMakingTold};
 ghost use Rattle.opened_files.specs.Rights.{MayChangeImage, MayMakeImage};
-ghost use Rattle.image_file.specs.paths.Rights.{MayWrite};
+ghost use Rattle.image_file.specs.paths.Rights.{Look, May};
 ghost use Rattle.shop_commands.specs.Images.{IsFreshDisk};
 ghost use Rattle.shop_jobs.specs.Formats.{KeepsOrGivesFresh};
+ghost use Rattle.shop_log.specs.life.LogRights.{MayReadLog};
 ghost use Rattle.shop_log.specs.life.Bringing.{RestsAlone, RestsWith};
 ghost use Rattle.shop_log.specs.life.Folders.{LeavesFolders};
 
 use command_faults::CommandFault;
 use d64_image::IMAGE_BYTES;
 use disk_layout::Fault;
-use image_file::{EndedFile, HostFiles, Locks, OverwrittenFile};
-use opened_files::{AtPath, Refusal, opened_alone, over_end, run_end, see_size, size_of, told};
-use shop_commands::{format_image, fresh_disk, put_whole};
+use image_file::{EndedFile, HostFiles, Identity, Locks, regular_at};
+use opened_files::{Refusal, make_image_again, opened_alone, run_end, see_size, told};
+use shop_commands::{fresh_disk, put_whole, write_image};
 use shop_log::{
-    ImageFolder, LogFile, LogFolder, LogNames, LogRoom, find_log, image_room, sectors_of, supersede,
+    ImageFolder, LogFile, LogFolder, LogNames, LogRoom, find_log, forget_log, image_room,
+    sectors_of, supersede, sync_names,
 };
 use std::alloc::Global;
 use std::fs::OpenFile;
-use std::io::Write;
+use std::io::{self, ErrorKind, Write};
 
 /// Puts the disk of an empty shop in the place of all that a folder has. The only errors are `NoMemory`, and then nothing
 /// was done, and `File`, if the folder failed.
@@ -78,9 +80,9 @@ pub fn format_folder<F: LogFile, D: LogFolder<F>, W: Write>(
     put_whole(out, b"FORMATTED\n")
 }
 
-/// The image's file at a path, which this program has alone, and the names of its log. `ImageSize` if it has another size;
-/// `File` also if something else than a log stands in the place of its log.
-fn image_to_replace<F, R>(rt: &R, path: &str) -> Result<(LogNames, F), Refusal>
+/// The file at a path, which this program has alone, the names of its log, and that log, if there is one. `File` also if
+/// something else than a log stands in its place.
+fn file_to_replace<F, R>(rt: &R, path: &str) -> Result<(LogNames, Option<Identity>, F), Refusal>
 where
     F: Locks + OpenFile + Drop,
     R: HostFiles<File = F> + AllocGlobal,
@@ -88,13 +90,13 @@ where
     ensures { IfOk result (λ found. R.rights.leads rt.now path.now (string_bytes found.0.image) ≡ true) }
 {
     let file = opened_alone(rt, path)?;
-    see_size(&file)?;
     let names = told(LogNames::of(rt, rt.alloc(), path))?;
-    told(find_log(rt, &names))?;
-    Ok((names, file))
+    let log = told(find_log(rt, &names))?;
+    Ok((names, log, file))
 }
 
-/// Makes the image in the place of the one that stands at a path, and of its log, all or nothing.
+/// Makes the image in the place of the one that stands at a path, and of its log, all or nothing. `ImageSize` if that has
+/// another size by now.
 fn replace_shop<F, R, W>(
     rt: &R,
     path: &str,
@@ -110,27 +112,52 @@ where
     requires few { tills ≤ 64 }
     ensures { IsMakingEnd W.contents (codes "FORMATTED\n") out.old out.new result }
 {
-    let (names, file) = image_to_replace(rt, path)?;
+    let (names, _, file) = file_to_replace(rt, path)?;
+    see_size(&file)?;
     let mut folder = told(ImageFolder::new(rt, &names, file))?;
     run_end(format_folder(rt.alloc(), &mut folder, tills, out))
 }
 
-/// Makes the image at a path, where nothing stands, or over a file that is no image. The log of what is replaced stays until
-/// the image is whole.
-fn make_shop<F, R, W>(rt: &R, path: &str, tills: u8, out: &mut W) -> Result<Option<Fault>, Refusal>
+/// Writes the image over the file at a path, which is no image. The log of what is replaced stays until the image is whole.
+fn overwrite_file<F, R>(rt: &R, path: &str, tills: u8) -> Result<(), Refusal>
 where
     F: EndedFile + Locks + OpenFile + Drop,
     R: HostFiles<File = F> + AllocGlobal,
-    W: Write,
-    requires makes { MayMakeImage R.rights rt.now path.now }
-    requires overwrites { MayWrite R.rights rt.now path.now }
+    requires changes { MayChangeImage R.rights rt.now path.now }
     requires some { 1 ≤ tills }
     requires few { tills ≤ 64 }
-    ensures { IsMakingEnd W.contents (codes "FORMATTED\n") out.old out.new result }
 {
-    let mut file = OverwrittenFile::new(AtPath::new(rt, path));
-    let made = format_image(rt.alloc(), tills, &mut file, out);
-    over_end(made, file.given_up().refused())
+    let (names, log, mut file) = file_to_replace(rt, path)?;
+    run_end(write_image(rt.alloc(), tills, &mut file))?;
+    told(sync_names(rt, &names))?;
+    told(forget_log(rt, &names, log))
+}
+
+/// Makes the image at a path where nothing stands.
+fn make_shop<F, R>(rt: &R, path: &str, tills: u8) -> Result<(), Refusal>
+where
+    F: EndedFile + Locks + OpenFile + Drop,
+    R: HostFiles<File = F> + AllocGlobal,
+    requires makes { MayMakeImage R.rights rt.now path.now }
+    requires log { MayReadLog R.rights rt.now path.now }
+    requires some { 1 ≤ tills }
+    requires few { tills ≤ 64 }
+{
+    match fresh_disk(rt.alloc(), tills) {
+        Ok(disk) => make_image_again(rt, path, disk.bytes()),
+        Err(fault) => Err(Refusal::Fault(fault)),
+    }
+}
+
+/// How long the regular file at a path is; None if nothing stands there. An error if another thing does.
+fn length_at<R: HostFiles>(rt: &R, path: &str) -> io::Result<Option<u64>>
+    requires { May R.rights rt.now Look path.now }
+{
+    match regular_at(rt, path) {
+        Ok(found) => Ok(Some(found.len())),
+        Err(error) if error.kind() == ErrorKind::NotFound => Ok(None),
+        Err(error) => Err(error),
+    }
 }
 
 /// Makes the image at a path. An image that stands there is replaced, with its log, all or nothing.
@@ -150,8 +177,10 @@ where
     requires few { tills ≤ 64 }
     ensures { IsMakingEnd W.contents (codes "FORMATTED\n") out.old out.new result }
 {
-    if size_of(rt, path) == Some(IMAGE_BYTES as u64) {
-        return replace_shop(rt, path, tills, out);
+    match told(length_at(rt, path))? {
+        Some(length) if length == IMAGE_BYTES as u64 => return replace_shop(rt, path, tills, out),
+        Some(_) => overwrite_file(rt, path, tills)?,
+        None => make_shop(rt, path, tills)?,
     }
-    make_shop(rt, path, tills, out)
+    run_end(put_whole(out, b"FORMATTED\n"))
 }

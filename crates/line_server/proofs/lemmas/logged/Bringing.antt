@@ -143,8 +143,3 @@ module _ (first kept now : Image) (marked touched : List Bool)
   brought size all = same_lists kept now (x.size ∙ sym size) (λ k d low.
       read_any kept k d low ∙ each all k (omega (arith, low, x.size))
       ∙ sym (read_any now k d (omega (arith, low, x.size, size))))
-
-  pub untouched_all : first ≡ now → NoneTouched touched
-  untouched_all same j = ⊎_elim (λ none. none)
-      (λ touch. absurd (x.differs j touch (ap (λ (image : Image). slice_index_or image j []) same)))
-      (bool_either (slice_index_or touched j false))

@@ -7,14 +7,6 @@ use Rattle.line_server.specs.logged.Handling.{AreHandled, IsAtRest, IsHandledWel
 use Rattle.line_server.specs.logged.Memory.{Memory}
 use Rattle.line_server.proofs.lemmas.logged.Lines.{after_push, none_first, none_last, replies_push}
 
-pub none_handled : (session : View Memory) → AreHandled session session [] []
-none_handled session = record {
-  told = λ s x. (refl, x);
-  marks = λ s x before covers. covers;
-  files = λ s x whole. whole;
-  quiet = λ s x none. refl;
-}
-
 pub one_more : (old mid new : View Memory) (ls : List (List ℕ)) (line : List ℕ) (rs : List Reply) (r : Reply)
     → AreHandled old mid ls rs → IsHandledWell mid new line r → AreHandled old new (ls ++ line ∷ []) (rs ++ r ∷ [])
 one_more old mid new ls line rs r a b = record {

@@ -22,9 +22,6 @@ module _ {L T : Type 0} (o : LogOutput L T) (log : L) where
   AllTold old new rs = (first : T) (xs : List (Reply × L)) → o.told first old xs
       → o.told first new (xs ++ over_log log rs)
 
-  pub none_told : (x : T) → AllTold x x []
-  none_told x first xs told = subst (o.told first x) (sym (append-nil xs)) told
-
   over_more : (rs : List Reply) (r : Reply) → over_log log (rs ++ r ∷ []) ≡ over_log log rs ++ (r, log) ∷ []
   over_more rs r = map-append (λ q. (q, log)) rs (r ∷ [])
 
