@@ -2,13 +2,18 @@
 ghost use Rattle.std.specs.Prelude.{◌≤◌, ◌<◌, OnErr, OnOk};
 
 use crate::paths::opening::regular;
-use libc::types::rlimit;
 use std::cell::Cell;
-use std::io::{self, ErrorKind, Write};
+use std::fs::File;
+use std::io::{self, ErrorKind, Read, Write};
 use std::rt::Files;
+use std::str;
 
-/// The limit on a file's length, by its number among a Linux system's limits.
-const FILE_LENGTH: i32 = 1;
+/// What a Linux system says of the limits of this process, a line each: a name, the limit that holds, and how far the process
+/// could raise it.
+const LIMITS: &str = "/proc/self/limits";
+
+/// The name of the limit on a file's length, in bytes.
+const FILE_LENGTH: &str = "Max file size";
 
 /// The paths that lead to standard output and standard error.
 pub(crate) const OUTPUT: &str = "/dev/stdout";
@@ -21,16 +26,29 @@ pub(crate) struct SizeLimit {
     pub(crate) most: u64,
 }
 
+/// The number in the line of the limit on a file's length. None if there is no such line, or the limit has no number.
+fn number_in(limits: &str) -> Option<u64> {
+    for line in limits.lines() {
+        if let Some(said) = line.strip_prefix(FILE_LENGTH) {
+            return said.split_whitespace().next()?.parse().ok();
+        }
+    }
+    None
+}
+
+/// The limit on a file's length that the system has for this process. None if there is none, or the system doesn't say.
+fn said_limit<R: Files>(rt: &R) -> Option<u64> {
+    // The line is the second one of some 80 bytes each.
+    let mut room = [0; 512];
+    let read = File::open(rt, LIMITS).ok()?.read(&mut room).ok()?;
+    number_in(str::from_utf8(&room[..read]).ok()?)
+}
+
 impl SizeLimit {
     /// The limit of this process. There is none if the system doesn't say.
-    pub(crate) fn of_process() -> SizeLimit {
-        let mut found = rlimit {
-            rlim_cur: u64::MAX,
-            rlim_max: u64::MAX,
-        };
-        libc::getrlimit(FILE_LENGTH, &mut found);
+    pub(crate) fn of_process<R: Files>(rt: &R) -> SizeLimit {
         SizeLimit {
-            most: found.rlim_cur,
+            most: said_limit(rt).unwrap_or(u64::MAX),
         }
     }
 
@@ -91,26 +109,35 @@ impl StreamRoom {
     }
 }
 
-/// Standard error, of which nothing is written past the limit of the process: that fails.
+/// Standard error, of which nothing is written past the limit of the process: that fails. The limit is asked for before the
+/// first bytes.
 #[derive(Drop)]
-pub struct LimitedErrors<'e, E> {
+pub struct LimitedErrors<'e, R, E> {
+    rt: &'e R,
     err: &'e mut E,
-    room: StreamRoom,
+    room: Option<StreamRoom>,
 }
 
-impl<'e, E> LimitedErrors<'e, E> {
+impl<'e, R, E> LimitedErrors<'e, R, E> {
     /// This writer, which is standard error.
-    pub fn new<R: Files>(rt: &R, err: &'e mut E) -> LimitedErrors<'e, E> {
+    pub fn new(rt: &'e R, err: &'e mut E) -> LimitedErrors<'e, R, E> {
         LimitedErrors {
+            rt,
             err,
-            room: StreamRoom::of(rt, SizeLimit::of_process(), ERRORS),
+            room: None,
         }
     }
 }
 
-impl<E: Write> Write for LimitedErrors<'_, E> {
+impl<R: Files, E: Write> Write for LimitedErrors<'_, R, E> {
     fn write(&mut self, buf: &[u8]) -> io::Result<usize> {
-        self.room.take(buf)?;
+        if self.room.is_none() {
+            let limit = SizeLimit::of_process(self.rt);
+            self.room = Some(StreamRoom::of(self.rt, limit, ERRORS));
+        }
+        if let Some(room) = &self.room {
+            room.take(buf)?;
+        }
         self.err.write(buf)
     }
 

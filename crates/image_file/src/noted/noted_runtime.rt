@@ -32,7 +32,7 @@ impl<'n, 'a, R: Files> NotedRuntime<'n, 'a, R> {
         words: &'n [&'a str],
         failures: &'n Failures<'a>,
     ) -> NotedRuntime<'n, 'a, R> {
-        let limit = SizeLimit::of_process();
+        let limit = SizeLimit::of_process(rt);
         NotedRuntime {
             rt,
             words,
