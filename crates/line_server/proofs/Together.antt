@@ -1,8 +1,8 @@
 -- Lines that are taken of a reader together.
-use Rattle.std.proofs.Common.{◌≡◌, ◌∙◌, ◌≤◌, ℕ, List, [], ◌∷◌, ◌++◌, Option, ap, append-nil, inl, length, map, refl, subst, sym}
+use Rattle.std.proofs.Common.{◌≡◌, ◌∙◌, ◌≤◌, ℕ, List, [], ◌∷◌, ◌++◌, Option, ap, append-nil, length, map, subst, sym}
 use Rattle.std.specs.Prelude.{OnSome}
 use Rattle.std.specs.Io.KnownBytes.{Consumes, IsAtEnd}
-use Rattle.std.proofs.KnownBytes.{Consumes-nil, Consumes-trans}
+use Rattle.std.proofs.KnownBytes.{Consumes-trans}
 use Rattle.std.proofs.lemmas.List.{map-append}
 use Rattle.request_cards.specs.Reading.{request_of}
 use Rattle.line_text.specs.scripts.Lines.{lines, without_cr}

@@ -11,3 +11,7 @@ returns-in_err-names g c = not-begun g.W.Write.contents c.args.out.now c.from_re
 pub returns-in_err-folder : goal.returns-in_err-folder
 returns-in_err-folder g c = not-begun g.W.Write.contents c.args.out.now c.from_residual-in_err-folder.result
     (subst IsErr (sym (err_from_is_err_and c.from_residual-in_err-folder.result c.from_residual-in_err-folder.ensures.1).1) refl)
+
+pub returns-in_err-see_size : goal.returns-in_err-see_size
+returns-in_err-see_size g c = not-begun g.W.Write.contents c.args.out.now c.from_residual-in_err-see_size.result
+    (subst IsErr (sym (err_from_is_err_and c.from_residual-in_err-see_size.result c.from_residual-in_err-see_size.ensures.1).1) refl)
