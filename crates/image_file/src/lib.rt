@@ -6,7 +6,6 @@ mod durability;
 mod locks;
 // Files of a runtime that keep why a call of theirs failed, for the line that a person reads.
 mod noted;
-mod overwritten_file;
 // The files of a host, by their paths: what may be done with each, which are opened, and whether they are still there.
 mod paths;
 mod reading;
@@ -24,7 +23,6 @@ pub use noted::noted_file::NotedFile;
 pub use noted::noted_reader::NotedReader;
 pub use noted::noted_runtime::NotedRuntime;
 pub use noted::subjects::Subject;
-pub use overwritten_file::{OpensFile, OverwrittenFile};
 pub use paths::host::HostFiles;
 pub use paths::names::{FileName, Identity, Stays, leads_to};
 pub use paths::opening::{opened_to_change, opened_to_read, regular, regular_at};

@@ -10,12 +10,13 @@ mod losses;
 mod names;
 mod new_images;
 mod outcomes;
+mod put_images;
 mod readings;
 mod refusals;
 
 pub use asides::Aside;
 pub use endings::{Ending, end, tell};
-pub use files::{AtPath, STANDARD_INPUT, metadata_of, script_to_play, size_of};
+pub use files::{STANDARD_INPUT, metadata_of, script_to_play, size_of};
 pub use image_logs::{
     accept_loss, log_refusal, logged_image, opened_alone, opened_and_landed, opened_shared,
     see_no_lost_log, see_size,
@@ -24,6 +25,7 @@ pub use locks::{read_owned, read_shared, read_synced};
 pub use losses::{Loss, cut_in, loss_refusal, see_log_away, see_untagged};
 pub use names::Name;
 pub use new_images::make_image;
-pub use outcomes::{job_end, over_end, run_end, told};
+pub use outcomes::{job_end, run_end, told};
+pub use put_images::put_image;
 pub use readings::{image_at, image_of_file};
 pub use refusals::Refusal;

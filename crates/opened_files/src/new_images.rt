@@ -12,7 +12,7 @@ use crate::locks::lock_exclusive;
 use crate::outcomes::told;
 use crate::refusals::Refusal;
 use command_faults::CommandFault;
-use image_file::{EndedFile, HostFiles, Locks, private_mode, regular, replace_image};
+use image_file::{EndedFile, HostFiles, Identity, Locks, private_mode, regular, replace_image};
 use shop_log::{LogNames, forget_log};
 use std::fs::{Metadata, OpenFile};
 use std::io;
@@ -53,24 +53,34 @@ where
     Ok(file)
 }
 
-/// Takes a file that was made for this program alone. A log in the making of an image that stood there is removed.
-fn take<F, R>(rt: &R, names: &LogNames, file: &mut F) -> Result<(), Refusal>
-where
-    F: EndedFile + Locks + OpenFile,
-    R: HostFiles<File = F>,
-    requires { MayForget R.rights rt.now (string_bytes names.now.image) }
+/// Takes a file that was opened or made for this program alone.
+pub(crate) fn take<F: EndedFile + Locks + OpenFile>(file: &mut F) -> Result<(), Refusal>
     ensures { F.EndedFile.remains.held file.new ≡ F.EndedFile.remains.held file.old }
 {
     // another thing may stand there by now
     told(regular(OpenFile::metadata(file)))?;
-    lock_exclusive(file)?;
+    lock_exclusive(file)
+}
+
+/// Removes a log in the making of an image that stood there, and sees that there is no log, unless this one was found.
+pub(crate) fn clear<R: HostFiles>(
+    rt: &R,
+    names: &LogNames,
+    log: Option<Identity>,
+) -> Result<(), Refusal>
+    requires { MayForget R.rights rt.now (string_bytes names.now.image) }
+{
+    if log.is_some() {
+        return Ok(());
+    }
     told(forget_log(rt, names, None))
 }
 
-/// Writes an image into a file that was made, and gives that its path.
-fn fill<F, R>(
+/// Writes an image into a file that was made, and gives that its path. This log of what stood there stays.
+pub(crate) fn fill<F, R>(
     aside: &Aside<'_, R>,
     names: &LogNames,
+    log: Option<Identity>,
     file: &mut F,
     image: &[u8],
 ) -> Result<(), Refusal>
@@ -84,7 +94,8 @@ where
     ensures moved { OnOk result (R.traces.moved aside.now.rt.now (aside_of aside.now.path.now aside.now.end.now)
         aside.now.path.now) }
 {
-    take(aside.rt, names, file)?;
+    take(file)?;
+    clear(aside.rt, names, log)?;
     match replace_image(file, image) {
         Ok(()) => told_new(aside.give_path()),
         Err(_) => Err(Refusal::Fault(CommandFault::File)),
@@ -114,7 +125,7 @@ where
     see_no_log(rt, &names)?;
     let aside = told_new(Aside::free(rt, path))?;
     let mut file = told_new(made_file(&aside, like))?;
-    let filled = fill(&aside, &names, &mut file, image);
+    let filled = fill(&aside, &names, None, &mut file, image);
     if filled.is_err() {
         aside.remove_file(&file);
     }

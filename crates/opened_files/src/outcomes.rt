@@ -1,6 +1,6 @@
 //! What came of a call of the system or of a run, as the end of a job.
 ghost use Rattle.std.specs.Prelude.{◌≡◌};
-ghost use Rattle.opened_files.specs.Ends.{IsEndOver, as_job, as_run, told_of};
+ghost use Rattle.opened_files.specs.Ends.{as_job, as_run, told_of};
 
 use crate::refusals::Refusal;
 use command_faults::CommandFault;
@@ -34,19 +34,5 @@ pub fn run_end(ended: Result<(), CommandFault>) -> Result<Option<Fault>, Refusal
     match ended {
         Ok(()) => Ok(None),
         Err(fault) => Err(Refusal::Fault(fault)),
-    }
-}
-
-/// What came of a run over a file that is made, as a job's end. If the file failed since it was refused, the job ends with
-/// that.
-pub fn over_end(
-    ended: Result<(), CommandFault>,
-    refused: Option<Refusal>,
-) -> Result<Option<Fault>, Refusal>
-    ensures { IsEndOver ended result }
-{
-    match (ended, refused) {
-        (Err(CommandFault::File), Some(refusal)) => Err(refusal),
-        (ended, _) => run_end(ended),
     }
 }

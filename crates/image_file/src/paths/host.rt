@@ -60,7 +60,8 @@ pub trait HostFiles {
 
     /// Opens the file at a path to write it; it needn't be readable. It is neither made nor cut.
     fn open_to_write(&self, path: &str) -> io::Result<Self::File>
-        requires { May rights self.now ToWrite path.now };
+        requires { May rights self.now ToWrite path.now }
+        ensures { IfOk result (λ file. traces.opened self.now ToWrite path.now file) };
 
     /// Makes a file at a path, open to be written, with these of the bits of its mode that the host lets a file have.
     /// `AlreadyExists` if anything stands there.
