@@ -1,12 +1,14 @@
 //! Images of a host that are changed at their paths.
-ghost use Rattle.std.specs.Prelude.{◌≡◌, IfOk, IsErr, List, string_bytes, ℕ, ⊤};
+ghost use Rattle.std.specs.Prelude.{◌≡◌, IfOk, IsErr, List, OnOk, length, string_bytes, ℕ, ⊤};
 ghost use Rattle.disk_changes.specs.Changes.{IsChanged, IsFit, IsRefused};
 ghost use Rattle.disk_changes.specs.declared.changes.Changed.{Changed};
 ghost use Rattle.folder_changes.specs.FolderChanges.{IsToldAs};
 ghost use Rattle.shop_log.specs.life.LogRights.{MayKeepLogOf};
 
 use crate::image_changing::change_image;
+use crate::image_replacing::put_image_in;
 use crate::stops::Stop;
+use command_faults::CommandFault;
 use disk_changes::Change;
 use image_file::{EndedFile, HostFiles};
 use shop_log::{ImageFolder, LogNames};
@@ -18,6 +20,10 @@ use std::io::{self, Write};
 pub trait HostImages: HostFiles {
     // of the image of these bytes at a path this was made, and stands there, if the host says that
     ghost changed: { Self → (path image : List ℕ) → Changed → Type 0 } = { λ _ _ _ _. ⊤ };
+
+    // the image of these bytes was put at a path, in the place of the image there and of its log, and stands there, if the host
+    // says that
+    ghost replaced: { Self → (path image : List ℕ) → Type 0 } = { λ _ _ _. ⊤ };
 
     /// Changes the image of these names, whose open file and bytes these are, and prints the change's text. No log is beside
     /// it, and both are synced. Returns what `change_image` does over its folder. The error is that of a file that is no regular
@@ -37,6 +43,19 @@ pub trait HostImages: HostFiles {
             (λ made. IsChanged what.now image.now made × changed self.now (string_bytes names.now.image) image.now made)
             (IsRefused what.now image.now) out.old out.new) }
         ensures quiet { IsErr result → out.new ≡ out.old };
+
+    /// Puts an image in the place of the one of these names, whose open file this is, and of its log. Returns what `put_image_in`
+    /// does over its folder. The error is that of a file that is no regular one, or has a second name: nothing was done.
+    fn replace_at(
+        &self,
+        alloc: Global,
+        names: &LogNames,
+        file: Self::File,
+        image: &[u8],
+    ) -> io::Result<Result<(), CommandFault>>
+        requires log { MayKeepLogOf Self.rights self.now (string_bytes names.now.image) }
+        requires size { length image.now ≡ 174848 }
+        ensures { IfOk result (λ ended. OnOk ended (replaced self.now (string_bytes names.now.image) image.now)) };
 }
 
 impl<R: HostFiles> HostImages for R
@@ -54,5 +73,16 @@ where
     ) -> io::Result<Result<u16, Stop>> {
         let mut folder = ImageFolder::new(self, names, file)?;
         Ok(change_image(alloc, &mut folder, image, what, out))
+    }
+
+    fn replace_at(
+        &self,
+        alloc: Global,
+        names: &LogNames,
+        file: R::File,
+        image: &[u8],
+    ) -> io::Result<Result<(), CommandFault>> {
+        let mut folder = ImageFolder::new(self, names, file)?;
+        Ok(put_image_in(alloc, &mut folder, image))
     }
 }

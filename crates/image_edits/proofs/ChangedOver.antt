@@ -1,8 +1,6 @@
 -- How a job ends that changes an image, from how the change did.
-use Rattle.std.proofs.Common.{◌≡◌, ◌⊎◌, Result, Ok, Err, inl, inr, subst, sym}
-use Rattle.std.specs.Prelude.{IfOk}
-use Rattle.std.specs.declared.io.Error.{Error}
-use Rattle.opened_files.specs.Ends.{JobEnd, told_of}
+use Rattle.std.proofs.Common.{◌≡◌, ◌⊎◌, inl, inr, subst}
+use Rattle.opened_files.specs.Ends.{JobEnd}
 use Rattle.opened_files.specs.HostFiles.{IsUnbegun, RunEnds}
 use Rattle.opened_files.specs.Losses.{IsAwayFault}
 use Rattle.opened_files.specs.declared.losses.Loss.{Loss}
@@ -19,8 +17,3 @@ pub away-as : (Says : Type 0) (asked loss : Loss) (refusal : Refusal) → asked 
     → IsUnbegun refusal ⊎ IsAwayFault asked Says refusal → IsUnbegun refusal ⊎ IsAwayFault loss Says refusal
 away-as Says asked loss refusal same why =
     subst (λ (l : Loss). IsUnbegun refusal ⊎ IsAwayFault l Says refusal) same why
-
--- what holds of what the system gave
-pub told-ok : {T : Type 0} (P : T → Type 0) (taken : Result T Error) (it : T) → IfOk taken P → Ok it ≡ told_of taken → P it
-told-ok {T} P (Ok got) it ok is = subst (λ (r : Result T Refusal). IfOk r P) (sym is) ok
-told-ok {T} P (Err error) it ok is = cc

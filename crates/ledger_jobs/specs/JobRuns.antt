@@ -1,14 +1,14 @@
 -- What each job comes to over the bytes that the host says. Our own.
 use Rattle.std.specs.Borrow.{Bor}
-use Rattle.std.specs.Prelude.{◌≡◌, ℕ, Err, List, Option, Vec, codes, map, vec_items}
+use Rattle.std.specs.Prelude.{◌≡◌, ℕ, Err, List, Option, Vec, map, vec_items}
 use Rattle.std.specs.declared.alloc.Global.{Global}
 use Rattle.command_faults.specs.declared.faults.CommandFault.TheVariants as faults
 use Rattle.disk_changes.specs.declared.changes.Changed.{Changed}
 use Rattle.image_file.specs.Remains.{Remains}
+use Rattle.image_file.specs.declared.durability.WritesAt.{Ghosts}
 use Rattle.image_file.specs.paths.Rights.{Rights}
 use Rattle.image_file.specs.paths.Standing.{Stands}
 use Rattle.image_file.specs.paths.Traces.{Traces}
-use Rattle.opened_files.specs.Makings.{IsMakingEnd}
 use Rattle.opened_files.specs.Ends.{JobEnd}
 use Rattle.opened_files.specs.Names.{name_bytes}
 use Rattle.shop_jobs.specs.Replies.{IsShopAt, IsLoggedService}
@@ -17,17 +17,19 @@ use Rattle.ledger_jobs.specs.declared.jobs.Job.TheVariants as jobs
 use Rattle.opened_files.specs.declared.refusals.Refusal.TheVariants as refusals
 use Rattle.image_looks.specs.LookRuns.{IsLookedAt, IsComparedOver, IsExtractedFrom, AreDrawnOnSheet, AreDescribed, AreOverviewed}
 use Rattle.image_edits.specs.NewDisks.{IsNewDiskEnd}
+use Rattle.shop_jobs.specs.Formats.{IsFormattedEnd}
 use Rattle.shop_jobs.specs.NewShops.{IsNewShopEnd}
 use Rattle.image_edits.specs.EditRuns.{IsSalvagedFrom, IsCopiedFrom, IsEditOver}
 use Rattle.shop_jobs.specs.ServiceEnds.{IsNearEnd}
-use Rattle.shop_jobs.specs.ShopRuns.{IsDryOver, IsPlayedOverFile, IsPlayedOverLog}
+use Rattle.shop_jobs.specs.ShopRuns.{IsDryOver, IsLeftPlayed, IsPlayedOverFile, IsPlayedOverLog}
 
 -- the paths of several words
 abbrev pub paths_of : Vec (Bor (List ℕ)) Global → List (List ℕ)
 paths_of images = map (λ image. image.now) (vec_items images)
 
-module _ {H F W : Type 0} (rights : Rights H) (stands : H → List ℕ → Stands) (traces : Traces H F) (remains : Remains F)
-    (changed : H → (path image : List ℕ) → Changed → Type 0) (contents : W → Option (List ℕ)) (host : H) where
+module _ {H F W : Type 0} (G : Ghosts F) (rights : Rights H) (stands : H → List ℕ → Stands) (traces : Traces H F)
+    (remains : Remains F) (changed : H → (path image : List ℕ) → Changed → Type 0)
+    (replaced : H → (path image : List ℕ) → Type 0) (contents : W → Option (List ℕ)) (host : H) where
   -- a job ended so, over the bytes that the host has at the paths of its words, and left this
   abbrev pub IsJobOver : Job → W → W → JobEnd → Type 0
   IsJobOver (jobs.Look image what) old new end = IsLookedAt rights stands contents host what image.now old new end
@@ -40,12 +42,14 @@ module _ {H F W : Type 0} (rights : Rights H) (stands : H → List ℕ → Stand
   IsJobOver (jobs.Extract choice image folder) old new end = IsExtractedFrom rights stands contents host choice image.now old new end
   IsJobOver (jobs.Change image effect edit) old new end =
       IsEditOver rights stands changed contents host effect image.now edit old new end
-  IsJobOver (jobs.Format image tills) old new end = IsMakingEnd contents (codes "FORMATTED\n") old new end
+  IsJobOver (jobs.Format image tills) old new end =
+      IsFormattedEnd remains traces rights replaced contents host image.now tills old new end
   IsJobOver (jobs.FormatNew image tills) old new end = IsNewShopEnd traces remains contents host image.now tills old new end
   IsJobOver (jobs.New image name id) old new end =
       IsNewDiskEnd traces remains contents host image.now (name_bytes name) id old new end
   IsJobOver (jobs.Play image script loss) old new end = IsNearEnd stands host image.now loss old new end
       × IsPlayedOverFile rights stands contents host image.now script.now old new end
+      × IsLeftPlayed G stands traces host image.now script.now loss old new end
   IsJobOver (jobs.Sheet images) old new end = AreDrawnOnSheet rights stands contents host (paths_of images) old new end
   IsJobOver (jobs.Describe images) old new end = AreDescribed rights stands contents host (paths_of images) old new end
   IsJobOver (jobs.Several what images) old new end = AreOverviewed rights stands contents host what (paths_of images) old new end

@@ -1,15 +1,16 @@
 -- An image that was made at a path, and how its job ends, from what came of each step.
-use Rattle.std.proofs.Common.{◌≡◌, [], ℕ, List, Option, Result, Ok, Err, Some, ap, inl, inr, refl, subst, sym}
+use Rattle.std.proofs.Common.{◌≡◌, [], ℕ, List, Option, Result, Ok, Err, Some, ap, inl, inr, refl, subst, sym, ◌∙◌}
 use Rattle.std.specs.Prelude.{IfErr, IfOk, OnOk}
 use Rattle.std.specs.Io.KnownBytes.{Appends}
+use Rattle.std.specs.declared.io.Error.{Error}
 use Rattle.command_faults.specs.declared.faults.CommandFault.{CommandFault}
 use Rattle.command_faults.specs.declared.faults.CommandFault.TheVariants as faults
 use Rattle.image_file.specs.Remains.{Remains}
 use Rattle.image_file.specs.Replacing.{NowAll}
-use Rattle.image_file.specs.paths.Rights.{Make}
-use Rattle.image_file.specs.paths.Traces.{Traces}
+use Rattle.image_file.specs.paths.Rights.{Make, Write}
+use Rattle.image_file.specs.paths.Traces.{IsWrittenOver, Traces}
 use Rattle.line_text.specs.Handed.{AppendsPart}
-use Rattle.opened_files.specs.Ends.{JobEnd, as_run}
+use Rattle.opened_files.specs.Ends.{JobEnd, as_run, told_of}
 use Rattle.opened_files.specs.Makings.{IsMadeAt, IsNewEnd}
 use Rattle.opened_files.specs.Rights.{aside_of}
 use Rattle.opened_files.specs.declared.refusals.Refusal.{Refusal}
@@ -18,6 +19,31 @@ use Rattle.opened_files.specs.declared.refusals.Refusal.TheVariants as refusals
 -- what holds of the value of a call, if that is Ok
 pub at-ok : {T E : Type 0} (P : T → Type 0) (result : Result T E) (it : T) → IfOk result P → result ≡ Ok it → P it
 at-ok {T} {E} P result it known is = subst (λ (r : Result T E). IfOk r P) is known
+
+-- what holds of what the system gave
+pub told-ok : {T : Type 0} (P : T → Type 0) (taken : Result T Error) (it : T) → IfOk taken P → Ok it ≡ told_of taken → P it
+told-ok {T} P (Ok got) it ok is = subst (λ (r : Result T Refusal). IfOk r P) (sym is) ok
+told-ok {T} P (Err error) it ok is = cc
+
+-- what holds of all ends
+pub on-any : {T E : Type 0} (result : Result T E) (X : Type 0) → X → OnOk result X
+on-any (Ok it) X x = x
+on-any (Err error) X x = tt
+
+-- a file was opened to be written, and written over
+pub written-over : {H F E : Type 0} (remains : Remains F) (traces : Traces H F) (host : H) (path image : List ℕ)
+    (opened file left : F) (ended : Result Unit E) (done : Unit {0}) → traces.opened host Write path opened
+    → remains.held file ≡ remains.held opened → OnOk ended (NowAll remains left (λ s. s ≡ image))
+    → OnOk ended ((all : List ℕ) → remains.held file ≡ Some all → remains.held left ≡ Some image) → ended ≡ Ok done
+    → IsWrittenOver remains traces host path image
+written-over {H} {F} {E} remains traces host path image opened file left ended done at same lasting held is = record {
+  opened = opened;
+  left = left;
+  at = at;
+  held = λ all known. subst (λ (r : Result Unit E). OnOk r ((all : List ℕ) → remains.held file ≡ Some all
+      → remains.held left ≡ Some image)) is held all (same ∙ known);
+  lasting = subst (λ (r : Result Unit E). OnOk r (NowAll remains left (λ s. s ≡ image))) is lasting;
+}
 
 -- it was made under another name, filled, and got its path
 pub made-at : {H F E : Type 0} (remains : Remains F) (traces : Traces H F) (host at : H) (path to end image : List ℕ)

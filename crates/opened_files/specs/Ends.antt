@@ -1,5 +1,5 @@
 -- How a job ends, and the program's exit status then. All of it is our own.
-use Rattle.std.specs.Prelude.{◌≡◌, ℕ, Bool, true, false, if◌then◌else◌, List, [], ◌++◌, Option, Some, None, Result, Ok, Err, IsErr, codes, decimal, ◌≢◌}
+use Rattle.std.specs.Prelude.{◌≡◌, ℕ, Bool, true, false, if◌then◌else◌, List, [], ◌++◌, Option, Some, None, Result, Ok, Err, codes, decimal, ◌≢◌}
 use Rattle.std.specs.IoError.{error_kind}
 use Rattle.std.specs.declared.fs.locks.TryLockError.{TryLockError}
 use Rattle.std.specs.declared.fs.locks.TryLockError.TheVariants as locks
@@ -118,12 +118,6 @@ as_run (Err fault) = Err (refusals.Fault fault)
 -- a run ended so, and this is how its job ended
 abbrev pub EndsAs : {A : Type 0} → (A → JobEnd) → JobEnd → (A → Type 0) → Type 0
 EndsAs {A} told end P = (ended : A) × (end ≡ told ended) × P ended
-
--- a run over a file that is made ended so, and its job with it; a file that failed may be refused for another reason
-abbrev pub IsEndOver : Result Unit CommandFault → JobEnd → Type 0
-IsEndOver (Ok _) end = end ≡ Ok None
-IsEndOver (Err faults.File) end = IsErr end
-IsEndOver (Err fault) end = end ≡ as_run (Err fault)
 
 -- something was printed, with the fault of the layout that it reports, if it reports one; or this is why not, and unless the
 -- output failed nothing was printed

@@ -2,6 +2,7 @@
 ghost use Rattle.std.specs.Prelude.{◌≡◌, IfErr, IfOk, vec_items};
 ghost use Rattle.opened_files.specs.HostFiles.{IsUnread, OfText};
 ghost use Rattle.opened_files.specs.Rights.{MayReadText, MayLook};
+ghost use Rattle.image_file.specs.paths.Rights.{Look, May};
 
 use crate::outcomes::told;
 use crate::refusals::Refusal;
@@ -47,6 +48,17 @@ pub fn script_to_play<R: HostFiles + Input + AllocGlobal>(
     ensures err { IfErr result IsUnread }
 {
     told(script_at(rt, path))
+}
+
+/// Whether a regular file stands at a path. An error if another thing does.
+pub(crate) fn is_file_at<R: HostFiles>(rt: &R, path: &str) -> io::Result<bool>
+    requires { May R.rights rt.now Look path.now }
+{
+    match regular_at(rt, path) {
+        Ok(_) => Ok(true),
+        Err(error) if error.kind() == io::ErrorKind::NotFound => Ok(false),
+        Err(error) => Err(error),
+    }
 }
 
 /// What the system says of the regular file at a path. None of standard input, and if the system doesn't say. No file is

@@ -6,6 +6,7 @@ ghost use Rattle.opened_files.specs.Rights.{MayChangeImage, MayReadFile};
 ghost use Rattle.shop_log.specs.life.LogRights.{MayKeepLogOf, MayReadLogOf, log_of};
 ghost use Rattle.image_file.specs.paths.Rights.{Look, May, MayRead, MayWrite};
 ghost use Rattle.image_file.specs.paths.Standing.{AreOf, IsMissing};
+ghost use Rattle.image_file.specs.paths.Traces.{IsOpened};
 
 use crate::locks::{lock_exclusive, lock_shared};
 use crate::losses::Loss;
@@ -117,6 +118,7 @@ where
     ensures owned { IfOk result F.IsOwned }
     ensures shared { IfOk result F.IsShared }
     ensures bytes { IfOk result (λ image. AreOf R.stands rt.now path.now (F.unread image)) }
+    ensures opened { IfOk result (IsOpened R.traces F.held rt.now path.now) }
     ensures err { IfErr result IsUntaken }
 {
     let mut file = told(opened_to_change(rt, path))?;
@@ -230,6 +232,7 @@ where
     ensures owned { IfOk result F.IsOwned }
     ensures shared { IfOk result F.IsShared }
     ensures bytes { IfOk result (λ image. AreOf R.stands rt.now path.now (F.unread image)) }
+    ensures opened { IfOk result (IsOpened R.traces F.held rt.now path.now) }
     ensures err { IfErr result IsUnbegun }
 {
     let image = opened_alone(rt, path)?;

@@ -10,6 +10,7 @@ mod losses;
 mod names;
 mod new_images;
 mod outcomes;
+mod put_images;
 mod readings;
 mod refusals;
 
@@ -23,7 +24,8 @@ pub use image_logs::{
 pub use locks::{read_owned, read_shared, read_synced};
 pub use losses::{Loss, cut_in, loss_refusal, see_log_away, see_untagged};
 pub use names::Name;
-pub use new_images::{make_image, make_image_again};
+pub use new_images::make_image;
 pub use outcomes::{job_end, run_end, told};
+pub use put_images::put_image;
 pub use readings::{image_at, image_of_file};
 pub use refusals::Refusal;

@@ -3,8 +3,8 @@ ghost use Rattle.std.specs.Prelude.{◌≡◌, [], IfOk, OnOk, Some, length, str
 ghost use Rattle.image_file.specs.Replacing.{NowAll};
 ghost use Rattle.image_file.specs.paths.Rights.{Look, Make, May};
 ghost use Rattle.opened_files.specs.Makings.{IsMadeAt};
-ghost use Rattle.opened_files.specs.Rights.{MayMakeImage, MayMakeNew, aside_of};
-ghost use Rattle.shop_log.specs.life.LogRights.{MayForget, MayReadLog, log_of};
+ghost use Rattle.opened_files.specs.Rights.{MayMakeImage, aside_of};
+ghost use Rattle.shop_log.specs.life.LogRights.{MayForget, log_of};
 
 use crate::asides::Aside;
 use crate::image_logs::is_there;
@@ -13,7 +13,7 @@ use crate::outcomes::told;
 use crate::refusals::Refusal;
 use command_faults::CommandFault;
 use image_file::{EndedFile, HostFiles, Identity, Locks, private_mode, regular, replace_image};
-use shop_log::{LogNames, find_log, forget_log};
+use shop_log::{LogNames, forget_log};
 use std::fs::{Metadata, OpenFile};
 use std::io;
 
@@ -53,26 +53,31 @@ where
     Ok(file)
 }
 
-/// Takes a file that was made for this program alone. A log in the making of an image that stood there is removed, unless
-/// that image's log is still there.
-fn take<F, R>(rt: &R, names: &LogNames, log: Option<Identity>, file: &mut F) -> Result<(), Refusal>
-where
-    F: EndedFile + Locks + OpenFile,
-    R: HostFiles<File = F>,
-    requires { MayForget R.rights rt.now (string_bytes names.now.image) }
+/// Takes a file that was opened or made for this program alone.
+pub(crate) fn take<F: EndedFile + Locks + OpenFile>(file: &mut F) -> Result<(), Refusal>
     ensures { F.EndedFile.remains.held file.new ≡ F.EndedFile.remains.held file.old }
 {
     // another thing may stand there by now
     told(regular(OpenFile::metadata(file)))?;
-    lock_exclusive(file)?;
-    match log {
-        None => told(forget_log(rt, names, None)),
-        Some(_) => Ok(()),
-    }
+    lock_exclusive(file)
 }
 
-/// Writes an image into a file that was made, and gives that its path.
-fn fill<F, R>(
+/// Removes a log in the making of an image that stood there, and sees that there is no log, unless this one was found.
+pub(crate) fn clear<R: HostFiles>(
+    rt: &R,
+    names: &LogNames,
+    log: Option<Identity>,
+) -> Result<(), Refusal>
+    requires { MayForget R.rights rt.now (string_bytes names.now.image) }
+{
+    if log.is_some() {
+        return Ok(());
+    }
+    told(forget_log(rt, names, None))
+}
+
+/// Writes an image into a file that was made, and gives that its path. This log of what stood there stays.
+pub(crate) fn fill<F, R>(
     aside: &Aside<'_, R>,
     names: &LogNames,
     log: Option<Identity>,
@@ -89,38 +94,12 @@ where
     ensures moved { OnOk result (R.traces.moved aside.now.rt.now (aside_of aside.now.path.now aside.now.end.now)
         aside.now.path.now) }
 {
-    take(aside.rt, names, log, file)?;
+    take(file)?;
+    clear(aside.rt, names, log)?;
     match replace_image(file, image) {
         Ok(()) => told_new(aside.give_path()),
         Err(_) => Err(Refusal::Fault(CommandFault::File)),
     }
-}
-
-/// Makes an image at a path, beside this log of an image that stood there. It is made under another name, and gets its own when
-/// it is whole and synced. The errors are those of `make_image`.
-fn make_beside<F, R>(
-    rt: &R,
-    path: &str,
-    names: &LogNames,
-    log: Option<Identity>,
-    like: Option<Metadata>,
-    image: &[u8],
-) -> Result<(), Refusal>
-where
-    F: EndedFile + Locks + OpenFile + Drop,
-    R: HostFiles<File = F> + AllocGlobal,
-    requires makes { MayMakeNew R.rights rt.now path.now }
-    requires forget { MayForget R.rights rt.now (string_bytes names.now.image) }
-    requires size { length image.now ≡ 174848 }
-    ensures { OnOk result (IsMadeAt F.EndedFile.remains R.traces rt.now path.now image.now) }
-{
-    let aside = told_new(Aside::free(rt, path))?;
-    let mut file = told_new(made_file(&aside, like))?;
-    let filled = fill(&aside, names, log, &mut file, image);
-    if filled.is_err() {
-        aside.remove_file(&file);
-    }
-    filled
 }
 
 /// Makes an image at a path, for those people who may use the file that `like` describes, as far as the system allows that.
@@ -144,25 +123,11 @@ where
     // before the file is made, since memory may be refused
     let names = told(LogNames::of(rt, rt.alloc(), path))?;
     see_no_log(rt, &names)?;
-    make_beside(rt, path, &names, None, like, image)
-}
-
-/// Makes an image at a path where none stands any more, as `make_image` does, though its log may be there. That stays until the
-/// image is whole and has its name. `File` in place of `Exists`; and also if the log couldn't be removed: the image is made then.
-pub fn make_image_again<F, R>(rt: &R, path: &str, image: &[u8]) -> Result<(), Refusal>
-where
-    F: EndedFile + Locks + OpenFile + Drop,
-    R: HostFiles<File = F> + AllocGlobal,
-    requires makes { MayMakeImage R.rights rt.now path.now }
-    requires log { MayReadLog R.rights rt.now path.now }
-    requires size { length image.now ≡ 174848 }
-    ensures { OnOk result (IsMadeAt F.EndedFile.remains R.traces rt.now path.now image.now) }
-{
-    let names = told(LogNames::of(rt, rt.alloc(), path))?;
-    let log = told(find_log(rt, &names))?;
-    match make_beside(rt, path, &names, log, None, image) {
-        Err(Refusal::Exists) => Err(Refusal::Fault(CommandFault::File)),
-        Ok(()) if log.is_some() => told(forget_log(rt, &names, log)),
-        made => made,
+    let aside = told_new(Aside::free(rt, path))?;
+    let mut file = told_new(made_file(&aside, like))?;
+    let filled = fill(&aside, &names, None, &mut file, image);
+    if filled.is_err() {
+        aside.remove_file(&file);
     }
+    filled
 }

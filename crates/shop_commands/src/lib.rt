@@ -13,7 +13,7 @@ mod shows;
 pub use bytes::put_whole;
 pub use dry_run::{DryFault, dry};
 pub use faults::{of_opening, of_script};
-pub use formatting::{fresh_disk, write_image};
+pub use formatting::fresh_disk;
 pub use laws::{dry_is_play, fresh_is_a_shop, run_tells_dry};
 pub use playing::{play_file, play_image};
 pub use showing::show_image;

@@ -1,10 +1,13 @@
+pub mod Begun
 pub mod DryTold
+pub mod Durably
 pub mod Durables
-pub mod FormatTold
 pub mod Logged
+pub mod Lasts
 pub mod LoggedTold
 pub mod NearEnds
 pub mod PlayTold
+pub mod PlayedKept
 pub mod PlayedOver
 pub mod ReplyTold
 pub mod ServiceTold

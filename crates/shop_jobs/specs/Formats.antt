@@ -1,11 +1,26 @@
--- What a power loss leaves of a folder whose image is made anew. Our own.
-use Rattle.std.specs.Prelude.{◌⊎◌, List, Option, ℕ}
-use Rattle.d64_image.specs.Images.{Image}
-use Rattle.shop_commands.specs.Images.{IsFreshDisk}
-use Rattle.shop_log.specs.life.Bringing.{IsWith}
-use Rattle.shop_log.specs.life.Folders.{Folder}
-use Rattle.shop_log.specs.life.Shops.{Gives}
+-- What comes of making the image of an empty shop at a path. Our own.
+use Rattle.std.specs.Prelude.{◌≡◌, ◌⊎◌, List, ℕ, Option, codes, true}
+use Rattle.image_file.specs.Remains.{Remains}
+use Rattle.image_file.specs.paths.Rights.{Rights}
+use Rattle.image_file.specs.paths.Traces.{Traces}
+use Rattle.opened_files.specs.Ends.{JobEnd}
+use Rattle.opened_files.specs.Makings.{IsNewEnd, IsPutAt}
+use Rattle.shop_commands.specs.Images.{AreFreshBytes}
 
--- the folder is as it was, with this image and this log, or gives the disk of an empty shop
-abbrev pub KeepsOrGivesFresh : Option (List ℕ) → Image → (tills : ℕ) → Folder → Type 0
-KeepsOrGivesFresh log before tills s = IsWith log before s ⊎ ((shop : Image) × IsFreshDisk shop tills × Gives s shop)
+module _ {H : Type 0} (rights : Rights H) (replaced : H → (path image : List ℕ) → Type 0) (host : H) where
+  -- an image was put in the place of the one to which a path leads, and of its log
+  abbrev pub IsReplacedAt : (path image : List ℕ) → Type 0
+  IsReplacedAt path image = (found : List ℕ) × (rights.leads host path found ≡ true) × replaced host found image
+
+module _ {H F : Type 0} (remains : Remains F) (traces : Traces H F) (rights : Rights H)
+    (replaced : H → (path image : List ℕ) → Type 0) where
+  -- or made at it, or written over the file that stands there
+  abbrev pub IsPlaced : H → (path image : List ℕ) → Type 0
+  IsPlaced host path image =
+      IsReplacedAt rights replaced host path image ⊎ IsPutAt remains traces host path image
+
+  -- the image of an empty shop was put so at a path, and that was printed; or the job isn't done
+  abbrev pub IsFormattedEnd : {W : Type 0} → (W → Option (List ℕ)) → H → (path : List ℕ) → (tills : ℕ) → W → W → JobEnd → Type 0
+  IsFormattedEnd contents host path tills old new end =
+      IsNewEnd contents ((image : List ℕ) × AreFreshBytes tills image × IsPlaced host path image) (codes "FORMATTED\n")
+      old new end

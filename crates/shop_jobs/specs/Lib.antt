@@ -1,4 +1,5 @@
 pub mod DurableRuns
+pub mod FilePlays
 pub mod Formats
 pub mod LandedRuns
 pub mod LoggedPlays

@@ -15,7 +15,7 @@ mod shop_runs;
 mod watched_files;
 
 pub use durable_runs::play_durably;
-pub use formatting::{do_format, format_folder};
+pub use formatting::do_format;
 pub use guarding::serve_logged_guarded;
 pub use logged_plays::play_logged;
 pub use logged_runs::serve_logged;

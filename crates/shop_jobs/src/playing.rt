@@ -1,7 +1,12 @@
 //! Playing the script at a path, on an image or without a disk.
-ghost use Rattle.shop_jobs.specs.ServiceEnds.{IsNearEnd};
-ghost use Rattle.shop_jobs.specs.ShopRuns.{IsDryOver, IsPlayedOverFile};
+ghost use Rattle.std.specs.Prelude.{◌≡◌, ◌⊎◌, IfErr, IfOk, IfSome, take, vec_items};
+ghost use Rattle.image_file.specs.paths.Traces.{IsOpened};
+ghost use Rattle.opened_files.specs.HostFiles.{IsUnbegun, OfText, OfWritten};
+ghost use Rattle.opened_files.specs.Losses.{IsAwayFault};
 ghost use Rattle.opened_files.specs.Rights.{MayChangeImage, MayReadText};
+ghost use Rattle.shop_jobs.specs.ServiceEnds.{IsNearEnd};
+ghost use Rattle.shop_jobs.specs.ShopRuns.{IsDryOver, IsLeftPlayed, IsPlayedOverFile};
+ghost use Rattle.shop_log.specs.life.Tags.{SaysLogAway};
 
 use crate::durable_runs::play_durably;
 use crate::reply_lines::ReplyLines;
@@ -13,6 +18,35 @@ use opened_files::{
 };
 use std::fs::OpenFile;
 use std::io::Write;
+
+/// The bytes of the image at a path, which this program has alone and beside which no log is, those of the script at another,
+/// and the image's file. `LogAway` if the image's log has the rest, isn't there, and no loss is accepted.
+fn taken_to_play<F, R>(
+    rt: &R,
+    path: &str,
+    script: &str,
+    loss: Loss,
+) -> Result<(Vec<u8>, Vec<u8>, F), Refusal>
+where
+    F: EndedFile + Locks + OpenFile + Drop,
+    R: HostFiles<File = F> + Input + AllocGlobal,
+    requires image { MayChangeImage R.rights rt.now path.now }
+    requires script { MayReadText R.rights rt.now script.now }
+    ensures opened { IfOk result (λ taken. IsOpened R.traces F.held rt.now path.now taken.2) }
+    ensures held { IfOk result (λ taken. IfSome (F.held taken.2) (λ all. vec_items taken.0 ≡ take 174849 all)) }
+    ensures read { OfWritten R.stands rt.now path.now
+        (λ all. IfOk result (λ taken. vec_items taken.0 ≡ take 174849 all)) }
+    ensures text { OfText R.stands rt.now script.now (λ all. IfOk result (λ taken. vec_items taken.1 ≡ all)) }
+    ensures near { IfOk result (λ taken. ¬ (SaysLogAway (vec_items taken.0))) }
+    ensures err { IfErr result (λ refusal. IsUnbegun refusal
+        ⊎ IsAwayFault loss (OfWritten R.stands rt.now path.now (λ all. SaysLogAway (take 174849 all))) refusal) }
+{
+    let mut file = opened_and_landed(rt, path, loss)?;
+    let image = read_owned(rt.alloc(), &mut file)?;
+    see_untagged(image.as_slice(), loss)?;
+    let script = script_to_play(rt, script)?;
+    Ok((image, script, file))
+}
 
 /// Plays the script at a path on the image at another, over its file. `LogAway` if the image's log has the rest, isn't there,
 /// and no loss is accepted.
@@ -31,11 +65,10 @@ where
     requires script { MayReadText R.rights rt.now script.now }
     ensures near { IsNearEnd R.stands rt.now path.now loss out.old out.new result }
     ensures played { IsPlayedOverFile R.rights R.stands W.contents rt.now path.now script.now out.old out.new result }
+    ensures left { IsLeftPlayed F.WritesAt.own R.stands R.traces rt.now path.now script.now loss out.old out.new
+        result }
 {
-    let mut file = opened_and_landed(rt, path, loss)?;
-    let image = read_owned(rt.alloc(), &mut file)?;
-    see_untagged(image.as_slice(), loss)?;
-    let script = script_to_play(rt, script)?;
+    let (image, script, file) = taken_to_play(rt, path, script, loss)?;
     let mut printer = ReplyLines::new(out);
     let (_, ended) = play_durably(
         rt.alloc(),

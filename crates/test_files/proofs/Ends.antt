@@ -1,17 +1,12 @@
 -- What stayed of a shop on the disk of a file in memory.
-use Rattle.std.proofs.Common.{◌≡◌, ◌∙◌, ◌∷◌, List, [], None, Ok, Option, Some, Err, Result}
-use Rattle.std.proofs.Common.{ap, drop, length, refl, suc, zero}
+use Rattle.std.proofs.Common.{◌≡◌, ◌∙◌, ◌∷◌, List, [], None, Option, Some}
+use Rattle.std.proofs.Common.{ap, drop, length, suc, zero}
 use Rattle.std.proofs.Common.{⊎_elim, ℕ}
-use Rattle.std.specs.Prelude.{OnOk, Vec}
+use Rattle.std.specs.Prelude.{Vec}
 use Rattle.std.specs.declared.alloc.Global.{Global}
 use Rattle.test_files.specs.WholeFiles.{held_lasting}
 use Rattle.test_files.specs.Past.{AreImages, HadBeen}
 use Rattle.test_files.specs.declared.whole_file.WholeFile.{WholeFile}
-
--- what holds of a result that is Ok
-pub on_ok_by : {T E : Type 0} (r : Result T E) (X : Type 0) → ((v : T) → r ≡ Ok v → X) → OnOk r X
-on_ok_by (Ok v) X f = f v refl
-on_ok_by (Err e) X f = tt
 
 images_left : (t : ℕ) (past : List (Vec ℕ Global)) → AreImages past → AreImages (drop t past)
 images_left zero past all = all

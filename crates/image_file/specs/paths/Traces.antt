@@ -1,8 +1,8 @@
 -- What a host says of calls that were made. Our own.
-use Rattle.std.specs.Prelude.{◌≡◌, [], ℕ, List, Some, ⊤}
+use Rattle.std.specs.Prelude.{◌≡◌, [], ℕ, List, Option, Some, ⊤}
 use Rattle.image_file.specs.Remains.{Remains}
 use Rattle.image_file.specs.Replacing.{NowAll}
-use Rattle.image_file.specs.paths.Rights.{Make, Use}
+use Rattle.image_file.specs.paths.Rights.{Make, Use, Write}
 
 -- Facts that only calls of a host give.
 pub record Traces (H F : Type 0) : Type 1 where
@@ -23,3 +23,17 @@ pub record IsWrittenAt {H F : Type 0} (remains : Remains F) (traces : Traces H F
   pub at : traces.opened host Make path made
   pub held : remains.held made ≡ Some [] → remains.held left ≡ Some bytes
   pub lasting : remains.held made ≡ Some [] → NowAll remains left (λ s. s ≡ bytes)
+
+-- A file was opened at a path to be written, and left so that it holds these bytes, and they remain if power goes.
+pub record IsWrittenOver {H F : Type 0} (remains : Remains F) (traces : Traces H F) (host : H) (path bytes : List ℕ)
+    : Type 0 where
+  pub opened : F
+  pub left : F
+  pub at : traces.opened host Write path opened
+  pub held : (all : List ℕ) → remains.held opened ≡ Some all → remains.held left ≡ Some bytes
+  pub lasting : NowAll remains left (λ s. s ≡ bytes)
+
+-- the file was opened at a path to be changed, and holds what it held then
+abbrev pub IsOpened : {H F : Type 0} → Traces H F → (held : F → Option (List ℕ)) → H → (path : List ℕ) → F → Type 0
+IsOpened {H} {F} traces held host path file =
+    (opened : F) × traces.opened host Write path opened × (held file ≡ held opened)

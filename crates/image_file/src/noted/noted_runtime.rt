@@ -116,6 +116,10 @@ impl<'n, 'a, R: HostFiles> HostFiles for NotedRuntime<'n, 'a, R> {
         Ok(file)
     }
 
+    fn open_to_write(&self, path: &str) -> io::Result<NotedFile<'n, 'a, R::File>> {
+        self.opened(path, self.rt.open_to_write(path))
+    }
+
     fn make_file(&self, path: &str, mode: u32) -> io::Result<NotedFile<'n, 'a, R::File>> {
         self.opened(path, self.rt.make_file(path, mode))
     }

@@ -58,6 +58,11 @@ pub trait HostFiles {
         ensures bytes { IfOk result (λ file. AreOf stands self.now path.now (Self.File.Read.remaining file)) }
         ensures opened { IfOk result (λ file. traces.opened self.now ToWrite path.now file) };
 
+    /// Opens the file at a path to write it; it needn't be readable. It is neither made nor cut.
+    fn open_to_write(&self, path: &str) -> io::Result<Self::File>
+        requires { May rights self.now ToWrite path.now }
+        ensures { IfOk result (λ file. traces.opened self.now ToWrite path.now file) };
+
     /// Makes a file at a path, open to be written, with these of the bits of its mode that the host lets a file have.
     /// `AlreadyExists` if anything stands there.
     fn make_file(&self, path: &str, mode: u32) -> io::Result<Self::File>
@@ -159,6 +164,10 @@ impl<R: Files> HostFiles for R {
 
     fn open_to_change(&self, path: &str) -> io::Result<R::File> {
         OpenOptions::new().read(true).write(true).open(self, path)
+    }
+
+    fn open_to_write(&self, path: &str) -> io::Result<R::File> {
+        OpenOptions::new().write(true).open(self, path)
     }
 
     fn make_file(&self, path: &str, mode: u32) -> io::Result<R::File> {

@@ -128,6 +128,10 @@ impl<'a> HostFiles for Snapshot<'a> {
         self.opened(path)
     }
 
+    fn open_to_write(&self, path: &str) -> io::Result<SnapshotFile<'a>> {
+        self.opened(path)
+    }
+
     fn make_file(&self, path: &str, _mode: u32) -> io::Result<SnapshotFile<'a>> {
         Ok(SnapshotFile::new(self.store, self.made(path)?, None))
     }

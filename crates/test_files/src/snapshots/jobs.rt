@@ -26,7 +26,7 @@ pub fn do_over<W: Write>(
     out: &mut W,
 ) -> Result<Option<Fault>, Refusal>
     requires fit { IsFit job.now }
-    ensures { IsJobOver {F = SnapshotFile} snapshot_rights snapshot_stands untraced unknown (λ _ _ _ _. ⊤) W.contents
+    ensures { IsJobOver SnapshotFile.WritesAt.own snapshot_rights snapshot_stands untraced unknown (λ _ _ _ _. ⊤) (λ _ _ _. ⊤) W.contents
         host.now job.now out.old out.new result }
 {
     do_job(host, job, out)

@@ -2,7 +2,7 @@
 use Rattle.std.proofs.Common.{inl}
 use Rattle.disk_changes.specs.Changes.{IsRefused}
 use Rattle.folder_changes.proofs.Changed.{told-weaker}
-use Rattle.image_edits.proofs.ChangedOver.{told-ok}
+use Rattle.opened_files.proofs.Made.{told-ok}
 use Rattle.image_edits.proofs.changing.change_taken.Goals as goal
 
 pub returns : goal.returns

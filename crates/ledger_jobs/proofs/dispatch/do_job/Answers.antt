@@ -15,7 +15,7 @@ returns-in-New g c = rw c.in-New.is c.do_new.ensures
 
 pub returns-in-Play : goal.returns-in-Play
 returns-in-Play g c =
-    rw c.in-Play.is (c.do_playing.ensures.near, c.do_playing.ensures.played)
+    rw c.in-Play.is (c.do_playing.ensures.near, c.do_playing.ensures.played, c.do_playing.ensures.left)
 
 pub returns-in-PlayLogged : goal.returns-in-PlayLogged
 returns-in-PlayLogged g c = rw c.in-PlayLogged.is c.do_logged_playing.ensures

@@ -12,9 +12,9 @@ use Rattle.opened_files.specs.Ends.{Ended}
 use Rattle.test_files.specs.Shops.{IsAfterSome}
 use Rattle.test_files.specs.WholeFiles.{whole_held}
 use Rattle.test_files.specs.WholeShops.{WereHeld}
-use Rattle.test_files.proofs.Durably.{all_there}
-use Rattle.test_files.proofs.Ends.{held_sized, known_in, on_ok_by}
-use Rattle.test_files.proofs.Lasts.{lasts_done, lasts_each, play_failed}
+use Rattle.shop_jobs.proofs.Durably.{all_there}
+use Rattle.test_files.proofs.Ends.{held_sized, known_in}
+use Rattle.shop_jobs.proofs.Lasts.{on_ok_by, lasts_done, lasts_each, play_failed}
 use Rattle.test_files.proofs.runs.play_in_file.Goals as goal
 
 pub play_durably-requires : goal.play_durably-requires

@@ -1,6 +1,6 @@
 -- What stayed on the disk of a file that was played over durably.
-use Rattle.std.proofs.Common.{[], ◌≡◌, ◌∙◌, Err, List, Ok, Option, Some, ap, length, subst, sym, true, ℕ}
-use Rattle.std.specs.Prelude.{IfErr, IfOk, None}
+use Rattle.std.proofs.Common.{[], ◌≡◌, ◌∙◌, Err, List, Ok, Option, Some, ap, length, refl, subst, sym, true, ℕ}
+use Rattle.std.specs.Prelude.{IfErr, IfOk, None, OnOk, Result}
 use Rattle.d64_image.specs.Keeps.{KeptOnly, kept_or}
 use Rattle.d64_image.specs.Memory.{sectors_in}
 use Rattle.host_session.specs.events.Events.{HasNoReset, messages_of, requests_of}
@@ -17,11 +17,21 @@ use Rattle.image_file.specs.declared.durability.WritesAt.{Ghosts}
 use Rattle.command_faults.specs.declared.faults.CommandFault.TheVariants as faults
 use Rattle.image_file.specs.declared.sectors.ImageFile.{ImageFile}
 use Rattle.shop_jobs.specs.DurableRuns.{IsDurableRun}
-use Rattle.opened_files.specs.Ends.{Ended}
+use Rattle.opened_files.specs.Ends.{Ended, JobEnd, as_job}
 use Rattle.shop_jobs.specs.Runs.{IsPlayRun}
-use Rattle.test_files.proofs.Begun.{IsSome}
-use Rattle.test_files.proofs.Durably.{at_ok, each_kept, first_kept, kept_last, told_failed}
-use Rattle.test_files.proofs.Played.{of_play}
+use Rattle.shop_jobs.specs.FilePlays.{HoldsShop, IsAfterSome}
+use Rattle.shop_jobs.proofs.Durably.{all_there, at_ok, each_kept, first_kept, kept_last, told_failed}
+use Rattle.shop_jobs.proofs.PlayedKept.{of_play}
+
+-- what holds of a result that is Ok
+pub on_ok_by : {T E : Type 0} (r : Result T E) (X : Type 0) → ((v : T) → r ≡ Ok v → X) → OnOk r X
+on_ok_by (Ok v) X f = f v refl
+on_ok_by (Err e) X f = tt
+
+-- and of the job that a run was
+on_job : (X : Type 0) (ended : Ended) (end : JobEnd) → end ≡ as_job ended → OnOk ended X → OnOk end X
+on_job X (Ok v) end told x = subst (λ (e : JobEnd). OnOk e X) (sym told) x
+on_job X (Err fault) end told x = subst (λ (e : JobEnd). OnOk e X) (sym told) tt
 
 module _ {F T : Type 0} {G : Ghosts F} (o : Output T) (image script : List ℕ) (file after : F)
     (ended : Ended) (old new : T) (size : length image ≡ 174848)
@@ -40,13 +50,13 @@ module _ {F T : Type 0} {G : Ghosts F} (o : Output T) (image script : List ℕ) 
       (IsFileFault placed o image script run.first run.left old new)) is run.run.fault).0) e
 
   module _ (s : Shop) (is : IsShop (sectors_in image) s) where
-    kept_only : KeptOnly placed run.first run.left (IsSome s (messages_of (lines script)))
+    kept_only : KeptOnly placed run.first run.left (IsAfterSome s (messages_of (lines script)))
     kept_only = of_play placed o image script run.first run.left old new s is
         (first_kept image file after ended Ran size known run) run.end run.run
 
     -- each content of an image's size that stayed at any moment is the shop's after some beginning of the lines
     pub lasts_each : (all : List ℕ) → length all ≡ 174848 → L.stayed after (L.moment file) all
-        → IsSome s (messages_of (lines script)) (sectors_in all)
+        → IsAfterSome s (messages_of (lines script)) (sectors_in all)
     lasts_each all sized stayed =
         each_kept image file after ended Ran size known run kept_only.reached kept_only all sized stayed
 
@@ -70,3 +80,12 @@ module _ {F T : Type 0} {G : Ghosts F} (o : Output T) (image script : List ℕ) 
           end.0,
           subst (λ img. IsSettled img (with_state s (plain (start_of s) (requests_of (lines script))))) same end.1,
         )
+
+    -- so the job left the shop
+    pub holds_shop : (end : JobEnd) → end ≡ as_job ended → HoldsShop G s script file after end
+    holds_shop end told = record {
+      each = lasts_each;
+      done = on_job _ ended end told
+          (on_ok_by ended _ (λ v e none all sized there. (lasts_done v e all there sized none).1));
+      stays = on_job _ ended end told (all_there run);
+    }

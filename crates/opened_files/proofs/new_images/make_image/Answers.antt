@@ -1,6 +1,6 @@
 -- The steps, one after another.
 use Rattle.opened_files.proofs.Made.{at-ok, made-at}
-use Rattle.opened_files.proofs.new_images.make_beside.Goals as goal
+use Rattle.opened_files.proofs.new_images.make_image.Goals as goal
 
 pub returns : goal.returns
 returns g c =

@@ -14,7 +14,8 @@ use Rattle.command_faults.specs.declared.faults.CommandFault.{CommandFault}
 use Rattle.command_faults.specs.declared.faults.CommandFault.TheVariants as faults
 use Rattle.opened_files.specs.Ends.{Ended}
 use Rattle.shop_jobs.specs.Runs.{IsPlayRun}
-use Rattle.test_files.proofs.Begun.{IsSome, of_none, of_run}
+use Rattle.shop_jobs.proofs.Begun.{of_none, of_run}
+use Rattle.shop_jobs.specs.FilePlays.{IsAfterSome}
 
 module _ {D T : Type 0} (h : History D) (o : Output T) (script : List ℕ) (disk left : D) (old new : T) (s : Shop)
     (is : IsShop (h.image disk) s) where
@@ -30,23 +31,23 @@ module _ {F T : Type 0} (K : Keeps F) (o : Output T) (image script : List ℕ) (
   abbrev ms : List Message
   ms = messages_of (lines script)
 
-  same : after ≡ file → KeptOnly K file after (IsSome s ms)
+  same : after ≡ file → KeptOnly K file after (IsAfterSome s ms)
   same e = of_none K (sectors_in image) file after s ms is kept e
 
   pub of_whole : IsPlayedOver K o image script file after old new (λ left. Ok left)
-      → KeptOnly K file after (IsSome s ms)
+      → KeptOnly K file after (IsAfterSome s ms)
   of_whole x = of_run K (sectors_in image) file after s ms is kept x.disk x.left x.is_file x.is_after x.holds
       (moments_ok (in_run K file) o script x.disk x.left old new s (subst (λ img. IsShop img s) (sym x.holds) is)
       x.ends)
 
   of_part : (fault : CommandFault) → IsPlayedOver K o image script file after old new (λ left. Err (fault, left))
-      → KeptOnly K file after (IsSome s ms)
+      → KeptOnly K file after (IsAfterSome s ms)
   of_part fault x = of_run K (sectors_in image) file after s ms is kept x.disk x.left x.is_file x.is_after x.holds
       (moments_err (in_run K file) o script x.disk x.left old new s (subst (λ img. IsShop img s) (sym x.holds) is) fault
       x.ends)
 
   of_fault : (fault : CommandFault) → IsFileFault K o image script file after old new fault
-      → KeptOnly K file after (IsSome s ms)
+      → KeptOnly K file after (IsAfterSome s ms)
   of_fault faults.ImageSize e = same e.1.0
   of_fault faults.NoMemory e = same e.1.0
   of_fault (faults.ScriptLine line) e = same e.2.0
@@ -67,6 +68,6 @@ module _ {F T : Type 0} (K : Keeps F) (o : Output T) (image script : List ℕ) (
   of_fault faults.Format e = same e.2.0
 
   -- however the play ended
-  pub of_play : (end : Ended) → IsPlayRun K o image script file after old new end → KeptOnly K file after (IsSome s ms)
+  pub of_play : (end : Ended) → IsPlayRun K o image script file after old new end → KeptOnly K file after (IsAfterSome s ms)
   of_play (Ok v) x = of_whole x.done.1.1
   of_play (Err fault) x = of_fault fault x.fault

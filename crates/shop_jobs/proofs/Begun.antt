@@ -6,14 +6,11 @@ use Rattle.d64_image.specs.Keeps.{Keeps, KeptOnly, kept_or}
 use Rattle.host_session.specs.events.Events.{Message}
 use Rattle.host_session.specs.runs.Runs.{HeldBeginnings, IsBlamed, IsSomeBeginning}
 use Rattle.host_session.specs.shop.Shop.{IsShop, Shop, start_of, with_state}
+use Rattle.shop_jobs.specs.FilePlays.{IsAfterSome}
 use Rattle.request_cards.proofs.Plain.{plain_nil}
 
--- the shop after some beginning of the messages
-abbrev pub IsSome : Shop → List Message → Image → Type 0
-IsSome s ms = IsSomeBeginning s ms (λ _. Unit {0})
-
 -- of none of them
-none_begun : (s : Shop) (ms : List Message) (img : Image) → IsShop img s → IsSome s ms img
+none_begun : (s : Shop) (ms : List Message) (img : Image) → IsShop img s → IsAfterSome s ms img
 none_begun s ms img is = record {
   begun = [];
   rest = ms;
@@ -28,14 +25,14 @@ none_begun s ms img is = record {
 
 module _ {F : Type 0} (K : Keeps F) (image : Image) (file after : F) (s : Shop) (ms : List Message)
     (is : IsShop image s) (kept : K.kept file ≡ Some image) where
-  begun : (c : Image) → image ≡ c → IsSome s ms c
+  begun : (c : Image) → image ≡ c → IsAfterSome s ms c
   begun c e = none_begun s ms c (subst (λ img. IsShop img s) e is)
 
   -- of a run over it as a disk
   pub of_run : (disk left : FileDisk K) → disk.file ≡ file → left.file ≡ after → disk.image ≡ image
-      → HeldBeginnings (in_run K file) s ms disk left → KeptOnly K file after (IsSome s ms)
+      → HeldBeginnings (in_run K file) s ms disk left → KeptOnly K file after (IsAfterSome s ms)
   of_run disk left is_file is_after holds h =
-      let P : Image → Type 0 = IsSome s ms in
+      let P : Image → Type 0 = IsAfterSome s ms in
       let some : (c : Image) → IsSomeBeginning s ms (IsBlamed (in_run K file) disk left) c → P c = λ c x. record {
         begun = x.begun;
         rest = x.rest;
@@ -59,8 +56,8 @@ module _ {F : Type 0} (K : Keeps F) (image : Image) (file after : F) (s : Shop) 
       subst (λ f. KeptOnly K f after P) is_file (subst (λ f. KeptOnly K disk.file f P) is_after kept_so)
 
   -- of none, where it is as it was
-  pub of_none : after ≡ file → KeptOnly K file after (IsSome s ms)
-  of_none same = subst (λ f. KeptOnly K file f (IsSome s ms)) (sym same) (record {
+  pub of_none : after ≡ file → KeptOnly K file after (IsAfterSome s ms)
+  of_none same = subst (λ f. KeptOnly K file f (IsAfterSome s ms)) (sym same) (record {
     reached = K.reached_same file;
     later = le_refl (K.moment file);
     each = λ c x. begun c (ap (λ o. kept_or o c) (sym kept ∙ K.only_now file c x));
