@@ -1,5 +1,7 @@
 -- What a host says that lets its files be written. Our own.
-use Rattle.std.specs.Prelude.{ℕ, Bool, List, Option, bytes_eq, codes, if◌then◌else◌, option_map, true}
+use Rattle.std.specs.Prelude.{⊤, ℕ, Bool, List, None, Option, bytes_eq, codes, if◌then◌else◌, option_map, true}
+use Rattle.image_file.specs.Lasting.{unknown_whole}
+use Rattle.image_file.specs.declared.durability.WritesAt.{Ghosts}
 use Rattle.image_file.specs.paths.Rights.{Rights}
 use Rattle.image_file.specs.paths.Standing.{Holds, Missing, Stands, Unsaid}
 use Rattle.test_files.specs.declared.snapshots.host.Snapshot.{Snapshot}
@@ -30,3 +32,15 @@ snapshot_rights = record { may = λ _ how path. true; leads = λ _ from to. byte
 -- what reads of an open file give from here on, if that is said
 abbrev pub left_of : SnapshotFile → Option (List ℕ)
 left_of file = option_map (λ bytes. bytes.now) file.said
+
+-- what such a file says of itself: nothing else
+abbrev pub snapshot_file : Ghosts SnapshotFile
+snapshot_file = record {
+  held = λ _. None;
+  lasting = λ _. None;
+  whole = unknown_whole;
+  IsShared = λ _. ⊤;
+  IsOwned = λ _. ⊤;
+  unread = left_of;
+  has_failed = λ _. true;
+}

@@ -9,9 +9,8 @@ ghost use Rattle.ledger_jobs.specs.declared.jobs.Job as jobs;
 ghost use Rattle.opened_files.specs.HostFiles.{OfImage, OfText, OfWritten};
 ghost use Rattle.opened_files.specs.Makings.{IsMadeAt};
 ghost use Rattle.test_files.specs.OneFile.{one_remains, one_traces};
-ghost use Rattle.test_files.specs.Snapshots.{image_path, snapshot_rights, snapshot_stands, text_path};
+ghost use Rattle.test_files.specs.Snapshots.{image_path, snapshot_file, snapshot_rights, snapshot_stands, text_path};
 ghost use Rattle.test_files.specs.declared.snapshots.host.Snapshot as hosts;
-ghost use Rattle.test_files.specs.declared.snapshots.open_file.SnapshotFile.{SnapshotFile};
 
 use crate::snapshots::host::Snapshot;
 use disk_layout::Fault;
@@ -26,7 +25,7 @@ pub fn do_over<W: Write>(
     out: &mut W,
 ) -> Result<Option<Fault>, Refusal>
     requires fit { IsFit job.now }
-    ensures { IsJobOver SnapshotFile.WritesAt.own snapshot_rights snapshot_stands untraced unknown (λ _ _ _ _. ⊤) (λ _ _ _. ⊤) W.contents
+    ensures { IsJobOver snapshot_file snapshot_rights snapshot_stands untraced unknown (λ _ _ _ _. ⊤) (λ _ _ _. ⊤) W.contents
         host.now job.now out.old out.new result }
 {
     do_job(host, job, out)
