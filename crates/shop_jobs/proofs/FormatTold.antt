@@ -1,12 +1,11 @@
 -- What came of the image of a shop that is made, by how its run ended.
-use Rattle.std.proofs.Common.{ℕ, List, Option, Result, Ok, Err, inl, inr, refl, ⊎_elim}
+use Rattle.std.proofs.Common.{ℕ, List, Option, Err, inl, inr, refl, ⊎_elim}
 use Rattle.std.specs.Prelude.{IsErr, codes}
-use Rattle.command_faults.specs.declared.faults.CommandFault.{CommandFault}
 use Rattle.command_faults.specs.declared.faults.CommandFault.TheVariants as faults
 use Rattle.d64_image.specs.Images.{Image}
 use Rattle.shop_commands.specs.Images.{IsFreshDisk}
 use Rattle.opened_files.specs.Ends.{JobEnd}
-use Rattle.opened_files.specs.Makings.{IsMakingEnd, IsMakingTold}
+use Rattle.opened_files.specs.Makings.{IsMakingEnd}
 use Rattle.shop_jobs.specs.Formats.{KeepsOrGivesFresh}
 use Rattle.shop_log.specs.life.Folders.{FolderHistory, LeavesFolders}
 use Rattle.shop_log.specs.life.Replacing.{KeepsOrGives}
