@@ -12,7 +12,7 @@ use command_faults::CommandFault;
 use disk_layout::Fault;
 use image_edits::do_trim;
 use image_file::{EndedFile, Failure, Failures, Locks, NotedRuntime, Subject};
-use ledger_jobs::{Job, announce, do_job, explain, files_of, tell_verdict};
+use ledger_jobs::{Job, announce, do_job, explain, files_of, meaning_of, tell_verdict};
 use opened_files::{Refusal, end};
 use std::alloc::{AllocError, Global};
 use std::env;
@@ -229,7 +229,52 @@ fn texts_of<'a>(alloc: Global, words: &'a [String]) -> Result<Vec<&'a str>, Allo
     Ok(texts)
 }
 
+/// The words after `help`, with a space between them, which may be one that the program prints.
+fn word_after_help(alloc: Global, texts: &[&str]) -> Result<String, AllocError> {
+    let mut word = String::new(alloc);
+    if texts.get(1) != Some(&"help") {
+        return Ok(word);
+    }
+    for (number, text) in texts.iter().enumerate() {
+        if number > 2 {
+            word.push_str(" ")?;
+        }
+        if number >= 2 {
+            word.push_str(text)?;
+        }
+    }
+    Ok(word)
+}
+
+/// Prints what a word means that the program prints, and returns the exit status.
+fn print_meaning<R: Print, E: Write>(rt: &R, word: &str, meaning: &str, err: &mut E) -> u8 {
+    let mut out = io::writer(rt);
+    match writeln!(out, "{word}: {meaning}") {
+        Ok(()) => 0,
+        Err(error) => refuse(err, &error),
+    }
+}
+
 /// Does what these words ask for, and returns the exit status.
+fn obey_words<F, R, E>(rt: &R, texts: &[&str], told: Audience, err: &mut E) -> u8
+where
+    F: EndedFile + Read + Locks + OpenFile + Drop,
+    R: Files<File = F> + Input + Print + Eprint + AllocGlobal,
+    E: Write,
+{
+    let line = command_line(rt.alloc(), texts);
+    let told = if line.is_explained {
+        told.explained()
+    } else {
+        told
+    };
+    match line.job {
+        Ok(job) => obey_job(rt, &job, told, err),
+        Err(fault) => refuse_words(rt, &fault, err),
+    }
+}
+
+/// Does what these words ask for, or prints what one means that the program prints, and returns the exit status.
 fn obey<F, R, E>(rt: &R, words: &[String], told: Audience, err: &mut E) -> u8
 where
     F: EndedFile + Read + Locks + OpenFile + Drop,
@@ -240,15 +285,13 @@ where
         Ok(texts) => texts,
         Err(error) => return refuse(err, &io::Error::from(error)),
     };
-    let line = command_line(rt.alloc(), texts.as_slice());
-    let told = if line.is_explained {
-        told.explained()
-    } else {
-        told
+    let word = match word_after_help(rt.alloc(), texts.as_slice()) {
+        Ok(word) => word,
+        Err(error) => return refuse(err, &io::Error::from(error)),
     };
-    match line.job {
-        Ok(job) => obey_job(rt, &job, told, err),
-        Err(fault) => refuse_words(rt, &fault, err),
+    match meaning_of(word.as_str()) {
+        Some(meaning) => print_meaning(rt, word.as_str(), meaning, err),
+        None => obey_words(rt, texts.as_slice(), told, err),
     }
 }
 
