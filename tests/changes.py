@@ -6,7 +6,7 @@ from record_disks import DATA, POINTERS, RELATIVE, Disk, line_of, sectors_of
 from served import run, sure, want
 
 IMAGE = "disk.d64"
-WORDS = ("repair", "repair --sides", "make", "store", "put", "rename", "title", "delete", "format")
+WORDS = ("repair", "repair --sides", "make", "store", "put", "rename", "title", "lock", "unlock", "delete", "format")
 RENAMED = "RENAMED"
 
 
@@ -73,6 +73,8 @@ class Draw:
             "put": ("put", "NEW", self.source(30_000), "--type", draw.choice(["prg", "seq", "usr"])),
             "rename": ("rename", "FILE0", RENAMED),
             "title": ("title", "--name", RENAMED, "--id", length.rjust(2, "0")[:2]),
+            "lock": ("lock", draw.choice(["FILE0", "PROGRAM"])),
+            "unlock": ("unlock", draw.choice(["FILE0", "PROGRAM"])),
             "delete": ("delete", draw.choice(["FILE0", "PROGRAM"])),
             "format": ("format", "--tills", "4"),
         }[word]

@@ -101,6 +101,8 @@ COMMANDS = [
     command(CHANGES, f"serve {IMAGE}", given=REQUEST),
     command(CHANGES, f"rename {IMAGE} NOTES CARDS"),
     command(CHANGES, f"title {IMAGE} --name LETTERS --id 84"),
+    command(CHANGES, f"lock {IMAGE} NOTES"),
+    command(CHANGES, f"unlock {IMAGE} NOTES"),
     command(CHANGES, f"delete {IMAGE} NOTES"),
     command(MAKES, f"format {IMAGE} --tills 2"),
     command(MAKES, f"format {NEW} --tills 2 --new"),

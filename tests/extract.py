@@ -211,7 +211,8 @@ def finish(ran, wanted, out):
     elif told.startswith("SHORT "):
         want("the end", (ran.returncode, said), (1, ""))
     else:
-        want("the end", (ran.returncode, said, told), (0, "EXTRACTED\n", ""))
+        want("the end", (ran.returncode, said.splitlines()[:1], told), (0, ["EXTRACTED"], ""))
+        want("what else is printed", [it.split()[0] for it in said.splitlines()[1:]] in ([], ["FEWER"]), True)
     for entry in out.iterdir():
         entry.unlink()
     out.rmdir()

@@ -23,9 +23,10 @@ from pathlib import Path
 from disks import shop_after_a_day
 from drawn import MAP, PLACES, SIZE, name_text, start
 
-KEYS = ["name", "size", "verdict", "track", "sector", "files", "free", "disk", "id", "short"]
+KEYS = ["name", "size", "verdict", "track", "sector", "files", "free", "disk", "id", "short", "fewer"]
 ON_DISK = set(PLACES)
 RELATIVE = (0x84, 0xC4)
+SOUND = {"OK", "MAPWRONG", "COUNTWRONG"}
 CLOSED = {*range(0x80, 0x85), *range(0xC0, 0xC5)}
 
 
@@ -67,6 +68,15 @@ class Reader:
         if tuple(slot[3:5]) not in ON_DISK:
             return [], ("BADLINK", place)
         return self.follow(tuple(slot[3:5]))
+
+    def fewer(self):
+        """Where the first PRG, SEQ or USR ends whose entry counts more blocks than its chain has; documents of GEOS are left out."""
+        for place, slot in self.slots():
+            blocks, _ = self.blocks(place, slot)
+            document = tuple(slot[21:23]) in ON_DISK and slot[23] == 1
+            if slot[2] & 0xBF in (0x81, 0x82, 0x83) and not document and slot[30] + 256 * slot[31] > len(blocks):
+                return "%d/%d" % (blocks or [place])[-1]
+        return None
 
     def sides(self, slot, blocks, end):
         """The side sectors of a relative entry with a whole chain, as far as each links to the next that it lists, and the wrong ones."""
@@ -151,6 +161,7 @@ def judge(path, image, line, verdict, short):
         "files": Reader(image).concerned(fault, at) if at else [],
         "free": sum(head[4 * track] for track in range(1, 36) if track != 18),
         "disk": name_text(head[0x90:0xA0].rstrip(b"\xa0")), "id": name_text(head[0xA2:0xA4]), "short": short,
+        "fewer": Reader(image).fewer() if short is None and fault in SOUND else None,
     }
     if list(told) != KEYS or told != want:
         return f"{told}\n{want}"

@@ -5,7 +5,8 @@
 
 PROGRAM is what `tools/program` prints. The shelf has sound disks, disks with bytes changed at random, disks of other sizes, names
 with blanks, quotation marks and a newline, a folder and a name that doesn't exist. Of each command the lines of all images, in their
-order, are those of each image alone, with its name before each; standard error stays empty, and the status is the greatest. Then
+order, are those of each image alone, with its name before each; after a check follows where a file is cut short, as `check --all` of
+that image says. Standard error stays empty, and the status is the greatest. Then
 1,000 images are checked within five seconds. The status is 1 if something differs."""
 
 import random
@@ -50,11 +51,18 @@ def named(path, text):
     return b"".join(shown + b": " + line for line in text.splitlines(keepends=True))
 
 
+def cut(program, path):
+    """The line that says where a file of an image is cut short; nothing if none is."""
+    last = run(program, "check", "--all", path)[1].splitlines(keepends=True)[-1:]
+    return b"".join(it for it in last if it.startswith(b"SHORT "))
+
+
 def compared(program, command, paths):
     """How many images differ from what they are alone."""
     alone = [run(program, command, it) for it in paths]
     status, printed, told = run(program, command, *paths)
-    wanted = b"".join(named(path, out + err) for path, (_, out, err) in zip(paths, alone))
+    cuts = [cut(program, it) if command == "check" else b"" for it in paths]
+    wanted = b"".join(named(path, out + err + more) for path, (_, out, err), more in zip(paths, alone, cuts))
     wrong = (printed != wanted) + (told != b"") + (status != max(it[0] for it in alone))
     print(f"{command}: {len(paths)} images, {sum(it[0] == 0 for it in alone)} sound, {wrong} differences")
     return wrong

@@ -131,9 +131,21 @@ rename = may_run_dry (may_accept_loss (with_rule (with_rule (over_image (codes "
 abbrev pub title : App
 title = may_run_dry (may_accept_loss (titling (codes "title")))
 
+-- a subcommand that changes the entry of a file
+abbrev pub over_entry : Text → App
+over_entry word = may_run_dry (may_accept_loss (with_rule (over_image word) (required (codes "NAME"))))
+
+-- lock IMAGE NAME [--accept-loss] [--dry-run]
+abbrev pub lock : App
+lock = over_entry (codes "lock")
+
+-- unlock IMAGE NAME [--accept-loss] [--dry-run]
+abbrev pub unlock : App
+unlock = over_entry (codes "unlock")
+
 -- delete IMAGE NAME [--accept-loss] [--dry-run]
 abbrev pub delete : App
-delete = may_run_dry (may_accept_loss (with_rule (over_image (codes "delete")) (required (codes "NAME"))))
+delete = over_entry (codes "delete")
 
 -- new IMAGE --name NAME --id ID
 abbrev pub new : App
@@ -196,8 +208,8 @@ with_rescue a = with_command (with_command (with_command (with_command (with_com
 
 -- a program that has those that change the files of a disk too
 abbrev pub with_changes : App → App
-with_changes a = with_command (with_command (with_command (with_command (with_command (with_command (with_command
-    a new) make) store) put) rename) title) delete
+with_changes a = with_command (with_command (with_command (with_command (with_command (with_command (with_command (with_command
+    (with_command a new) make) store) put) rename) title) lock) unlock) delete
 
 -- a program that has those that run a shop too
 abbrev pub with_shop : App → App

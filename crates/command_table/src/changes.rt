@@ -5,7 +5,9 @@ use crate::values::{
 };
 
 /// The subcommands that change the files of a disk, in the order in which help lists them.
-pub(crate) const CHANGES: &[Subcommand] = &[NEW, MAKE, STORE, PUT, RENAME, TITLE, DELETE];
+pub(crate) const CHANGES: &[Subcommand] = &[
+    NEW, MAKE, STORE, PUT, RENAME, TITLE, LOCK, UNLOCK, DELETE,
+];
 
 /// The name that a disk gets.
 const DISK_NAME: Value = Value {
@@ -196,6 +198,48 @@ Example: ledger title old.d64 --name LETTERS --id 84",
     values: &[IMAGE, DISK_NAME, DISK_ID, ACCEPT_AWAY, DRY_RUN],
 };
 
+/// The values of a subcommand that changes the entry of a file.
+const ENTRY: &[Value] = &[IMAGE, NAME, ACCEPT_AWAY, DRY_RUN];
+
+/// `lock IMAGE NAME [--accept-loss] [--dry-run]`
+const LOCK: Subcommand = Subcommand {
+    name: "lock",
+    about: "Lock a file, which can't be deleted then",
+    more: "\
+It locks the first file that has this name, shown by < in list, and prints
+LOCKED. unlock takes the lock off.
+
+Exit status:
+  0  the file is locked
+  1  a file or the directory is damaged (LAYOUT and a fault: repair --sides
+     mends BADSIDE, nothing else), SHORT, IMAGE SIZE, LOG, LOG AWAY, NO FILE,
+     SHOP FILE: nothing was done
+  2  NAME
+  3  FILE, NO MEMORY, IN USE, DEVICE
+
+Example: ledger lock old.d64 LETTER",
+    values: ENTRY,
+};
+
+/// `unlock IMAGE NAME [--accept-loss] [--dry-run]`
+const UNLOCK: Subcommand = Subcommand {
+    name: "unlock",
+    about: "Unlock a file, which can be deleted then",
+    more: "\
+It takes the lock off the first file that has this name, and prints UNLOCKED.
+
+Exit status:
+  0  the file isn't locked
+  1  a file or the directory is damaged (LAYOUT and a fault: repair --sides
+     mends BADSIDE, nothing else), SHORT, IMAGE SIZE, LOG, LOG AWAY, NO FILE,
+     SHOP FILE: nothing was done
+  2  NAME
+  3  FILE, NO MEMORY, IN USE, DEVICE
+
+Example: ledger unlock old.d64 LETTER",
+    values: ENTRY,
+};
+
 /// `delete IMAGE NAME [--accept-loss] [--dry-run]`
 const DELETE: Subcommand = Subcommand {
     name: "delete",
@@ -212,5 +256,5 @@ Exit status:
   3  FILE, NO MEMORY, IN USE, DEVICE
 
 Example: ledger delete old.d64 LETTER",
-    values: &[IMAGE, NAME, ACCEPT_AWAY, DRY_RUN],
+    values: ENTRY,
 };

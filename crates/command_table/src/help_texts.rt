@@ -20,6 +20,7 @@ LOG AWAY: it isn't there.
 If a command fails, standard error has one line. On a terminal, or with
 --explain, a second line names the file or says what to do.
 
+\"ledger help OWNEDTWICE\" says what a word means that a command printed.
 \"ledger COMMAND --help\" has an example of each command. Debian's package calls
 the program ledger-1541. Its page \"man ledger-1541\" has all of this. There and
 in docs/KEEPERS.md is every word that the commands print.";

@@ -59,7 +59,9 @@ It prints OK, or a fault and its sector, for example LOOP 17/0:
   BADLENGTH   a relative file's entry in this sector has record length 0 or 255
 \"man ledger-1541\" says what to do about each.
 If a file is cut short, SHORT and its last sector follow with --all, in `short`
-with --json, and for one image on a terminal or with --explain.
+with --json, with several images, and for one on a terminal or with --explain.
+Otherwise, but not with several images alone, FEWER is reported in the same way
+if a PRG, SEQ or USR has fewer blocks than its entry says, and ends there.
 With several images each line begins with the image's name, also for an image
 that is refused. The exit status is then the highest of all.
 With --json each image has a line, an object of JSON. Its `files` are those that

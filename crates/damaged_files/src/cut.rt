@@ -4,5 +4,6 @@ pub(crate) mod images;
 pub(crate) mod laws;
 pub(crate) mod listed;
 pub(crate) mod names;
+pub(crate) mod shortfalls;
 pub(crate) mod strays;
 pub(crate) mod tails;

@@ -6,8 +6,9 @@ mod cut;
 // Side sectors of relative files, built anew from the files' chains.
 mod sides;
 
-pub use cut::cuts::{find_cut, sound_cut};
-pub use cut::images::find_image_cut;
+pub use cut::cuts::{find_cut, find_shortfall, sound_cut};
+pub use cut::images::find_image_shortfall;
 pub use cut::laws::whole_is_uncut;
+pub use cut::shortfalls::Shortfall;
 pub use sides::planning::Shortened;
 pub use sides::rebuilding::rebuild_sides;

@@ -1,6 +1,7 @@
 -- What comes of a change to an image, or why it isn't made. Our own.
 use Rattle.std.specs.Prelude.{◌≤◌, List, length, ℕ}
 use Rattle.disk_changes.specs.Deletes.{IsDeleteRefusal, IsDeleted}
+use Rattle.disk_changes.specs.Locks.{IsLockRefusal, IsLockSet}
 use Rattle.disk_changes.specs.Makes.{IsMade, IsMakeRefusal}
 use Rattle.disk_changes.specs.Puts.{IsPut, IsPutRefusal}
 use Rattle.disk_changes.specs.Rebuilds.{IsRebuildRefusal, IsRebuilt}
@@ -19,6 +20,7 @@ use Rattle.rel_records.specs.File.{IsLength}
 abbrev pub IsFit : Change → Type 0
 IsFit (changes.Rename from to) = length to.now ≤ 16
 IsFit (changes.Title id name) = length name.now ≤ 16
+IsFit (changes.Lock lock name) = Unit {0}
 IsFit (changes.Delete name) = Unit {0}
 IsFit (changes.Put name kind content) = length name.now ≤ 16
 IsFit (changes.Make name L cut) = (length name.now ≤ 16) × IsLength L
@@ -30,6 +32,7 @@ IsFit (changes.Rebuild free cut) = Unit {0}
 abbrev pub IsChanged : Change → (image : List ℕ) → Changed → Type 0
 IsChanged (changes.Rename from to) image made = IsRenamed image from.now to.now made
 IsChanged (changes.Title id name) image made = IsTitled image name.now id made
+IsChanged (changes.Lock lock name) image made = IsLockSet image name.now lock made
 IsChanged (changes.Delete name) image made = IsDeleted image name.now made
 IsChanged (changes.Put name kind content) image made = IsPut image name.now kind content.now made
 IsChanged (changes.Make name L cut) image made = IsMade image name.now L cut made
@@ -41,6 +44,7 @@ IsChanged (changes.Rebuild free cut) image made = IsRebuilt image free cut made
 abbrev pub IsRefused : Change → (image : List ℕ) → Why → Type 0
 IsRefused (changes.Rename from to) image why = IsRenameRefusal image from.now to.now why
 IsRefused (changes.Title id name) image why = IsUnsoundOrShort image why
+IsRefused (changes.Lock lock name) image why = IsLockRefusal image name.now why
 IsRefused (changes.Delete name) image why = IsDeleteRefusal image name.now why
 IsRefused (changes.Put name kind content) image why = IsPutRefusal image name.now kind content.now why
 IsRefused (changes.Make name L cut) image why = IsMakeRefusal image name.now cut why

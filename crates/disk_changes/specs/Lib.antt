@@ -1,6 +1,7 @@
 pub mod Changes
 pub mod Deletes
 pub mod Judged
+pub mod Locks
 pub mod Makes
 pub mod Puts
 pub mod Rebuilds

@@ -23,6 +23,11 @@ pub enum Change<'a> {
         id: [u8; 2],
         name: &'a [u8],
     },
+    /// The first file with the name is locked or unlocked.
+    Lock {
+        lock: Lock,
+        name: &'a [u8],
+    },
     /// The first file with the name is deleted.
     Delete {
         name: &'a [u8],
@@ -55,6 +60,15 @@ pub enum Change<'a> {
         free: bool,
         cut: Shortened,
     },
+}
+
+/// Bit 6 of a file's type, which says that it may not be deleted.
+#[derive(Clone, Copy, Debug, PartialEq, Eq)]
+pub enum Lock {
+    /// The file is locked.
+    Set,
+    /// It isn't.
+    Cleared,
 }
 
 /// What comes of a change.

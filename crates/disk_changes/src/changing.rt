@@ -4,6 +4,7 @@ ghost use Rattle.disk_changes.specs.Changes.{IsChanged, IsFit, IsRefused};
 
 use crate::changes::{Change, Changed, Why};
 use crate::deleting::deleted;
+use crate::locking::relocked;
 use crate::making::made;
 use crate::putting::put;
 use crate::rebuilding::rebuilt;
@@ -23,6 +24,7 @@ pub fn change(alloc: Global, what: &Change<'_>, image: &[u8]) -> Result<Changed,
     match *what {
         Change::Rename { from, to } => renamed(alloc, image, from, to),
         Change::Title { id, name } => titled(alloc, image, name, id),
+        Change::Lock { lock, name } => relocked(alloc, image, name, lock),
         Change::Delete { name } => deleted(alloc, image, name),
         Change::Put {
             name,

@@ -6,6 +6,7 @@ mod changes;
 mod changing;
 mod deleting;
 mod judging;
+mod locking;
 mod making;
 mod outcomes;
 mod putting;
@@ -15,5 +16,5 @@ mod repairing;
 mod storing;
 mod titling;
 
-pub use changes::{Change, Changed, Why};
+pub use changes::{Change, Changed, Lock, Why};
 pub use changing::change;

@@ -14,8 +14,9 @@ use Rattle.disk_layout.specs.Clean.{IsVerdict}
 use Rattle.disk_layout.specs.Directory.{map_place}
 use Rattle.disk_layout.specs.Layout.{IsSound}
 use Rattle.disk_layout.specs.Map.{IsFree, map_count}
-use Rattle.damaged_files.specs.cut.Told.{IsToldOfImage}
-use Rattle.disk_layout.specs.Texts.{fault_text, place_text}
+use Rattle.damaged_files.specs.cut.Told.{IsShortfallOf, shortfall_text}
+use Rattle.damaged_files.specs.declared.cut.shortfalls.Shortfall.{Shortfall}
+use Rattle.disk_layout.specs.Texts.{fault_text}
 use Rattle.disk_layout.specs.declared.faults.Fault.{Fault}
 use Rattle.disk_layout.specs.declared.faults.Fault.TheVariants as faults
 use Rattle.disk_layout.specs.declared.slot.Slot.{Slot}
@@ -142,19 +143,19 @@ IsListing img (Some first) text = (l : Links) × AreLinks img l
 abbrev pub IsListed : Image → Option Fault → Option (List ℕ) → Option (List ℕ) → Type 0
 IsListed img found old new = (text : List ℕ) × IsListing img found text × Appends old new text
 
--- the line of the first file that is cut short
-abbrev pub cut_line : Option Place → List ℕ
-cut_line None = []
-cut_line (Some p) = codes "SHORT " ++ (place_text p ++ codes "\n")
+-- the line of what a file lacks
+abbrev pub shortfall_line : Option Shortfall → List ℕ
+shortfall_line None = []
+shortfall_line (Some lack) = shortfall_text lack ++ codes "\n"
 
--- the faults of the image, and a file that is cut short, were printed on an output that held `old` and holds `new`; a check
--- of it finds this
+-- the faults of the image, and what its files lack, were printed on an output that held `old` and holds `new`; a check of
+-- it finds this
 pub record AreListed {W : Type 0} (contents : W → Option (List ℕ)) (image : List ℕ) (old new : W)
     (found : Option Fault) : Type 0 where
   pub size : length image ≡ 174848
   pub verdict : IsVerdict (sectors_in image) found
-  pub cut : Option Place
-  pub short : IsToldOfImage image None cut
+  pub lack : Option Shortfall
+  pub lacks : IsShortfallOf (sectors_in image) lack
   pub text : List ℕ
   pub listing : IsListing (sectors_in image) found text
-  pub printed : Appends (contents old) (contents new) (text ++ cut_line cut)
+  pub printed : Appends (contents old) (contents new) (text ++ shortfall_line lack)

@@ -3,7 +3,8 @@ use Rattle.std.specs.Prelude.{ℕ, List, [], ◌∷◌, ◌++◌, None, Option, 
 use Rattle.d64_image.specs.Images.{Sector}
 use Rattle.line_text.specs.bytes.Texts.{text_of}
 use Rattle.disk_layout.specs.Number.{place_of}
-use Rattle.d64_image.specs.declared.place.Place.{Place}
+use Rattle.damaged_files.specs.declared.cut.shortfalls.Shortfall.{Shortfall}
+use Rattle.damaged_files.specs.declared.cut.shortfalls.Shortfall.TheVariants as lacks
 use Rattle.disk_layout.specs.Texts.{fault_text, place_text}
 use Rattle.disk_layout.specs.View.{blocks_free}
 use Rattle.disk_layout.specs.declared.faults.Fault.{Fault}
@@ -36,15 +37,20 @@ abbrev pub disk_name_text : Sector → List ℕ
 disk_name_text map =
     codes ",\"free\":" ++ (decimal (blocks_free map) ++ codes ",\"disk\":") ++ typed (disk_name map)
 
--- where the first file that is cut short ends, and the end of the object
-abbrev pub end_text : Option Place → List ℕ
-end_text None = codes ",\"short\":null}\n"
-end_text (Some p) = codes ",\"short\":\"" ++ (place_text p ++ codes "\"}\n")
+-- where the file ends that is cut short, or has fewer blocks than its entry says, and the end of the object
+abbrev pub lack_text : Shortfall → List ℕ
+lack_text (lacks.Short p) = codes ",\"short\":\"" ++ (place_text p ++ codes "\",\"fewer\":null}\n")
+lack_text (lacks.Fewer p) = codes ",\"short\":null,\"fewer\":\"" ++ (place_text p ++ codes "\"}\n")
 
--- the disk's name, its id, a file that is cut short, and the end of the object
-abbrev pub disk_text : Sector → Option Place → List ℕ
-disk_text map cut =
-    disk_name_text map ++ (codes ",\"id\":" ++ (typed (slice_range map 162 164) ++ end_text cut))
+-- the same, if there is one
+abbrev pub end_text : Option Shortfall → List ℕ
+end_text None = codes ",\"short\":null,\"fewer\":null}\n"
+end_text (Some lack) = lack_text lack
+
+-- the disk's name, its id, what a file lacks, and the end of the object
+abbrev pub disk_text : Sector → Option Shortfall → List ℕ
+disk_text map lack =
+    disk_name_text map ++ (codes ",\"id\":" ++ (typed (slice_range map 162 164) ++ end_text lack))
 
 -- what an object begins with: the image's name
 abbrev pub head_text : List ℕ → List ℕ
@@ -59,8 +65,8 @@ abbrev pub verdict_text : List ℕ → Option Fault → List ℕ
 verdict_text name found = head_text name ++ (codes ",\"size\":174848,\"verdict\":" ++ found_text found)
 
 -- the object of an image
-abbrev pub object_text : List ℕ → Option Fault → List Slot → Sector → Option Place → List ℕ
-object_text name found files map cut = verdict_text name found ++ (files_text files ++ disk_text map cut)
+abbrev pub object_text : List ℕ → Option Fault → List Slot → Sector → Option Shortfall → List ℕ
+object_text name found files map lack = verdict_text name found ++ (files_text files ++ disk_text map lack)
 
 -- the size of a file, if it is known
 abbrev pub size_text : Option ℕ → List ℕ
@@ -75,4 +81,4 @@ refused_head name size = head_text name ++ (codes ",\"size\":" ++ (size_text siz
 abbrev pub refused_text : List ℕ → Option ℕ → List ℕ → List ℕ
 refused_text name size why =
     refused_head name size ++ (json_string why
-    ++ codes ",\"track\":null,\"sector\":null,\"files\":[],\"free\":null,\"disk\":null,\"id\":null,\"short\":null}\n")
+    ++ codes ",\"track\":null,\"sector\":null,\"files\":[],\"free\":null,\"disk\":null,\"id\":null,\"short\":null,\"fewer\":null}\n")

@@ -1,16 +1,19 @@
 -- What comes of describing an image. Our own.
-use Rattle.std.specs.Prelude.{◌≡◌, ◌≢◌, ◌⊎◌, ℕ, List, [], ◌∷◌, None, Option, Some, length}
+use Rattle.std.specs.Prelude.{◌≡◌, ◌≢◌, ◌⊎◌, ℕ, List, [], ◌∷◌, ◌++◌, None, Option, Some, codes, length}
 use Rattle.std.specs.Io.KnownBytes.{Appends}
 use Rattle.d64_image.specs.Images.{Image, sector}
 use Rattle.d64_image.specs.Memory.{sectors_in}
 use Rattle.d64_image.specs.declared.place.Place.{Place}
-use Rattle.damaged_files.specs.cut.Told.{IsToldOfImage}
+use Rattle.damaged_files.specs.cut.Told.{IsShortfallOf, IsToldOfImage}
+use Rattle.damaged_files.specs.declared.cut.shortfalls.Shortfall.{Shortfall}
 use Rattle.disk_layout.specs.Clean.{IsVerdict}
 use Rattle.disk_layout.specs.Directory.{IsDirectory, map_place}
 use Rattle.disk_layout.specs.Fault.{HoldsOfDirectory, nowhere}
 use Rattle.disk_layout.specs.declared.faults.Fault.{Fault}
 use Rattle.disk_layout.specs.declared.slot.Slot.{Slot}
+use Rattle.disk_layout.specs.Texts.{place_text}
 use Rattle.disk_reports.specs.Objects.{object_text}
+use Rattle.disk_reports.specs.Texts.{verdict_text}
 use Rattle.disk_reports.specs.Trails.{IsTrail, Shows}
 use Rattle.command_faults.specs.declared.faults.CommandFault.{CommandFault}
 use Rattle.command_faults.specs.declared.faults.CommandFault.TheVariants as faults
@@ -43,17 +46,32 @@ AreFound img None files = files ≡ []
 AreFound img (Some fault) files = AreFilesOf img fault files
 
 -- The image was described on an output that held `old` and holds `new`: by the object of what a check finds, with the
--- files that this concerns, and of the first file that is cut short.
+-- files that this concerns, and of what its files lack.
 pub record IsDescribed {W : Type 0} (contents : W → Option (List ℕ)) (name image : List ℕ) (old new : W)
     (found : Option Fault) : Type 0 where
   pub size : length image ≡ 174848
   pub verdict : IsVerdict (sectors_in image) found
   pub files : List Slot
   pub concerned : AreFound (sectors_in image) found files
+  pub lack : Option Shortfall
+  pub lacks : IsShortfallOf (sectors_in image) lack
+  pub printed : Appends (contents old) (contents new)
+      (object_text name found files (sector (sectors_in image) map_place) lack)
+
+-- the line of the first file that is cut short
+abbrev pub cut_line : Option Place → List ℕ
+cut_line None = []
+cut_line (Some p) = codes "SHORT " ++ (place_text p ++ codes "\n")
+
+-- the verdict of a check of the image was printed on an output that held `old` and holds `new`, and then where its first
+-- file is cut short, if one is
+pub record IsCheckedAmong {W : Type 0} (contents : W → Option (List ℕ)) (image : List ℕ) (old new : W)
+    (found : Option Fault) : Type 0 where
+  pub size : length image ≡ 174848
+  pub verdict : IsVerdict (sectors_in image) found
   pub cut : Option Place
   pub short : IsToldOfImage image None cut
-  pub printed : Appends (contents old) (contents new)
-      (object_text name found files (sector (sectors_in image) map_place) cut)
+  pub printed : Appends (contents old) (contents new) (verdict_text found ++ cut_line cut)
 
 -- why an image isn't described: its size, memory, or the output
 abbrev pub IsDescribeFault : List ℕ → CommandFault → Type 0

@@ -9,7 +9,7 @@ use crate::concerned::list_files;
 use crate::objects::{put_object, put_refused};
 use arrayvec::ArrayVec;
 use command_faults::{CommandFault, load};
-use damaged_files::sound_cut;
+use damaged_files::find_shortfall;
 use disk_layout::{Fault, map_place};
 use layout_check::verdict;
 use std::alloc::Global;
@@ -18,7 +18,7 @@ use std::io::Write;
 /// Prints an object of JSON, in a line of its own, that describes the image: its name and size, and what a check finds,
 /// as `check` prints it. Then follow the track and the sector of a fault, as numbers, and the names of the files that the
 /// fault concerns, as they can be typed. Last are the free blocks as the map counts them, the disk's name and id, and the
-/// sector where the first file that is cut short ends. Returns the fault.
+/// sector where the first file ends that is cut short, or has fewer blocks than its entry says. Returns the fault.
 ///
 /// `ImageSize`; `NoMemory`: nothing was printed then. `File` if the output failed, which may then have a part.
 pub fn describe_image<W: Write>(
@@ -36,9 +36,9 @@ pub fn describe_image<W: Write>(
     let found = verdict(&mut disk);
     let mut files = ArrayVec::new();
     list_files(&mut disk, found, &mut files);
-    let cut = sound_cut(&mut disk, None);
+    let lack = find_shortfall(&mut disk);
     let map = disk.sector(map_place());
-    match put_object(out, name, found, files.as_slice(), map, cut) {
+    match put_object(out, name, found, files.as_slice(), map, lack) {
         Ok(()) => Ok(found),
         Err(_) => Err(CommandFault::File),
     }

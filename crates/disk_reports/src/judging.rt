@@ -5,10 +5,13 @@ ghost use Rattle.d64_image.specs.Memory.{sectors_in};
 ghost use Rattle.disk_layout.specs.declared.faults.Fault.{Fault};
 ghost use Rattle.disk_layout.specs.Clean.{IsVerdict};
 ghost use Rattle.disk_reports.specs.Listings.{IsCheckFault};
+ghost use Rattle.disk_reports.specs.Outcomes.{IsCheckedAmong, cut_line};
 ghost use Rattle.disk_reports.specs.Texts.{verdict_text};
 ghost use Rattle.command_faults.specs.declared.faults.CommandFault.TheVariants as faults;
 
 use command_faults::{CommandFault, flush, load, put_line};
+use d64_image::Place;
+use damaged_files::{Shortfall, sound_cut};
 use disk_layout::Fault;
 use layout_check::verdict;
 use std::alloc::Global;
@@ -49,4 +52,34 @@ pub fn check_image<W: Write>(
     let found = verdict(&mut disk);
     put_verdict(out, found)?;
     Ok(found)
+}
+
+/// Prints where a file is cut short, if one is.
+fn put_cut<W: Write>(out: &mut W, cut: Option<Place>) -> Result<(), CommandFault>
+    ensures ok { OnOk result (Appends (W.contents out.old) (W.contents out.new) (cut_line cut)) }
+    ensures err { IfErr result (λ fault. fault ≡ faults.File) }
+{
+    match cut {
+        Some(place) => put_line(out, Shortfall::Short(place)),
+        None => Ok(()),
+    }
+}
+
+/// Checks the layout of one image of several: prints what `check_image` does, and then `SHORT` and the sector where the
+/// first file that is cut short ends, if one is. Returns the fault. The errors are those of `check_image`.
+pub fn check_among<W: Write>(
+    alloc: Global,
+    image: &[u8],
+    out: &mut W,
+) -> Result<Option<Fault>, CommandFault>
+    ensures ok { IfOk result (IsCheckedAmong W.contents image.now out.old out.new) }
+    ensures err { IfErr result (IsCheckFault image.now) }
+    ensures untouched { IfErr result (λ fault. (fault ≢ faults.File) → out.new ≡ out.old) }
+{
+    let mut disk = load(alloc, image)?;
+    let fault = verdict(&mut disk);
+    let cut = sound_cut(&mut disk, None);
+    put_verdict(out, fault)?;
+    put_cut(out, cut)?;
+    Ok(fault)
 }

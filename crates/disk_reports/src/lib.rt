@@ -26,7 +26,7 @@ mod trail;
 
 pub use describing::{describe_image, describe_refusal};
 pub use directory_listing::list_image;
-pub use judging::check_image;
+pub use judging::{check_among, check_image};
 pub use laws::{named_sides_hold, strings_are_read_back};
 pub use listing::list_faults;
 pub use near_names::print_near_names;

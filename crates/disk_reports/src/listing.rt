@@ -2,16 +2,16 @@
 ghost use Rattle.std.specs.Prelude.{◌≡◌, ◌≢◌, ◌⊎◌, ◌≤◌, ◌∷◌, IfErr, IfOk, OnOk, Some, codes, length};
 ghost use Rattle.std.specs.Io.KnownBytes.{Appends};
 ghost use Rattle.d64_image.specs.Memory.{disk_image};
-ghost use Rattle.disk_reports.specs.AllFaults.{AreListed, ArePrinted, IsListed, cut_line};
+ghost use Rattle.disk_reports.specs.AllFaults.{AreListed, ArePrinted, IsListed, shortfall_line};
 ghost use Rattle.disk_reports.specs.Outcomes.{IsDescribeFault};
 ghost use Rattle.command_faults.specs.declared.faults.CommandFault.TheVariants as faults;
 
 use crate::gathering::find_others;
 use crate::lines::put_lines;
 use crate::links::{Links, follow_all};
-use command_faults::{CommandFault, load};
-use d64_image::{MemDisk, Place};
-use damaged_files::sound_cut;
+use command_faults::{CommandFault, load, put_line};
+use d64_image::MemDisk;
+use damaged_files::{Shortfall, find_shortfall};
 use disk_layout::Fault;
 use layout_check::verdict;
 use std::alloc::Global;
@@ -71,25 +71,22 @@ fn put_found<W: Write>(
     }
 }
 
-/// Prints the sector where the first file that is cut short ends, if one is.
-fn put_cut<W: Write>(out: &mut W, cut: Option<Place>) -> Result<(), CommandFault>
-    ensures ok { OnOk result (Appends (W.contents out.old) (W.contents out.new) (cut_line cut)) }
+/// Prints what a file lacks, if one lacks something.
+fn put_shortfall<W: Write>(out: &mut W, lack: Option<Shortfall>) -> Result<(), CommandFault>
+    ensures ok { OnOk result (Appends (W.contents out.old) (W.contents out.new) (shortfall_line lack)) }
     ensures err { IfErr result (λ fault. fault ≡ faults.File) }
 {
-    let Some(place) = cut else {
-        return Ok(());
-    };
-    let (track, sector) = (place.track(), place.sector());
-    if writeln!(out, "SHORT {track}/{sector}").is_err() {
-        return Err(CommandFault::File);
+    match lack {
+        Some(lack) => put_line(out, lack),
+        None => Ok(()),
     }
-    Ok(())
 }
 
 /// Prints every fault of an image that holds, a line each: first the one that a check finds, and then all others in the
 /// order of the disk, by track and sector. After each stand the names of the files that it concerns, between quotation
 /// marks and as they can be typed: `OWNEDTWICE 6/17 "LETTER 02" "LETTER 04"`. Prints `OK` if the image is clean. Then
-/// follows `SHORT` and the sector where the first file that is cut short ends, if one is. Returns the first fault.
+/// follows `SHORT` and the sector where the first file that is cut short ends, if one is; otherwise `FEWER` and where the
+/// first one ends that has fewer blocks than its entry says. Returns the first fault.
 ///
 /// Each entry is followed for itself, and a damaged directory is read as far as it goes. `MapWrong` is listed only if the
 /// disk has no other fault that a survey finds: only then it is known what the map has wrong.
@@ -107,8 +104,8 @@ pub fn list_faults<W: Write>(
 {
     let mut disk = load(alloc, image)?;
     let found = verdict(&mut disk);
-    let cut = sound_cut(&mut disk, None);
+    let lack = find_shortfall(&mut disk);
     put_found(alloc, &mut disk, found, out)?;
-    put_cut(out, cut)?;
+    put_shortfall(out, lack)?;
     Ok(found)
 }

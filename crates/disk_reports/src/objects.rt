@@ -1,11 +1,11 @@
 //! Objects of JSON, written.
 ghost use Rattle.std.specs.Prelude.{◌≡◌, OnOk, flat_map};
 ghost use Rattle.std.specs.Io.KnownBytes.{Appends};
-ghost use Rattle.disk_reports.specs.Objects.{disk_name_text, disk_text, end_text, files_text, found_text, head_text, names_text, next_name};
+ghost use Rattle.disk_reports.specs.Objects.{disk_name_text, disk_text, end_text, files_text, found_text, head_text, lack_text, names_text, next_name};
 ghost use Rattle.disk_reports.specs.Objects.{object_text, refused_head, refused_text, size_text, verdict_text};
 
 use crate::json::{put_string, put_typed};
-use d64_image::Place;
+use damaged_files::Shortfall;
 use disk_layout::{BamView, Fault, Slot};
 use disk_rescue::{disk_name, entry_name};
 use std::io::{self, Write};
@@ -82,27 +82,40 @@ fn put_disk_name<W: Write>(out: &mut W, map: &[u8; 256]) -> io::Result<()>
     put_typed(out, disk_name(map))
 }
 
-/// Writes the sector where the first file that is cut short ends, if one is, and the end of the object.
-fn put_end<W: Write>(out: &mut W, cut: Option<Place>) -> io::Result<()>
-    ensures { OnOk result (Appends (W.contents out.old) (W.contents out.new) (end_text cut)) }
+/// Writes what a file lacks, and the end of the object.
+fn put_shortfall<W: Write>(out: &mut W, lack: Shortfall) -> io::Result<()>
+    ensures { OnOk result (Appends (W.contents out.old) (W.contents out.new) (lack_text lack)) }
 {
-    match cut {
-        None => out.write_all(b",\"short\":null}\n"),
-        Some(place) => {
+    match lack {
+        Shortfall::Short(place) => {
             let (track, sector) = (place.track(), place.sector());
-            writeln!(out, ",\"short\":\"{track}/{sector}\"}}")
+            writeln!(out, ",\"short\":\"{track}/{sector}\",\"fewer\":null}}")
+        }
+        Shortfall::Fewer(place) => {
+            let (track, sector) = (place.track(), place.sector());
+            writeln!(out, ",\"short\":null,\"fewer\":\"{track}/{sector}\"}}")
         }
     }
 }
 
-/// Writes what 18/0 says of the disk, where a file is cut short, and the end.
-fn put_disk<W: Write>(out: &mut W, map: &[u8; 256], cut: Option<Place>) -> io::Result<()>
-    ensures { OnOk result (Appends (W.contents out.old) (W.contents out.new) (disk_text map.now cut)) }
+/// The same, if a file lacks something.
+fn put_end<W: Write>(out: &mut W, lack: Option<Shortfall>) -> io::Result<()>
+    ensures { OnOk result (Appends (W.contents out.old) (W.contents out.new) (end_text lack)) }
+{
+    match lack {
+        None => out.write_all(b",\"short\":null,\"fewer\":null}\n"),
+        Some(lack) => put_shortfall(out, lack),
+    }
+}
+
+/// Writes what 18/0 says of the disk, what a file lacks, and the end.
+fn put_disk<W: Write>(out: &mut W, map: &[u8; 256], lack: Option<Shortfall>) -> io::Result<()>
+    ensures { OnOk result (Appends (W.contents out.old) (W.contents out.new) (disk_text map.now lack)) }
 {
     put_disk_name(out, map)?;
     out.write_all(b",\"id\":")?;
     put_typed(out, BamView::new(map).id())?;
-    put_end(out, cut)
+    put_end(out, lack)
 }
 
 /// Writes the object of an image up to the files.
@@ -114,22 +127,22 @@ fn put_verdict<W: Write>(out: &mut W, name: &[u8], found: Option<Fault>) -> io::
     put_found(out, found)
 }
 
-/// Writes the object of an image of which a check finds this, with the files that this concerns, the bytes of 18/0, and where
-/// the first file that is cut short ends.
+/// Writes the object of an image of which a check finds this, with the files that this concerns, the bytes of 18/0, and what
+/// the files lack.
 pub(crate) fn put_object<W: Write>(
     out: &mut W,
     name: &[u8],
     found: Option<Fault>,
     files: &[Slot],
     map: &[u8; 256],
-    cut: Option<Place>,
+    lack: Option<Shortfall>,
 ) -> io::Result<()>
     ensures { OnOk result (Appends (W.contents out.old) (W.contents out.new)
-        (object_text name.now found files.now map.now cut)) }
+        (object_text name.now found files.now map.now lack)) }
 {
     put_verdict(out, name, found)?;
     put_files(out, files)?;
-    put_disk(out, map, cut)
+    put_disk(out, map, lack)
 }
 
 /// Writes a size, if it is known.
@@ -164,6 +177,6 @@ pub(crate) fn put_refused<W: Write>(
     put_refused_head(out, name, size)?;
     put_string(out, why)?;
     out.write_all(
-        b",\"track\":null,\"sector\":null,\"files\":[],\"free\":null,\"disk\":null,\"id\":null,\"short\":null}\n",
+        b",\"track\":null,\"sector\":null,\"files\":[],\"free\":null,\"disk\":null,\"id\":null,\"short\":null,\"fewer\":null}\n",
     )
 }

@@ -1,9 +1,13 @@
 -- Entries of a directory by their names, and an entry that changes. Our own, over the 1541 User's Guide's directory format.
-use Rattle.std.specs.Prelude.{◌≡◌, ℕ, suc, ◌<◌, ◌++◌, List, Some, drop, map, slice_get, slice_range, slice_set, take}
+use Rattle.std.specs.Prelude.{◌≡◌, ◌⊎◌, IfErr, IfOk, Result, ℕ, suc, ◌<◌, ◌++◌, List, Some, drop, map, slice_get, slice_range, slice_set, take}
 use Rattle.d64_image.specs.Offsets.{overwritten}
-use Rattle.disk_layout.specs.Layout.{File, Layout}
+use Rattle.d64_image.specs.History.{History, OnlyReads}
+use Rattle.disk_layout.specs.Layout.{File, IsLayout, Layout}
 use Rattle.disk_layout.specs.Rest.{slot_name}
 use Rattle.disk_layout.specs.declared.slot.Slot.{Slot}
+use Rattle.file_changes.specs.Faults.{TellsChange}
+use Rattle.file_changes.specs.declared.faults.ChangeFault.{ChangeFault}
+use Rattle.file_changes.specs.declared.faults.ChangeFault.TheVariants.{Device, NotFound}
 
 -- the sixteen bytes of the entry's name are these
 abbrev pub HasName : List ℕ → Slot → Type 0
@@ -22,6 +26,17 @@ IsFreeName entries padded = (k : ℕ) (s : Slot) → slice_get entries k ≡ Som
 -- the entries of a layout, in the order of the directory
 abbrev pub entries_of : Layout → List Slot
 entries_of l = map (λ f. f.slot) l.files
+
+-- The first entry of a name was found, or none has it; nothing was written.
+pub record FindsEntry {D : Type 0} (S : History D) (old new : D) (name : List ℕ) (result : Result Slot ChangeFault) : Type 0
+  where
+    pub ok : (l : Layout) → IsLayout (S.image old) l
+        → IfOk result (λ s. (n : ℕ) × IsFirstNamed (entries_of l) (slot_name name) n s)
+    pub not_found : (l : Layout) → IsLayout (S.image old) l
+        → IfErr result (λ e. e ≡ NotFound → IsFreeName (entries_of l) (slot_name name))
+    pub told : IfErr result (λ e. (e ≡ NotFound) ⊎ (e ≡ Device))
+    pub reads : OnlyReads S old new 18
+    pub failures : TellsChange S old new result
 
 -- the file with another name in its entry
 abbrev pub renamed : File → List ℕ → File

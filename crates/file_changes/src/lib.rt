@@ -14,6 +14,7 @@ mod putting;
 mod renaming;
 
 pub use deleting::delete;
+pub use entries::find_entry;
 pub use faults::ChangeFault;
 pub use file_type::FileType;
 pub use formatting::{format_disk, new_disk};

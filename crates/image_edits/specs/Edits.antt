@@ -1,6 +1,7 @@
 -- What comes of a change of an image's files, as the words ask for it. Our own.
 use Rattle.std.specs.Prelude.{◌≡◌, ◌≤◌, ⊤, ℕ, Bool, List, false, length, true}
 use Rattle.disk_changes.specs.Deletes.{IsDeleteRefusal, IsDeleted}
+use Rattle.disk_changes.specs.Locks.{IsLockRefusal, IsLockSet}
 use Rattle.disk_changes.specs.Makes.{IsMade, IsMakeRefusal}
 use Rattle.disk_changes.specs.Puts.{IsPut, IsPutRefusal}
 use Rattle.disk_changes.specs.Rebuilds.{IsRebuildRefusal, IsRebuilt}
@@ -37,6 +38,7 @@ loss_of (edits.Make size loss name) = loss
 loss_of (edits.Store records columns loss name) = loss
 loss_of (edits.Rename loss from to) = loss
 loss_of (edits.Title id loss name) = loss
+loss_of (edits.Lock lock loss name) = loss
 loss_of (edits.Delete loss name) = loss
 loss_of (edits.Put file kind loss name) = loss
 
@@ -62,6 +64,7 @@ IsEdited (edits.RepairSides loss unowned) text image made = IsRebuilt image (fre
 IsEdited (edits.Make size loss name) text image made = IsMade image (name_bytes name) size (shortened loss) made
 IsEdited (edits.Rename loss from to) text image made = IsRenamed image (name_bytes from) (name_bytes to) made
 IsEdited (edits.Title id loss name) text image made = IsTitled image (name_bytes name) id made
+IsEdited (edits.Lock lock loss name) text image made = IsLockSet image (name_bytes name) lock made
 IsEdited (edits.Delete loss name) text image made = IsDeleted image (name_bytes name) made
 IsEdited (edits.Put file kind loss name) text image made = IsPut image (name_bytes name) kind text made
 IsEdited (edits.Store records columns loss name) text image made =
@@ -74,6 +77,7 @@ IsUnedited (edits.RepairSides loss unowned) text image why = IsRebuildRefusal im
 IsUnedited (edits.Make size loss name) text image why = IsMakeRefusal image (name_bytes name) (shortened loss) why
 IsUnedited (edits.Rename loss from to) text image why = IsRenameRefusal image (name_bytes from) (name_bytes to) why
 IsUnedited (edits.Title id loss name) text image why = IsUnsoundOrShort image why
+IsUnedited (edits.Lock lock loss name) text image why = IsLockRefusal image (name_bytes name) why
 IsUnedited (edits.Delete loss name) text image why = IsDeleteRefusal image (name_bytes name) why
 IsUnedited (edits.Put file kind loss name) text image why = IsPutRefusal image (name_bytes name) kind text why
 IsUnedited (edits.Store records columns loss name) text image why =

@@ -2,6 +2,7 @@
 ghost use Rattle.std.specs.Prelude.{◌≡◌};
 ghost use Rattle.image_edits.specs.Edits.{frees};
 
+use disk_changes::Lock;
 use file_changes::FileType;
 use keeper_commands::ColumnForm;
 use opened_files::{Loss, Name};
@@ -88,6 +89,15 @@ pub enum Edit<'a> {
         /// What is done if the log of the image is away.
         loss: Loss,
         /// Its name.
+        name: Name,
+    },
+    /// The first file of a name is locked or unlocked.
+    Lock {
+        /// Which of the two.
+        lock: Lock,
+        /// What is done if the image has lost its log.
+        loss: Loss,
+        /// The name of the file.
         name: Name,
     },
     /// The first file of a name is deleted.

@@ -37,7 +37,7 @@ impl Edit<'_> {
             Edit::Repair { loss, .. } | Edit::RepairSides { loss, .. } => loss,
             Edit::Make { loss, .. } | Edit::Store { loss, .. } | Edit::Put { loss, .. } => loss,
             Edit::Rename { loss, .. } | Edit::Title { loss, .. } => loss,
-            Edit::Delete { loss, .. } => loss,
+            Edit::Lock { loss, .. } | Edit::Delete { loss, .. } => loss,
         }
     }
 
@@ -77,6 +77,10 @@ impl Edit<'_> {
             },
             Edit::Title { id, ref name, .. } => Change::Title {
                 id,
+                name: name.as_bytes(),
+            },
+            Edit::Lock { lock, ref name, .. } => Change::Lock {
+                lock,
                 name: name.as_bytes(),
             },
             Edit::Delete { ref name, .. } => Change::Delete {
@@ -140,7 +144,9 @@ where
         Edit::Repair { .. } | Edit::RepairSides { .. } | Edit::Make { .. } => Ok(Vec::new(
             rt.alloc(),
         )),
-        Edit::Rename { .. } | Edit::Title { .. } | Edit::Delete { .. } => Ok(Vec::new(rt.alloc())),
+        Edit::Rename { .. } | Edit::Title { .. } | Edit::Lock { .. } | Edit::Delete { .. } => {
+            Ok(Vec::new(rt.alloc()))
+        }
     }
 }
 

@@ -4,7 +4,7 @@ use Rattle.std.specs.Prelude.{IsErr, IsOk, MatchResult, OnOk}
 use Rattle.command_faults.specs.declared.faults.CommandFault.{CommandFault}
 use Rattle.command_faults.specs.declared.faults.CommandFault.TheVariants as faults
 use Rattle.d64_image.specs.Memory.{sectors_in}
-use Rattle.d64_image.specs.declared.place.Place.{Place}
+use Rattle.damaged_files.specs.declared.cut.shortfalls.Shortfall.{Shortfall}
 use Rattle.disk_layout.specs.declared.faults.Fault.{Fault}
 use Rattle.keeper_commands.specs.rescue.Folders.{AddsFiles, NewFile}
 use Rattle.keeper_commands.specs.rescue.Rescues.{IsExtractFault, IsExtracted, IsExtractedPart, all_files}
@@ -72,9 +72,9 @@ kept-so {F} files choice image folder left kept (Err fault) made same unmade =
     subst (λ (f : F). IsExtractFault files choice image folder f fault) (sym (unmade refl)) made
 
 -- what is said to be extracted is kept
-pub told-kept : {W : Type 0} (contents : W → Option (List ℕ)) (ended : Result (Option Fault) CommandFault) (cut : Option Place)
-    (old new : W) (end : JobEnd) (P : Type 0) → IsExtractTold contents (refusal_of ended cut) old new end → (IsOk ended → P)
+pub told-kept : {W : Type 0} (contents : W → Option (List ℕ)) (ended : Result (Option Fault) CommandFault) (lack : Option Shortfall)
+    (old new : W) (end : JobEnd) (P : Type 0) → IsExtractTold contents (refusal_of ended lack) lack old new end → (IsOk ended → P)
     → OnOk end P
-told-kept contents (Ok found) cut old new (Ok printed) P told kept = kept refl
-told-kept contents (Ok found) cut old new (Err refusal) P told kept = tt
-told-kept contents (Err fault) cut old new end P told kept = subst (λ (e : JobEnd). OnOk e P) (sym told.0) tt
+told-kept contents (Ok found) lack old new (Ok printed) P told kept = kept refl
+told-kept contents (Ok found) lack old new (Err refusal) P told kept = tt
+told-kept contents (Err fault) lack old new end P told kept = subst (λ (e : JobEnd). OnOk e P) (sym told.0) tt

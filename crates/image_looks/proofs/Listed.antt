@@ -13,8 +13,8 @@ listed-kept contents image old mid new found h kept =
     record {
       size = h.size;
       verdict = h.verdict;
-      cut = h.cut;
-      short = h.short;
+      lack = h.lack;
+      lacks = h.lacks;
       text = h.text;
       listing = h.listing;
       printed = Appends-kept (contents old) (contents mid) (contents new) _ h.printed kept;

@@ -1,11 +1,14 @@
 -- What comes of one image of several. All of it is our own.
-use Rattle.std.specs.Prelude.{◌≡◌, ◌++◌, ℕ, List, [], Option, Some, Ok, Err, Vec, vec_items}
+use Rattle.std.specs.Prelude.{◌≡◌, ◌≢◌, ◌++◌, ℕ, List, [], Option, Some, Ok, Err, Vec, vec_items}
 use Rattle.std.specs.declared.alloc.Global.{Global}
 use Rattle.std.specs.Io.KnownBytes.{Appends}
 use Rattle.image_looks.specs.EachImage.{Loaded}
-use Rattle.opened_files.specs.Ends.{JobEnd, end_line, end_status}
+use Rattle.disk_reports.specs.Listings.{IsCheckFault}
+use Rattle.disk_reports.specs.Outcomes.{IsCheckedAmong}
+use Rattle.opened_files.specs.Ends.{IsPrintEnd, JobEnd, end_line, end_status}
 use Rattle.image_looks.specs.Looks.{IsLook}
 use Rattle.image_looks.specs.declared.kinds.Look.{Look}
+use Rattle.image_looks.specs.declared.kinds.Look.TheVariants as looks
 use Rattle.line_text.specs.Named.{named}
 
 -- a text, and the line that reports this end, were printed with a name before each line; the end's status is this
@@ -14,14 +17,20 @@ pub record IsToldAs {W : Type 0} (contents : W → Option (List ℕ)) (name text
   pub told : Appends (contents old) (contents new) (named name (text ++ end_line end))
   pub status_is : status ≡ end_status end
 
--- An image was one of several: over an output that held nothing, the command prints this text of it alone and ends so.
+-- what is asked of one image of several ended so: a look at it alone; or a check that also says where a file is cut short
+abbrev pub IsAmong : {W : Type 0} → (W → Option (List ℕ)) → Look → (image : List ℕ) → W → W → JobEnd → Type 0
+IsAmong contents what image old new end =
+    (what ≡ looks.Check → IsPrintEnd (IsCheckedAmong contents image) (IsCheckFault image) old new end)
+    × (what ≢ looks.Check → IsLook contents what image old new end)
+
+-- An image was one of several: over an output that held nothing, this text was printed of it, and it ended so.
 pub record IsOneOfSeveral {W : Type 0} (contents : W → Option (List ℕ)) (what : Look) (name image : List ℕ)
     (old new : W) (status : ℕ) : Type 0 where
   pub before : Vec ℕ Global
   pub after : Vec ℕ Global
   pub empty : vec_items before ≡ []
   pub end : JobEnd
-  pub alone : IsLook (λ text. Some (vec_items text)) what image before after end
+  pub alone : IsAmong (λ text. Some (vec_items text)) what image before after end
   pub told : IsToldAs contents name (vec_items after) end old new status
 
 -- what is asked of an image at this path, from which this was read, was printed, each line after a name

@@ -1,58 +1,78 @@
 //! All files of an image, taken out to a folder that is new.
 ghost use Rattle.std.specs.Prelude.{◌≡◌, ◌++◌, IfErr, IfOk, IfSome, IsErr, IsOk, OnOk, codes, true};
+ghost use Rattle.std.specs.Io.KnownBytes.{Appends};
+ghost use Rattle.line_text.specs.Handed.{AppendsPart};
 ghost use Rattle.command_faults.specs.declared.faults.CommandFault.TheVariants as faults;
-ghost use Rattle.image_looks.specs.Extracts.{IsExtractEnd, IsExtractTold, IsFolderEnd, refusal_found, refusal_of};
+ghost use Rattle.image_looks.specs.Extracts.{IsExtractEnd, IsExtractTold, IsFolderEnd, extracted_text, refusal_found, refusal_of};
 ghost use Rattle.image_looks.specs.LookRuns.{IsExtractedFrom};
 ghost use Rattle.opened_files.specs.HostFiles.{IsUnbegun};
 ghost use Rattle.opened_files.specs.Rights.{MayFill, MayFillAt, MayReadImage};
 
 use crate::new_folders::{KeptFolder, SystemFolder};
+use arrayvec::ArrayVec;
 use command_faults::CommandFault;
-use d64_image::Place;
+use damaged_files::Shortfall;
 use disk_layout::Fault;
 use image_file::{EndedFile, HostFiles, Locks};
 use keeper_commands::{Choice, extract_image};
-use opened_files::{Refusal, cut_in, image_at, run_end, told};
+use opened_files::{Refusal, image_at, run_end, short_refusal, shortfall_in, told};
 use shop_commands::put_whole;
 use std::alloc::Global;
 use std::fs::OpenFile;
 use std::io::{self, Read, Write};
 
 /// Why files that were all made aren't whole: their first fault, or that a file is cut short there.
-fn found_refusal(found: Option<Fault>, cut: Option<Place>) -> Option<Refusal>
-    ensures { result ≡ refusal_found found cut }
+fn found_refusal(found: Option<Fault>, lack: Option<Shortfall>) -> Option<Refusal>
+    ensures { result ≡ refusal_found found lack }
 {
     if let Some(fault) = found {
         return Some(Refusal::Fault(CommandFault::Layout(fault)));
     }
-    match cut {
-        Some(place) => Some(Refusal::Short(place)),
-        None => None,
-    }
+    short_refusal(lack)
 }
 
 /// Why the files of an image aren't all made and whole. It is the fault for which they weren't made, the first fault of a
 /// file that was made, or the place where one is cut short.
 fn extract_refusal(
     ended: Result<Option<Fault>, CommandFault>,
-    cut: Option<Place>,
+    lack: Option<Shortfall>,
 ) -> Option<Refusal>
-    ensures { result ≡ refusal_of ended cut }
+    ensures { result ≡ refusal_of ended lack }
 {
     match ended {
-        Ok(found) => found_refusal(found, cut),
+        Ok(found) => found_refusal(found, lack),
         Err(fault) => Some(Refusal::Fault(fault)),
     }
 }
 
-/// Prints `EXTRACTED`, unless the job is refused. Returns how it ended.
-fn tell_extracted<W: Write>(refused: Option<Refusal>, out: &mut W) -> Result<Option<Fault>, Refusal>
-    ensures { IsExtractTold W.contents refused out.old out.new result }
+/// Prints `EXTRACTED`, and what a file lacks, if one lacks something.
+fn put_extracted<W: Write>(lack: Option<Shortfall>, out: &mut W) -> Result<(), CommandFault>
+    ensures ok { OnOk result (Appends (W.contents out.old) (W.contents out.new) (extracted_text lack)) }
+    ensures err { IfErr result (λ fault.
+        (fault ≡ faults.File) × AppendsPart (W.contents out.old) (W.contents out.new) (extracted_text lack)) }
+{
+    let Some(lack) = lack else {
+        return put_whole(out, b"EXTRACTED\n");
+    };
+    let mut text = ArrayVec::<u8, 40>::new();
+    if writeln!(text, "EXTRACTED\n{lack}").is_err() {
+        return Err(CommandFault::File);
+    }
+    put_whole(out, text.as_slice())
+}
+
+/// Prints `EXTRACTED`, and what a file lacks, unless the job is refused. Returns how it ended.
+fn tell_extracted<W: Write>(
+    refused: Option<Refusal>,
+    lack: Option<Shortfall>,
+    out: &mut W,
+) -> Result<Option<Fault>, Refusal>
+    ensures { IsExtractTold W.contents refused lack out.old out.new result }
 {
     if let Some(refusal) = refused {
         return Err(refusal);
     }
-    run_end(put_whole(out, b"EXTRACTED\n"))
+    run_end(put_extracted(lack, out))
 }
 
 /// Keeps a folder whose files were all made; one in which they weren't isn't kept. `File` if it can't be kept.
@@ -75,7 +95,8 @@ fn keep_made<N: KeptFolder>(
 }
 
 /// Makes the chosen files of an image in a folder, as `extract_image` does, keeps it, and prints `EXTRACTED` if all are whole.
-/// Otherwise nothing is printed. `Keep` has the first fault of a file or of the directory, or why the files aren't made. `Short`: a
+/// `FEWER` and a sector follow if a file of a sound disk has fewer blocks than its entry says, and ends there. Otherwise
+/// nothing is printed. `Keep` has the first fault of a file or of the directory, or why the files aren't made. `Short`: a
 /// file of a sound disk is cut short. `File` if the folder failed as it was kept, or the output failed; `NoMemory`.
 pub fn extract_run<N: KeptFolder, W: Write>(
     alloc: Global,
@@ -87,10 +108,10 @@ pub fn extract_run<N: KeptFolder, W: Write>(
     ensures run { IsExtractEnd N.files N.HasFailed W.contents choice image.now folder.old folder.new out.old out.new result }
     ensures kept { OnOk result (N.IsKept folder.new) }
 {
-    let cut = cut_in(alloc, image)?;
+    let lack = shortfall_in(alloc, image)?;
     let ended = extract_image(alloc, choice, image, folder);
     match keep_made(&ended, folder) {
-        Ok(()) => tell_extracted(extract_refusal(ended, cut), out),
+        Ok(()) => tell_extracted(extract_refusal(ended, lack), lack, out),
         Err(fault) => Err(Refusal::Fault(fault)),
     }
 }

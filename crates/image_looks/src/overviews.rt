@@ -4,7 +4,7 @@ ghost use Rattle.std.specs.Io.KnownBytes.{Appends};
 ghost use Rattle.command_faults.specs.declared.faults.CommandFault.TheVariants as faults;
 ghost use Rattle.image_looks.specs.EachImage.{as_loaded};
 ghost use Rattle.image_looks.specs.LookRuns.{AreOverviewed};
-ghost use Rattle.image_looks.specs.Overviews.{IsOneOfSeveral, IsOverviewOf, IsToldAs};
+ghost use Rattle.image_looks.specs.Overviews.{IsAmong, IsOneOfSeveral, IsOverviewOf, IsToldAs};
 ghost use Rattle.line_text.specs.Named.{named};
 ghost use Rattle.opened_files.specs.Rights.{MayReadImage};
 
@@ -13,9 +13,10 @@ use crate::kinds::Look;
 use crate::looks::look;
 use command_faults::CommandFault;
 use disk_layout::Fault;
+use disk_reports::check_among;
 use image_file::{HostFiles, Locks, ShownPath};
 use line_text::put_named;
-use opened_files::{Refusal, end};
+use opened_files::{Refusal, end, job_end};
 use std::alloc::Global;
 use std::fs::OpenFile;
 use std::io::{Read, Write};
@@ -53,8 +54,24 @@ fn tell_named<W: Write>(
     Ok(ending.status)
 }
 
-/// Prints what is asked of one of several images. The lines are those that the command prints of this image alone, and
-/// the line that it would report on standard error. Each stands after the image's name, a colon and a space. Returns the
+/// Prints what is asked of one image of several: what the command prints of it alone, and after a check where its first
+/// file is cut short, if one is.
+fn look_among<W: Write>(
+    alloc: Global,
+    what: &Look,
+    image: &[u8],
+    out: &mut W,
+) -> Result<Option<Fault>, Refusal>
+    ensures { IsAmong W.contents what.now image.now out.old out.new result }
+{
+    match what {
+        Look::Check => job_end(check_among(alloc, image, out)),
+        _ => look(alloc, what, image, out),
+    }
+}
+
+/// Prints what is asked of one of several images. The lines are those that the command prints of this image alone, after a
+/// check `SHORT` and where its first file is cut short, and the line that it would report on standard error. Each stands after the image's name, a colon and a space. Returns the
 /// exit status that the command would have.
 ///
 /// `File` if the output failed, which may then have a part; `NoMemory`, and nothing is printed.
@@ -71,7 +88,7 @@ pub fn overview_run<W: Write>(
         Ok(text) => text,
         Err(_) => return Err(CommandFault::NoMemory),
     };
-    let ended = look(alloc, what, image, &mut text);
+    let ended = look_among(alloc, what, image, &mut text);
     tell_named(name, text, ended, out)
 }
 

@@ -7,6 +7,7 @@ use Rattle.clap.specs.declared.parser.matches.ArgMatches.{ArgMatches}
 use Rattle.command_table.specs.Grammar.{value}
 use Rattle.image_edits.specs.declared.edit.Edit.{Edit}
 use Rattle.image_edits.specs.declared.edit.Edit.TheVariants as edits
+use Rattle.disk_changes.specs.declared.changes.Lock.TheVariants.{Cleared, Set}
 use Rattle.ledger_jobs.specs.declared.jobs.Job.{Job}
 use Rattle.opened_files.specs.Names.{IsNameOf, name_bytes}
 use Rattle.ledger_cli.specs.declared.faults.JobFault.{JobFault}
@@ -41,6 +42,8 @@ word_of_edit (edits.RepairSides loss unowned) = codes "repair"
 word_of_edit (edits.Make length loss name) = codes "make"
 word_of_edit (edits.Rename loss from to) = codes "rename"
 word_of_edit (edits.Title id loss name) = codes "title"
+word_of_edit (edits.Lock Set loss name) = codes "lock"
+word_of_edit (edits.Lock Cleared loss name) = codes "unlock"
 word_of_edit (edits.Delete loss name) = codes "delete"
 word_of_edit (edits.Put file kind loss name) = codes "put"
 word_of_edit (edits.Store records columns loss name) = codes "store"
@@ -57,6 +60,7 @@ IsEditIn (edits.Rename loss from to) rows = IsNameOf (value (codes "OLD") rows) 
     × IsNameOf (value (codes "NEW") rows) (name_bytes to) × (loss ≡ loss_in rows)
 IsEditIn (edits.Title id loss name) rows = IsNameOf (value (codes "NAME") rows) (name_bytes name)
     × IsIdOf (value (codes "ID") rows) id × (loss ≡ loss_in rows)
+IsEditIn (edits.Lock lock loss name) rows = IsNameOf (value (codes "NAME") rows) (name_bytes name) × (loss ≡ loss_in rows)
 IsEditIn (edits.Delete loss name) rows = IsNameOf (value (codes "NAME") rows) (name_bytes name) × (loss ≡ loss_in rows)
 IsEditIn (edits.Put file kind loss name) rows = IsNameOf (value (codes "NAME") rows) (name_bytes name)
     × (file.now ≡ value (codes "FILE") rows) × (type_in rows ≡ Some kind) × (loss ≡ loss_in rows)
@@ -120,7 +124,8 @@ IsRefusedName found =
     ⊎ (Has found (codes "store") (HasNoName (codes "NAME")) ⊎ (Has found (codes "make") (HasNoNewName (codes "NAME"))
     ⊎ (Has found (codes "delete") (HasNoName (codes "NAME")) ⊎ (Has found (codes "rename") HasNoRenaming
     ⊎ (Has found (codes "new") (HasNoName (codes "NAME")) ⊎ (Has found (codes "put") (HasNoNewName (codes "NAME"))
-    ⊎ Has found (codes "title") (HasNoName (codes "NAME"))))))))
+    ⊎ (Has found (codes "title") (HasNoName (codes "NAME"))
+    ⊎ (Has found (codes "lock") (HasNoName (codes "NAME")) ⊎ Has found (codes "unlock") (HasNoName (codes "NAME"))))))))))
 
 -- the subcommand has columns, and its words give none
 abbrev pub AreRefusedColumns : Option (Text × List Row) → JobFault → Type 0

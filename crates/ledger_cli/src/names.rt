@@ -19,6 +19,7 @@ use crate::forms::{byte_form, candidates, columns, effect, loss, record_form};
 use crate::numbers::length_of;
 use crate::values::value_of;
 use clap::ArgMatches;
+use disk_changes::Lock;
 use file_changes::FileType;
 use image_edits::{Columns, Edit};
 use image_looks::Look;
@@ -163,6 +164,24 @@ pub(crate) fn deleting<'a>(matches: &ArgMatches<'a>, image: &'a str) -> Result<J
         Some(name) => {
             let loss = loss(matches);
             Ok(edited(matches, image, Edit::Delete { loss, name }))
+        }
+        None => Err(JobFault::Name),
+    }
+}
+
+/// The job that locks or unlocks a file of an image.
+pub(crate) fn locking<'a>(
+    matches: &ArgMatches<'a>,
+    image: &'a str,
+    lock: Lock,
+) -> Result<Job<'a>, JobFault>
+    ensures { let rows = rows_of (found_of matches.now) in
+        IsNamedJob rows (λ name. jobs.Change image.entry (effect_in rows) (edits.Lock lock (loss_in rows) name)) result }
+{
+    match Name::read(value_of(matches, "NAME")) {
+        Some(name) => {
+            let loss = loss(matches);
+            Ok(edited(matches, image, Edit::Lock { lock, loss, name }))
         }
         None => Err(JobFault::Name),
     }

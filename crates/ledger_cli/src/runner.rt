@@ -12,7 +12,7 @@ use command_faults::CommandFault;
 use disk_layout::Fault;
 use image_edits::do_trim;
 use image_file::{EndedFile, Failure, Failures, LimitedErrors, Locks, NotedRuntime, Subject};
-use ledger_jobs::{Job, announce, do_job, explain, files_of, tell_verdict};
+use ledger_jobs::{Job, announce, do_job, explain, files_of, meaning_of, tell_verdict};
 use opened_files::{Refusal, end};
 use std::alloc::{AllocError, Global};
 use std::env;
@@ -97,6 +97,12 @@ fn explain_words<E: Write>(fault: &JobFault, err: &mut E) {
     };
 }
 
+/// Prints a text on the output, as a job does.
+fn print_text<R: Files + Print>(rt: &R, text: &[u8]) -> io::Result<()> {
+    let failures = Failures::none();
+    Print::write_all(&NotedRuntime::new(rt, &[], &failures), text)
+}
+
 /// Prints what `clap` says of the words: help on the output, and why they are refused on standard error.
 fn print_words<R, E>(rt: &R, said: &clap::Error, err: &mut E) -> io::Result<()>
 where
@@ -108,8 +114,7 @@ where
     if said.use_stderr() {
         return err.write_all(text.as_slice());
     }
-    let failures = Failures::none();
-    Print::write_all(&NotedRuntime::new(rt, &[], &failures), text.as_slice())
+    print_text(rt, text.as_slice())
 }
 
 /// Reports why the words ask for nothing, or prints the help that they ask for, and returns the exit status.
@@ -248,7 +253,60 @@ fn texts_of<'a>(alloc: Global, words: &'a [String]) -> Result<Vec<&'a str>, Allo
     Ok(texts)
 }
 
+/// The words after `help`, with a space between them, which may be one that the program prints.
+fn word_after_help(alloc: Global, texts: &[&str]) -> Result<String, AllocError> {
+    let mut word = String::new(alloc);
+    if texts.get(1) != Some(&"help") {
+        return Ok(word);
+    }
+    for (number, text) in texts.iter().enumerate() {
+        if number > 2 {
+            word.push_str(" ")?;
+        }
+        if number >= 2 {
+            word.push_str(text)?;
+        }
+    }
+    Ok(word)
+}
+
+/// Prints what a word means that the program prints, and returns the exit status.
+fn print_meaning<R, E>(rt: &R, word: &str, meaning: &str, err: &mut E) -> u8
+where
+    R: Files + Print + AllocGlobal,
+    E: Write,
+{
+    let mut text = Vec::new(rt.alloc());
+    let ended = match writeln!(text, "{word}: {meaning}") {
+        Ok(()) => print_text(rt, text.as_slice()),
+        failed => failed,
+    };
+    match ended {
+        Ok(()) => 0,
+        Err(error) => refuse(err, &error),
+    }
+}
+
 /// Does what these words ask for, and returns the exit status.
+fn obey_words<F, R, E>(rt: &R, texts: &[&str], told: Audience, err: &mut E) -> u8
+where
+    F: EndedFile + Read + Locks + OpenFile + Drop,
+    R: Files<File = F> + Input + Print + AllocGlobal,
+    E: Write,
+{
+    let line = command_line(rt.alloc(), texts);
+    let told = if line.is_explained {
+        told.explained()
+    } else {
+        told
+    };
+    match line.job {
+        Ok(job) => obey_job(rt, &job, told, err),
+        Err(fault) => refuse_words(rt, &fault, err),
+    }
+}
+
+/// Does what these words ask for, or prints what one means that the program prints, and returns the exit status.
 fn obey<F, R, E>(rt: &R, words: &[String], told: Audience, err: &mut E) -> u8
 where
     F: EndedFile + Read + Locks + OpenFile + Drop,
@@ -259,15 +317,13 @@ where
         Ok(texts) => texts,
         Err(error) => return refuse(err, &io::Error::from(error)),
     };
-    let line = command_line(rt.alloc(), texts.as_slice());
-    let told = if line.is_explained {
-        told.explained()
-    } else {
-        told
+    let word = match word_after_help(rt.alloc(), texts.as_slice()) {
+        Ok(word) => word,
+        Err(error) => return refuse(err, &io::Error::from(error)),
     };
-    match line.job {
-        Ok(job) => obey_job(rt, &job, told, err),
-        Err(fault) => refuse_words(rt, &fault, err),
+    match meaning_of(word.as_str()) {
+        Some(meaning) => print_meaning(rt, word.as_str(), meaning, err),
+        None => obey_words(rt, texts.as_slice(), told, err),
     }
 }
 

@@ -9,13 +9,15 @@ use crate::faults::JobFault;
 use crate::forms::{choice, loss, name_form, repairing};
 use crate::images::{checking, picturing, viewing};
 use crate::names::{
-    deleting, empty_disk, making, putting, renaming, storing, taking_bytes, taking_records, titling,
+    deleting, empty_disk, locking, making, putting, renaming, storing, taking_bytes,
+    taking_records, titling,
 };
 use crate::numbers::{place_of, tills_of};
 use crate::shops::{copying, formatting, playing};
 use crate::values::{is_given, parsed_subcommand, value_of};
 use clap::{ArgMatches, Error};
 use command_table::ledger_command;
+use disk_changes::Lock;
 use image_looks::Look;
 use ledger_jobs::Job;
 use std::alloc::{AllocError, Global};
@@ -62,6 +64,8 @@ fn job_of<'a>(alloc: Global, matches: &ArgMatches<'a>) -> Result<Job<'a>, JobFau
         "put" => putting(found, image),
         "rename" => renaming(found, image),
         "title" => titling(found, image),
+        "lock" => locking(found, image, Lock::Set),
+        "unlock" => locking(found, image, Lock::Cleared),
         "delete" => deleting(found, image),
         "new" => empty_disk(found, image),
         "map" => viewing(alloc, found, Look::Map),

@@ -5,17 +5,17 @@ ghost use Rattle.opened_files.specs.Rights.{MayReadImage};
 use crate::failure_lines::tell_of;
 use crate::jobs::Job;
 use crate::refusal_subjects::{CUT_SHORT, said_of_fault};
-use d64_image::Place;
+use damaged_files::Shortfall;
 use disk_layout::Fault;
 use image_file::{HostFiles, Locks, ShownPath};
 use image_looks::Look;
-use opened_files::{STANDARD_INPUT, cut_in, image_of_file, size_of};
+use opened_files::{STANDARD_INPUT, image_of_file, shortfall_in, size_of};
 use std::fs::OpenFile;
 use std::io::{Read, Write};
 
-/// The sector where the first file of the image at a path is cut short, as its shop is now. None also if another program
-/// has the image alone, if the image can't be read, and for standard input.
-fn cut_at<F, R>(rt: &R, path: &str) -> Option<Place>
+/// What the files of the image at a path lack, as its shop is now. None also if another program has the image alone, if the
+/// image can't be read, and for standard input.
+fn shortfall_at<F, R>(rt: &R, path: &str) -> Option<Shortfall>
 where
     F: Read + Locks + OpenFile + Drop,
     R: HostFiles<File = F> + AllocGlobal,
@@ -25,11 +25,11 @@ where
         return None;
     }
     let image = image_of_file(rt, path).ok()?;
-    cut_in(rt.alloc(), image.as_slice()).unwrap_or_default()
+    shortfall_in(rt.alloc(), image.as_slice()).unwrap_or_default()
 }
 
 /// Prints for a person, after the verdict of a check, what the fault means that it found, and what to do. Then it prints
-/// where the first file of the image is cut short, if one is: a line `SHORT t/s`. For that the image's file is opened,
+/// what a file of the image lacks, if one lacks something: a line `SHORT t/s` or `FEWER t/s`. For that the image's file is opened,
 /// locked with others that read it, and read once more. If that can't be done, or a line can't be printed, it isn't printed.
 pub fn tell_verdict<F, R, E>(rt: &R, job: &Job<'_>, found: Option<Fault>, err: &mut E)
 where
@@ -48,8 +48,8 @@ where
     if let Some(fault) = found {
         tell_of(err, image, said_of_fault(fault));
     }
-    if let Some(place) = cut_at(rt, image) {
-        let _ = writeln!(err, "SHORT {}/{}", place.track(), place.sector());
+    if let Some(lack) = shortfall_at(rt, image) {
+        let _ = writeln!(err, "{lack}");
     }
 }
 
@@ -61,10 +61,9 @@ where
     E: Write,
     requires { MayReadImage R.rights rt.now image.now }
 {
-    if let Some(place) = cut_at(rt, image) {
-        let (track, sector) = (place.track(), place.sector());
+    if let Some(lack @ Shortfall::Short(_)) = shortfall_at(rt, image) {
         let image = ShownPath(image);
-        let _ = writeln!(err, "ledger: {image}: SHORT {track}/{sector}; {CUT_SHORT}");
+        let _ = writeln!(err, "ledger: {image}: {lack}; {CUT_SHORT}");
     }
 }
 

@@ -11,7 +11,7 @@ use std::fs::OpenFile;
 use std::io::{Read, Write};
 
 /// What is printed if no name is near.
-const NO_SUCH_FILE: &str = "it has no such file; `ledger list` shows what it has";
+pub(crate) const NO_SUCH_FILE: &str = "it has no such file; `ledger list` shows what it has";
 
 /// The name of the file that it asks for.
 fn name_of<'j>(job: &'j Job<'_>) -> Option<&'j Name> {
@@ -23,6 +23,7 @@ fn name_of<'j>(job: &'j Job<'_>) -> Option<&'j Name> {
         Job::Change {
             edit: Edit::Store { name, .. }
             | Edit::Delete { name, .. }
+            | Edit::Lock { name, .. }
             | Edit::Rename { from: name, .. },
             ..
         } => Some(name),

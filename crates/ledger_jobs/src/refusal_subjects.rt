@@ -72,42 +72,47 @@ pub(crate) fn said_of_fault(fault: Fault) -> &'static str {
 }
 
 /// What is wrong with an image that is no shop's.
-const NO_SHOP: &str = "it is no shop of this program, or another program wrote to it";
+pub(crate) const NO_SHOP: &str = "it is no shop of this program, or another program wrote to it";
 
-const KEPT: &str =
+pub(crate) const KEPT: &str =
     "no file owns what is kept, but it may hold data; if you know that it doesn't, `repair --free` frees it";
 
-const FOREIGN_LOG: &str =
+pub(crate) const FOREIGN_LOG: &str =
     "the log beside it is of another image, or not whole (docs/LOG.md); `copy --log IMAGE-log NEW` gets out what it has";
 
 const NO_BASE: &str = "its first commit isn't whole, so it gives no image";
 
-const LOG_AWAY: &str =
+pub(crate) const LOG_AWAY: &str =
     "the last requests are in its log, which isn't beside it; docs/LOG.md says what to do";
 
-const SECOND_NAME: &str =
+pub(crate) const SECOND_NAME: &str =
     "it has a second name (a hard link), and would have a log under each, or it is mounted by itself, \
      without its log; keep one name, mount its folder, or `copy` it";
 
 pub(crate) const CUT_SHORT: &str =
     "a file ends there, too early (docs/KEEPERS.md); if `check` said OK before, use --accept-loss";
 
-const NAMED: &str = "a file has this name; `ledger list` shows them";
+pub(crate) const FEWER: &str =
+    "a file ends there, and its entry counts more blocks; compare it with another copy of the disk";
 
-const NO_ROOM: &str = "it has too few free blocks, or no room in its directory; nothing was done";
+pub(crate) const TAKEN: &str = "another program has it; end that one first";
 
-const NO_MEMORY: &str = "memory was refused; what was answered stays in it, or in its log";
+pub(crate) const NAMED: &str = "a file has this name; `ledger list` shows them";
 
-const LOCKED: &str = "the file is locked: `ledger list` prints `<` after its type";
+pub(crate) const NO_ROOM: &str = "it has too few free blocks, or no room in its directory; nothing was done";
 
-const SHOP_FILE: &str =
+pub(crate) const NO_MEMORY: &str = "memory was refused; what was answered stays in it, or in its log";
+
+pub(crate) const LOCKED: &str = "the file is locked: `ledger list` prints `<` after its type";
+
+pub(crate) const SHOP_FILE: &str =
     "the file is one of the two that a shop is kept in; without it the shop is lost";
 
-const BAD_LINE: &str = "nothing was done; mend the line, and run it again";
+pub(crate) const BAD_LINE: &str = "nothing was done; mend the line, and run it again";
 
-const GEOS: &str = "it is a disk of GEOS, which keeps sectors that no file owns";
+pub(crate) const GEOS: &str = "it is a disk of GEOS, which keeps sectors that no file owns";
 
-const FORMAT: &str = "its format byte isn't $41; it may be no disk of the 1541";
+pub(crate) const FORMAT: &str = "its format byte isn't $41; it may be no disk of the 1541";
 
 /// What a fault of a command is about.
 fn about_fault(fault: CommandFault) -> About {
@@ -143,7 +148,7 @@ pub(crate) fn subject_of(job: &Job<'_>, refusal: Refusal) -> About {
     match refusal {
         Refusal::Fault(fault) => about_fault(fault),
         Refusal::NotReady => About::Files,
-        Refusal::InUse => About::Image("another program has it; end that one first"),
+        Refusal::InUse => About::Image(TAKEN),
         Refusal::Kept(_) => About::Image(KEPT),
         Refusal::Exists => About::Made,
         Refusal::Log => About::Image(said_of_log(job)),

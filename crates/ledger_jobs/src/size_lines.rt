@@ -13,6 +13,9 @@ use opened_files::{STANDARD_INPUT, image_of_file, size_of};
 use std::fs::OpenFile;
 use std::io::{Read, Write};
 
+/// How many bytes an image has.
+pub(crate) const SIZE: &str = "an image of 35 tracks without error bytes has 174848";
+
 /// The image of a job that has another size than a disk: of two the first one, unless it has that size.
 pub(crate) fn missized_of<'a, R: HostFiles>(rt: &R, job: &Job<'a>) -> Option<&'a str>
     requires { MayExplain R.rights rt.now job.now }
@@ -52,11 +55,7 @@ where
     requires { MayReadImage R.rights rt.now image.now }
 {
     let Some(size) = size_of(rt, image) else {
-        return tell_of(
-            err,
-            image,
-            "an image of 35 tracks without error bytes has 174848",
-        );
+        return tell_of(err, image, SIZE);
     };
     let shown = ShownPath(image);
     let said = match bytes_again(rt, image) {

@@ -6,7 +6,10 @@ use Rattle.opened_files.specs.declared.losses.Loss.{Loss}
 use Rattle.opened_files.specs.declared.losses.Loss.TheVariants as losses
 use Rattle.d64_image.specs.declared.place.Place.{Place}
 use Rattle.command_faults.specs.declared.faults.CommandFault.{CommandFault}
-use Rattle.damaged_files.specs.cut.Told.{IsCutShort, IsToldOfImage}
+use Rattle.damaged_files.specs.cut.Told.{IsCutShort, IsShortfallOf}
+use Rattle.damaged_files.specs.declared.cut.shortfalls.Shortfall.{Shortfall}
+use Rattle.damaged_files.specs.declared.cut.shortfalls.Shortfall.TheVariants as lacks
+use Rattle.d64_image.specs.Memory.{sectors_in}
 use Rattle.command_faults.specs.declared.faults.CommandFault.TheVariants as faults
 use Rattle.opened_files.specs.Ends.{JobEnd, as_run}
 use Rattle.opened_files.specs.HostFiles.{RunEnds}
@@ -15,9 +18,15 @@ use Rattle.opened_files.specs.declared.refusals.Refusal.TheVariants as refusals
 use Rattle.shop_log.specs.life.Tags.{SaysLogAway}
 
 -- what is seen of an image, if it has the size of a disk
-abbrev pub IsSeen : (image : List ℕ) → Option Place → Type 0
-IsSeen image (Some p) = (length image ≡ 174848) × IsToldOfImage image None (Some p)
-IsSeen image None = length image ≡ 174848 → IsToldOfImage image None None
+abbrev pub IsSeen : (image : List ℕ) → Option Shortfall → Type 0
+IsSeen image (Some lack) = (length image ≡ 174848) × IsShortfallOf (sectors_in image) (Some lack)
+IsSeen image None = length image ≡ 174848 → IsShortfallOf (sectors_in image) None
+
+-- that a file is cut short, if the files lack that
+abbrev pub short_refusal : Option Shortfall → Option Refusal
+short_refusal None = None
+short_refusal (Some (lacks.Short p)) = Some (refusals.Short p)
+short_refusal (Some (lacks.Fewer p)) = None
 
 -- Why a job isn't begun that accepts no loss: a file of the image is cut short, and its chain ends there; or there was
 -- no memory to see.

@@ -22,7 +22,7 @@ pub use image_logs::{
     see_no_lost_log, see_size,
 };
 pub use locks::{read_owned, read_shared, read_synced};
-pub use losses::{Loss, cut_in, loss_refusal, see_log_away, see_untagged};
+pub use losses::{Loss, loss_refusal, see_log_away, see_untagged, short_refusal, shortfall_in};
 pub use names::Name;
 pub use new_images::make_image;
 pub use outcomes::{job_end, run_end, told};

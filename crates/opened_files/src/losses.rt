@@ -1,14 +1,14 @@
 //! What a disk has lost of its files.
 ghost use Rattle.std.specs.Prelude.{◌≡◌, IfErr, IfOk, OnOk};
-ghost use Rattle.opened_files.specs.Losses.{shortened as shortened_of, IsAwayFault, IsJudged, IsNear, IsSeen, IsTagFault};
+ghost use Rattle.opened_files.specs.Losses.{shortened as shortened_of, IsAwayFault, IsJudged, IsNear, IsSeen, IsTagFault, short_refusal as refused_short};
 ghost use Rattle.command_faults.specs.declared.faults.CommandFault.TheVariants.{NoMemory};
 ghost use Rattle.opened_files.specs.declared.refusals.Refusal.TheVariants as refusals;
 ghost use Rattle.shop_log.specs.life.Tags.{SaysLogAway};
 
 use crate::refusals::Refusal;
 use command_faults::CommandFault;
-use d64_image::{ImageFault, Place};
-use damaged_files::{Shortened, find_image_cut};
+use d64_image::ImageFault;
+use damaged_files::{Shortened, Shortfall, find_image_shortfall};
 use disk_layout::Fault;
 use shop_log::is_log_away;
 use std::alloc::Global;
@@ -60,16 +60,26 @@ pub fn see_untagged(image: &[u8], loss: Loss) -> Result<(), Refusal>
     }
 }
 
-/// The place where the first file of an image is cut short. None also if the image has another size, or its disk isn't
-/// sound. The only error is `NoMemory`.
-pub fn cut_in(alloc: Global, image: &[u8]) -> Result<Option<Place>, Refusal>
+/// What the files of an image lack. None also if the image has another size, or its disk isn't sound. The only error is
+/// `NoMemory`.
+pub fn shortfall_in(alloc: Global, image: &[u8]) -> Result<Option<Shortfall>, Refusal>
     ensures ok { IfOk result (IsSeen image.now) }
     ensures err { IfErr result (λ refusal. refusal ≡ refusals.Fault NoMemory) }
 {
-    match find_image_cut(alloc, image) {
-        Ok(cut) => Ok(cut),
+    match find_image_shortfall(alloc, image) {
+        Ok(lack) => Ok(lack),
         Err(ImageFault::Size) => Ok(None),
         Err(ImageFault::NoMemory) => Err(Refusal::Fault(CommandFault::NoMemory)),
+    }
+}
+
+/// That a file is cut short, if the files lack that.
+pub fn short_refusal(lack: Option<Shortfall>) -> Option<Refusal>
+    ensures { result ≡ refused_short lack }
+{
+    match lack {
+        Some(Shortfall::Short(place)) => Some(Refusal::Short(place)),
+        Some(Shortfall::Fewer(_)) | None => None,
     }
 }
 
@@ -80,9 +90,8 @@ pub fn loss_refusal(alloc: Global, image: &[u8], loss: Loss) -> Option<Refusal>
 {
     match loss {
         Loss::Accepted => None,
-        Loss::Refused => match cut_in(alloc, image) {
-            Ok(None) => None,
-            Ok(Some(place)) => Some(Refusal::Short(place)),
+        Loss::Refused => match shortfall_in(alloc, image) {
+            Ok(lack) => short_refusal(lack),
             Err(refusal) => Some(refusal),
         },
     }

@@ -58,3 +58,9 @@ HasStray img l = (p : Place) × ¬ (IsFree (sector img map_place) p) × ¬ (Cont
 -- the file of this layout is cut short, and ends at p
 abbrev pub IsCutAt : Image → Layout → File → Place → Type 0
 IsCutAt img l f p = IsCutIn img (HasStray img l) (HasStock l) f p
+
+-- the entry of the file counts more blocks than its chain has, which ends at p: at its last block, or at the entry if it has
+-- none
+abbrev pub HasFewer : File → Place → Type 0
+HasFewer f p = CountsMore f.slot (length f.blocks)
+    × ((slice_get f.blocks (length f.blocks - 1) ≡ Some p) ⊎ ((f.blocks ≡ []) × (f.slot.sector ≡ p)))

@@ -1,10 +1,13 @@
 -- What is reported of the files of a disk that are cut short. Our own.
-use Rattle.std.specs.Prelude.{◌≡◌, ℕ, ◌<◌, List, Option, None, Some, length, slice_get}
+use Rattle.std.specs.Prelude.{◌≡◌, ℕ, ◌<◌, ◌++◌, List, Option, None, Some, codes, length, slice_get}
 use Rattle.d64_image.specs.Images.{Image}
 use Rattle.d64_image.specs.Memory.{sectors_in}
 use Rattle.d64_image.specs.declared.place.Place.{Place}
 use Rattle.disk_layout.specs.Layout.{File, IsLayout, Layout}
-use Rattle.damaged_files.specs.cut.Cut.{IsCutAt}
+use Rattle.damaged_files.specs.cut.Cut.{HasFewer, IsCutAt}
+use Rattle.damaged_files.specs.declared.cut.shortfalls.Shortfall.{Shortfall}
+use Rattle.damaged_files.specs.declared.cut.shortfalls.Shortfall.TheVariants as lacks
+use Rattle.disk_layout.specs.Texts.{place_text}
 
 -- the call is about the entry with this number, from 0: about each, or about the one that is asked for
 abbrev pub IsAsked : Option ℕ → ℕ → Type 0
@@ -50,3 +53,36 @@ pub record IsCutShort (image : List ℕ) (p : Place) : Type 0 where
   pub file : File
   pub there : slice_get layout.files number ≡ Some file
   pub cut : IsCutAt (sectors_in image) layout file p
+
+-- of all files this one is the first that has fewer blocks than its entry says, and it ends at p
+pub record IsFirstFewer (l : Layout) (p : Place) : Type 0 where
+  pub number : ℕ
+  pub file : File
+  pub there : slice_get l.files number ≡ Some file
+  pub fewer : HasFewer file p
+  pub first : (k : ℕ) (g : File) (q : Place) → k < number → slice_get l.files k ≡ Some g → ¬ (HasFewer g q)
+
+-- none of them has
+abbrev pub HasNoFewer : Layout → Type 0
+HasNoFewer l = (k : ℕ) (g : File) (q : Place) → slice_get l.files k ≡ Some g → ¬ (HasFewer g q)
+
+-- the result: where the first of them ends, or None
+abbrev pub IsFewerTold : Layout → Option Place → Type 0
+IsFewerTold l (Some p) = IsFirstFewer l p
+IsFewerTold l None = HasNoFewer l
+
+-- what the files lack: the first one that is cut short; otherwise the first that has fewer blocks; or nothing
+abbrev pub IsShortfall : Image → Layout → Option Shortfall → Type 0
+IsShortfall img l (Some (lacks.Short p)) = IsFirstCut img l None p
+IsShortfall img l (Some (lacks.Fewer p)) = HasNoCut img l None × IsFirstFewer l p
+IsShortfall img l None = HasNoCut img l None × HasNoFewer l
+
+-- and for a disk that may be unsound, of which no file is checked then
+abbrev pub IsShortfallOf : Image → Option Shortfall → Type 0
+IsShortfallOf img (Some lack) = (l : Layout) × IsLayout img l × IsShortfall img l (Some lack)
+IsShortfallOf img None = (l : Layout) → IsLayout img l → IsShortfall img l None
+
+-- what is printed of it: FEWER 17/0
+abbrev pub shortfall_text : Shortfall → List ℕ
+shortfall_text (lacks.Short p) = codes "SHORT " ++ place_text p
+shortfall_text (lacks.Fewer p) = codes "FEWER " ++ place_text p

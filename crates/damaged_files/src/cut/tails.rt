@@ -4,7 +4,7 @@ ghost use Rattle.d64_image.specs.Images.{sector};
 ghost use Rattle.d64_image.specs.Memory.{disk_image};
 ghost use Rattle.d64_image.specs.declared.place.Place.{Place};
 ghost use Rattle.disk_layout.specs.Layout.{File, IsFile};
-ghost use Rattle.damaged_files.specs.cut.Cut.{CountsMore, IsCutIn, IsShort, IsVlir};
+ghost use Rattle.damaged_files.specs.cut.Cut.{CountsMore, HasFewer, IsCutIn, IsShort, IsVlir};
 
 use crate::cut::listed::is_listed_past;
 use crate::cut::names::{is_plain, never_grows};
@@ -101,4 +101,21 @@ pub(crate) fn cut_of(disk: &mut MemDisk, slot: &Slot, facts: Facts) -> Option<Pl
         None => (slot.sector, facts.strays && counts_more(slot, 0)),
     };
     if cut { Some(place) } else { None }
+}
+
+/// The place where the chain of an entry of a sound disk ends if the entry counts more blocks; None if it doesn't.
+pub(crate) fn fewer_of(disk: &mut MemDisk, slot: &Slot) -> Option<Place>
+    ensures told { (f : File) → IsFile (disk_image disk.old) f → f.slot ≡ slot.now
+        → MatchOption result ((q : Place) → ¬ (HasFewer f q)) (HasFewer f) }
+    ensures same { disk_image disk.new ≡ disk_image disk.old }
+{
+    let (place, blocks) = match tail_of(disk, slot) {
+        Some(tail) => (tail.place, tail.blocks),
+        None => (slot.sector, 0),
+    };
+    if counts_more(slot, blocks) {
+        Some(place)
+    } else {
+        None
+    }
 }

@@ -1,10 +1,10 @@
 -- What the disk in memory holds is the image, which was judged and followed.
-use Rattle.std.proofs.Common.{List, None, ap, refl, subst, ◌∙◌}
+use Rattle.std.proofs.Common.{List, ap, refl, subst, ◌∙◌}
 use Rattle.std.proofs.lemmas.Result.{err_from_is_err_and}
 use Rattle.std.specs.Io.KnownBytes.{Appends}
 use Rattle.d64_image.specs.Images.{Image, Sector, sector}
 use Rattle.d64_image.specs.Memory.{disk_image}
-use Rattle.damaged_files.specs.cut.Told.{IsToldOfDisk}
+use Rattle.damaged_files.specs.cut.Told.{IsShortfallOf}
 use Rattle.disk_layout.specs.Directory.{map_place}
 use Rattle.disk_layout.specs.declared.slot.Slot.{Slot}
 use Rattle.disk_reports.specs.Objects.{object_text}
@@ -29,21 +29,21 @@ returns-in-Ok g c =
     let files = c.list_files.new.files.items in
     let judged = c.verdict-found.ensures.same ∙ loaded.1 in
     let listed = c.list_files.ensures.same ∙ judged in
-    let cut = c.sound_cut-cut.result in
-    let map = c.sector-map.ensures ∙ ap (sector (disk_image c.sound_cut-cut.new.disk)) c.map_place.ensures
-    ∙ ap (λ (i : Image). sector i map_place) (c.sound_cut-cut.ensures.same ∙ listed) in
+    let lack = c.find_shortfall-lack.result in
+    let map = c.sector-map.ensures ∙ ap (sector (disk_image c.find_shortfall-lack.new.disk)) c.map_place.ensures
+    ∙ ap (λ (i : Image). sector i map_place) (c.find_shortfall-lack.ensures.same ∙ listed) in
     record {
       ok = record {
         size = loaded.0;
         verdict = subst (λ (i : Image). IsVerdict i found) loaded.1 c.verdict-found.ensures.verdict;
         files = files;
         concerned = subst (λ (i : Image). AreFound i found files) judged c.list_files.ensures.files;
-        cut = cut;
-        short = subst (λ (i : Image). IsToldOfDisk i None cut) listed c.sound_cut-cut.ensures.told;
+        lack = lack;
+        lacks = subst (λ (i : Image). IsShortfallOf i lack) listed c.find_shortfall-lack.ensures.told;
         printed = subst (λ (m : Sector). Appends (g.W.Write.contents c.args.out.now) (g.W.Write.contents c.put_object.new.out)
-            (object_text c.args.name.now found files m cut)) map
+            (object_text c.args.name.now found files m lack)) map
             (subst (λ (ss : List Slot). Appends (g.W.Write.contents c.args.out.now) (g.W.Write.contents c.put_object.new.out)
-            (object_text c.args.name.now found ss c.sector-map.result.now cut)) c.as_slice.ensures.value c.in-Ok.ensures);
+            (object_text c.args.name.now found ss c.sector-map.result.now lack)) c.as_slice.ensures.value c.in-Ok.ensures);
       };
       err = tt;
       untouched = tt;

@@ -1,9 +1,9 @@
 -- What the disk in memory holds is the image.
-use Rattle.std.proofs.Common.{List, None, inl, inr, refl, subst, ◌≡◌, ◌≢◌, ◌⊎◌, ◌∙◌, ℕ}
+use Rattle.std.proofs.Common.{List, inl, inr, refl, subst, ◌≡◌, ◌≢◌, ◌⊎◌, ◌∙◌, ℕ}
 use Rattle.std.specs.Prelude.{length}
 use Rattle.std.proofs.lemmas.Result.{err_from_is_err_and}
 use Rattle.d64_image.specs.Images.{Image}
-use Rattle.damaged_files.specs.cut.Told.{IsToldOfDisk}
+use Rattle.damaged_files.specs.cut.Told.{IsShortfallOf}
 use Rattle.std.proofs.KnownBytes.{Appends-trans}
 use Rattle.disk_reports.specs.AllFaults.{IsListed}
 use Rattle.command_faults.proofs.Loads.{by-load}
@@ -44,18 +44,17 @@ returns g c =
     let loaded = c.in_ok-disk.ensures.ok in
     let found = c.verdict-found.result in
     let judged = c.verdict-found.ensures.same ∙ loaded.1 in
-    let cut = c.sound_cut-cut.result in
     let listed = subst (λ (i : Image). IsListed i found (g.W.Write.contents c.args.out.now)
-    (g.W.Write.contents c.put_found.new.out)) (c.sound_cut-cut.ensures.same ∙ judged) c.in_ok-put_found.ensures.ok in
+    (g.W.Write.contents c.put_found.new.out)) (c.find_shortfall-lack.ensures.same ∙ judged) c.in_ok-put_found.ensures.ok in
     record {
       ok = record {
         size = loaded.0;
         verdict = subst (λ (i : Image). IsVerdict i found) loaded.1 c.verdict-found.ensures.verdict;
-        cut = cut;
-        short = subst (λ (i : Image). IsToldOfDisk i None cut) judged c.sound_cut-cut.ensures.told;
+        lack = c.find_shortfall-lack.result;
+        lacks = subst (λ (i : Image). IsShortfallOf i c.find_shortfall-lack.result) judged c.find_shortfall-lack.ensures.told;
         text = listed.0;
         listing = listed.1;
-        printed = Appends-trans _ _ _ _ _ listed.2 c.in_ok-put_cut.ensures.ok;
+        printed = Appends-trans _ _ _ _ _ listed.2 c.in_ok-put_shortfall.ensures.ok;
       };
       err = tt;
       untouched = tt;

@@ -4,6 +4,7 @@ use Rattle.std.specs.Prelude.{codes}
 use Rattle.clap.specs.Words.{found_of, rows_of, subcommand_rows_of}
 use Rattle.line_text.specs.Numbers.{number_in}
 use Rattle.image_edits.specs.declared.edit.Edit.TheVariants as edits
+use Rattle.disk_changes.specs.declared.changes.Lock.TheVariants.{Cleared, Set}
 use Rattle.ledger_jobs.specs.declared.jobs.Job.TheVariants as jobs
 use Rattle.image_looks.specs.declared.kinds.Look.TheVariants as looks
 use Rattle.ledger_jobs.specs.Jobs.{IsFit}
@@ -180,6 +181,24 @@ returns-in-delete c =
     (λ missing. inr (inr (inr (inl (record { rows = rows; is = is; holds = missing }))))) c.deleting.ensures in
     record { job = met.0; fit = met.1 }
 
+pub returns-in-lock : goal.returns-in-lock
+returns-in-lock c =
+    let rows = rows_of (found_of c.in-Some.found.now) in
+    let is = met-is c.parsed_subcommand.result _ c.in-Some.name c.in-Some.found _ c.parsed_subcommand.ensures c.in-Some.is c.in-lock.is in
+    let met = named-met _ rows (λ name. jobs.Change c.value_of-image.result (effect_in rows) (edits.Lock Set (loss_in rows) name)) c.locking.result
+    (λ name at. record { rows = rows; is = is; holds = (c.value_of-image.ensures, (at, refl), refl) }) (λ name. tt)
+    (λ missing. inr (inr (inr (inr (inr (inr (inr (inr (inl (record { rows = rows; is = is; holds = missing })))))))))) c.locking.ensures in
+    record { job = met.0; fit = met.1 }
+
+pub returns-in-unlock : goal.returns-in-unlock
+returns-in-unlock c =
+    let rows = rows_of (found_of c.in-Some.found.now) in
+    let is = met-is c.parsed_subcommand.result _ c.in-Some.name c.in-Some.found _ c.parsed_subcommand.ensures c.in-Some.is c.in-unlock.is in
+    let met = named-met _ rows (λ name. jobs.Change c.value_of-image.result (effect_in rows) (edits.Lock Cleared (loss_in rows) name)) c.locking-in-unlock.result
+    (λ name at. record { rows = rows; is = is; holds = (c.value_of-image.ensures, (at, refl), refl) }) (λ name. tt)
+    (λ missing. inr (inr (inr (inr (inr (inr (inr (inr (inr (record { rows = rows; is = is; holds = missing })))))))))) c.locking-in-unlock.ensures in
+    record { job = met.0; fit = met.1 }
+
 pub returns-in-new : goal.returns-in-new
 returns-in-new c =
     let rows = rows_of (found_of c.in-Some.found.now) in
@@ -196,7 +215,7 @@ returns-in-title c =
     let is = met-is c.parsed_subcommand.result _ c.in-Some.name c.in-Some.found _ c.parsed_subcommand.ensures c.in-Some.is c.in-title.is in
     let met = titling-met _ rows (λ name id. jobs.Change c.value_of-image.result (effect_in rows) (edits.Title id (loss_in rows) name)) c.titling.result
     (λ name id at two. (record { rows = rows; is = is; holds = (c.value_of-image.ensures, (at, two, refl), refl) }, at.short))
-    (λ missing. inr (inr (inr (inr (inr (inr (inr (record { rows = rows; is = is; holds = missing }))))))))
+    (λ missing. inr (inr (inr (inr (inr (inr (inr (inl (record { rows = rows; is = is; holds = missing })))))))))
     (λ missing. (refl, inr (record { rows = rows; is = is; holds = missing }))) c.titling.ensures in
     record { job = met.0; fit = met.1 }
 
