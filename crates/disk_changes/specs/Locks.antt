@@ -7,8 +7,7 @@ use Rattle.disk_changes.specs.Judged.{IsNoName, IsSoundBut, IsSoundWhole, IsUnso
 use Rattle.disk_changes.specs.declared.changes.Changed.{Changed}
 use Rattle.disk_changes.specs.declared.changes.Lock.{Lock}
 use Rattle.disk_changes.specs.declared.changes.Lock.TheVariants.{Cleared, Set}
-use Rattle.disk_changes.specs.declared.changes.Why.{Why}
-use Rattle.disk_changes.specs.declared.changes.Why.TheVariants as whys
+use Rattle.command_faults.specs.declared.faults.CommandFault.{CommandFault}
 use Rattle.disk_layout.specs.Directory.{type_byte}
 use Rattle.disk_layout.specs.Rest.{slot_name}
 use Rattle.disk_layout.specs.declared.slot.Slot.{Slot}
@@ -41,7 +40,7 @@ pub record IsLockSet (image name : List ℕ) (lock : Lock) (made : Changed) : Ty
   pub text : made.text.items ≡ locked_text lock
 
 -- why it isn't
-abbrev pub IsLockRefusal : (image name : List ℕ) → Why → Type 0
-IsLockRefusal image name whys.ShopFile = IsSoundWhole image × HasShopFile image name
-IsLockRefusal image name (whys.Fault faults.NoFile) = IsSoundBut image (λ l. IsNoName l name)
+abbrev pub IsLockRefusal : (image name : List ℕ) → CommandFault → Type 0
+IsLockRefusal image name faults.ShopFile = IsSoundWhole image × HasShopFile image name
+IsLockRefusal image name faults.NoFile = IsSoundBut image (λ l. IsNoName l name)
 IsLockRefusal image name why = IsUnsoundOrShort image why

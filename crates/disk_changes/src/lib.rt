@@ -16,5 +16,5 @@ mod repairing;
 mod storing;
 mod titling;
 
-pub use changes::{Change, Changed, Lock, Why};
+pub use changes::{Change, Changed, Lock};
 pub use changing::change;

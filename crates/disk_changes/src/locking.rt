@@ -3,9 +3,9 @@ ghost use Rattle.std.specs.Prelude.{◌≡◌, ◌<◌, IfErr, IfOk};
 ghost use Rattle.d64_image.specs.Memory.{disk_image};
 ghost use Rattle.disk_changes.specs.Locks.{IsLockRefusal, IsLockSet, locked_text, locked_type, with_lock};
 
-use crate::changes::{Changed, Lock, Why};
+use crate::changes::{Changed, Lock};
 use crate::judging::sound_disk;
-use crate::outcomes::{changed, refusal};
+use crate::outcomes::changed;
 use command_faults::CommandFault;
 use d64_image::{MemDisk, Sectors};
 use disk_layout::Slot;
@@ -51,20 +51,23 @@ fn said(lock: Lock) -> &'static [u8]
 }
 
 /// The image with the first entry that has this name locked or unlocked. One that is so already stays.
-pub(crate) fn relocked(alloc: Global, image: &[u8], name: &[u8], lock: Lock) -> Result<Changed, Why>
+pub(crate) fn relocked(
+    alloc: Global,
+    image: &[u8],
+    name: &[u8],
+    lock: Lock,
+) -> Result<Changed, CommandFault>
     ensures ok { IfOk result (IsLockSet image.now name.now lock) }
     ensures err { IfErr result (IsLockRefusal image.now name.now) }
 {
     let mut disk = sound_disk(alloc, image)?;
     if has_shop_file(alloc, image, name)? {
-        return Err(Why::ShopFile);
+        return Err(CommandFault::ShopFile);
     }
     if name.len() > 16 {
-        return Err(Why::Fault(CommandFault::NoFile));
+        return Err(CommandFault::NoFile);
     }
-    match find_entry(&mut disk, name) {
-        Ok(entry) => put_lock(&mut disk, &entry, lock),
-        Err(fault) => return Err(refusal(fault)),
-    }
+    let entry = find_entry(&mut disk, name)?;
+    put_lock(&mut disk, &entry, lock);
     changed(alloc, disk, said(lock))
 }

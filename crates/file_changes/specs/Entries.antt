@@ -6,8 +6,8 @@ use Rattle.disk_layout.specs.Layout.{File, IsLayout, Layout}
 use Rattle.disk_layout.specs.Rest.{slot_name}
 use Rattle.disk_layout.specs.declared.slot.Slot.{Slot}
 use Rattle.file_changes.specs.Faults.{TellsChange}
-use Rattle.file_changes.specs.declared.faults.ChangeFault.{ChangeFault}
-use Rattle.file_changes.specs.declared.faults.ChangeFault.TheVariants.{Device, NotFound}
+use Rattle.command_faults.specs.declared.faults.CommandFault.{CommandFault}
+use Rattle.command_faults.specs.declared.faults.CommandFault.TheVariants.{Device, NoFile}
 
 -- the sixteen bytes of the entry's name are these
 abbrev pub HasName : List ℕ → Slot → Type 0
@@ -28,13 +28,13 @@ abbrev pub entries_of : Layout → List Slot
 entries_of l = map (λ f. f.slot) l.files
 
 -- The first entry of a name was found, or none has it; nothing was written.
-pub record FindsEntry {D : Type 0} (S : History D) (old new : D) (name : List ℕ) (result : Result Slot ChangeFault) : Type 0
+pub record FindsEntry {D : Type 0} (S : History D) (old new : D) (name : List ℕ) (result : Result Slot CommandFault) : Type 0
   where
     pub ok : (l : Layout) → IsLayout (S.image old) l
         → IfOk result (λ s. (n : ℕ) × IsFirstNamed (entries_of l) (slot_name name) n s)
     pub not_found : (l : Layout) → IsLayout (S.image old) l
-        → IfErr result (λ e. e ≡ NotFound → IsFreeName (entries_of l) (slot_name name))
-    pub told : IfErr result (λ e. (e ≡ NotFound) ⊎ (e ≡ Device))
+        → IfErr result (λ e. e ≡ NoFile → IsFreeName (entries_of l) (slot_name name))
+    pub told : IfErr result (λ e. (e ≡ NoFile) ⊎ (e ≡ Device))
     pub reads : OnlyReads S old new 18
     pub failures : TellsChange S old new result
 

@@ -4,11 +4,11 @@ ghost use Rattle.d64_image.specs.History.{OnlyReads};
 ghost use Rattle.disk_layout.specs.Layout.{IsLayout, IsSound, Layout};
 ghost use Rattle.file_changes.specs.Entries.{FindsEntry, IsFirstNamed, IsFreeName, entries_of};
 ghost use Rattle.file_changes.specs.Faults.{TellsChange};
-ghost use Rattle.file_changes.specs.declared.faults.ChangeFault.TheVariants.{Device, NotFound};
+ghost use Rattle.command_faults.specs.declared.faults.CommandFault.TheVariants.{Device, NoFile};
 ghost use Rattle.disk_layout.specs.declared.slot.Slot.{Slot};
 
-use crate::faults::ChangeFault;
 use arrayvec::ArrayVec;
+use command_faults::CommandFault;
 use d64_image::Sectors;
 use disk_layout::{Slot, padded_name, read_directory};
 use rel_records::has_padded_name;
@@ -30,7 +30,7 @@ pub(crate) fn first_named(entries: &[Slot], padded: &[u8; 16]) -> Option<usize>
 pub(crate) fn list_entries<D: Sectors>(
     disk: &mut D,
     entries: &mut ArrayVec<Slot, 144>,
-) -> Result<(), ChangeFault>
+) -> Result<(), CommandFault>
     requires sound { IsSound (D.history.image disk.old) }
     ensures ok { OnOk result ((l : Layout) → IsLayout (D.history.image disk.old) l
         → entries.new.items ≡ entries_of l) }
@@ -41,24 +41,24 @@ pub(crate) fn list_entries<D: Sectors>(
     match read_directory(disk, entries) {
         Ok(()) => Ok(()),
         // a sound disk has a directory
-        Err(_) => Err(ChangeFault::Device),
+        Err(_) => Err(CommandFault::Device),
     }
 }
 
-/// The first of these entries that has the name. `NotFound` if none has it.
-fn choose_named(entries: &[Slot], padded: &[u8; 16]) -> Result<Slot, ChangeFault>
+/// The first of these entries that has the name. `NoFile` if none has it.
+fn choose_named(entries: &[Slot], padded: &[u8; 16]) -> Result<Slot, CommandFault>
     ensures ok { IfOk result (λ s. (n : ℕ) × IsFirstNamed entries.now padded.now n s) }
-    ensures err { IfErr result (λ e. (e ≡ NotFound) × IsFreeName entries.now padded.now) }
+    ensures err { IfErr result (λ e. (e ≡ NoFile) × IsFreeName entries.now padded.now) }
 {
     match first_named(entries, padded) {
         Some(number) => Ok(entries[number]),
-        None => Err(ChangeFault::NotFound),
+        None => Err(CommandFault::NoFile),
     }
 }
 
-/// Finds the first entry of a sound disk that has this name, of whatever type. `NotFound` if none has it, `Device` if the
+/// Finds the first entry of a sound disk that has this name, of whatever type. `NoFile` if none has it, `Device` if the
 /// device failed. Nothing is written.
-pub fn find_entry<D: Sectors>(disk: &mut D, name: &[u8]) -> Result<Slot, ChangeFault>
+pub fn find_entry<D: Sectors>(disk: &mut D, name: &[u8]) -> Result<Slot, CommandFault>
     requires sound { IsSound (D.history.image disk.old) }
     requires name { length name.now ≤ 16 }
     ensures { FindsEntry D.history disk.old disk.new name.now result }

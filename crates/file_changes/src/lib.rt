@@ -4,7 +4,6 @@
 
 mod deleting;
 mod entries;
-mod faults;
 mod file_type;
 mod formatting;
 mod patching;
@@ -15,7 +14,6 @@ mod renaming;
 
 pub use deleting::delete;
 pub use entries::find_entry;
-pub use faults::ChangeFault;
 pub use file_type::FileType;
 pub use formatting::{format_disk, new_disk};
 pub use patching::overwrite;

@@ -7,7 +7,6 @@ ghost use Rattle.shop_log.specs.life.LogRights.{MayKeepLogOf};
 
 use crate::image_changing::change_image;
 use crate::image_replacing::put_image_in;
-use crate::stops::Stop;
 use command_faults::CommandFault;
 use disk_changes::Change;
 use image_file::{EndedFile, HostFiles};
@@ -36,7 +35,7 @@ pub trait HostImages: HostFiles {
         image: &[u8],
         what: &Change<'_>,
         out: &mut W,
-    ) -> io::Result<Result<u16, Stop>>
+    ) -> io::Result<Result<u16, CommandFault>>
         requires log { MayKeepLogOf Self.rights self.now (string_bytes names.now.image) }
         requires fit { IsFit what.now }
         ensures run { IfOk result (IsToldAs W.contents
@@ -70,7 +69,7 @@ where
         image: &[u8],
         what: &Change<'_>,
         out: &mut W,
-    ) -> io::Result<Result<u16, Stop>> {
+    ) -> io::Result<Result<u16, CommandFault>> {
         let mut folder = ImageFolder::new(self, names, file)?;
         Ok(change_image(alloc, &mut folder, image, what, out))
     }

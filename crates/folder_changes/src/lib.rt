@@ -5,9 +5,7 @@
 mod host_images;
 mod image_changing;
 mod image_replacing;
-mod stops;
 
 pub use host_images::HostImages;
 pub use image_changing::{change_image, show_change};
 pub use image_replacing::put_image_in;
-pub use stops::Stop;

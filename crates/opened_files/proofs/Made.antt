@@ -13,8 +13,6 @@ use Rattle.line_text.specs.Handed.{AppendsPart}
 use Rattle.opened_files.specs.Ends.{JobEnd, as_run, told_of}
 use Rattle.opened_files.specs.Makings.{IsMadeAt, IsNewEnd}
 use Rattle.opened_files.specs.Rights.{aside_of}
-use Rattle.opened_files.specs.declared.refusals.Refusal.{Refusal}
-use Rattle.opened_files.specs.declared.refusals.Refusal.TheVariants as refusals
 
 -- what holds of the value of a call, if that is Ok
 pub at-ok : {T E : Type 0} (P : T → Type 0) (result : Result T E) (it : T) → IfOk result P → result ≡ Ok it → P it
@@ -22,7 +20,7 @@ at-ok {T} {E} P result it known is = subst (λ (r : Result T E). IfOk r P) is kn
 
 -- what holds of what the system gave
 pub told-ok : {T : Type 0} (P : T → Type 0) (taken : Result T Error) (it : T) → IfOk taken P → Ok it ≡ told_of taken → P it
-told-ok {T} P (Ok got) it ok is = subst (λ (r : Result T Refusal). IfOk r P) (sym is) ok
+told-ok {T} P (Ok got) it ok is = subst (λ (r : Result T CommandFault). IfOk r P) (sym is) ok
 told-ok {T} P (Err error) it ok is = cc
 
 -- what holds of all ends
@@ -68,9 +66,9 @@ module _ {W : Type 0} (contents : W → Option (List ℕ)) (Made : Type 0) (text
       → IsNewEnd contents Made text old new end
   new-end (Ok _) ended made said part = subst (IsNewEnd contents Made text old new) (sym ended) (made, said)
   new-end (Err fault) ended made said part = subst (IsNewEnd contents Made text old new) (sym ended)
-      (inr (ap refusals.Fault part.0, made, part.1))
+      (inr (part.0, made, part.1))
 
 -- it wasn't made
 pub unmade : {W : Type 0} (contents : W → Option (List ℕ)) (Made : Type 0) (text : List ℕ) (out : W) (end : JobEnd)
-    (refusal : Refusal) → end ≡ Err refusal → IsNewEnd contents Made text out out end
+    (refusal : CommandFault) → end ≡ Err refusal → IsNewEnd contents Made text out out end
 unmade contents Made text out end refusal ended = subst (IsNewEnd contents Made text out out) (sym ended) (inl refl)

@@ -7,7 +7,6 @@ use Rattle.image_file.specs.paths.Traces.{IsWrittenAt, IsWrittenOver, Traces}
 use Rattle.line_text.specs.Handed.{AppendsPart}
 use Rattle.opened_files.specs.Ends.{JobEnd}
 use Rattle.opened_files.specs.Rights.{aside_of}
-use Rattle.opened_files.specs.declared.refusals.Refusal.TheVariants as refusals
 
 -- An image was made at a path: in a file of another name, which got the path then.
 pub record IsMadeAt {H F : Type 0} (remains : Remains F) (traces : Traces H F) (host : H) (path image : List ℕ) : Type 0 where
@@ -25,4 +24,4 @@ abbrev pub IsNewEnd : {W : Type 0} → (W → Option (List ℕ)) → (Made : Typ
 IsNewEnd contents Made text old new (Ok None) = Made × Appends (contents old) (contents new) text
 IsNewEnd contents Made text old new (Ok (Some fault)) = ⊥
 IsNewEnd contents Made text old new (Err refusal) = (new ≡ old)
-    ⊎ ((refusal ≡ refusals.Fault faults.File) × Made × AppendsPart (contents old) (contents new) text)
+    ⊎ ((refusal ≡ faults.File) × Made × AppendsPart (contents old) (contents new) text)

@@ -4,8 +4,7 @@ ghost use Rattle.opened_files.specs.HostFiles.{IsUnread, OfText};
 ghost use Rattle.opened_files.specs.Rights.{MayReadText, MayLook};
 ghost use Rattle.image_file.specs.paths.Rights.{Look, May};
 
-use crate::outcomes::told;
-use crate::refusals::Refusal;
+use command_faults::CommandFault;
 use image_file::{HostFiles, read_script, regular_at};
 use std::fs::{Metadata, OpenFile};
 use std::io;
@@ -42,12 +41,12 @@ pub(crate) fn script_at<R: HostFiles + Input + AllocGlobal>(
 pub fn script_to_play<R: HostFiles + Input + AllocGlobal>(
     rt: &R,
     path: &str,
-) -> Result<Vec<u8>, Refusal>
+) -> Result<Vec<u8>, CommandFault>
     requires { MayReadText R.rights rt.now path.now }
     ensures read { OfText R.stands rt.now path.now (λ all. IfOk result (λ script. vec_items script ≡ all)) }
     ensures err { IfErr result IsUnread }
 {
-    told(script_at(rt, path))
+    Ok(script_at(rt, path)?)
 }
 
 /// Whether a regular file stands at a path. An error if another thing does.

@@ -12,7 +12,6 @@ mod new_images;
 mod outcomes;
 mod put_images;
 mod readings;
-mod refusals;
 
 pub use asides::Aside;
 pub use endings::{Ending, end, tell};
@@ -25,7 +24,6 @@ pub use locks::{read_owned, read_shared, read_synced};
 pub use losses::{Loss, loss_refusal, see_log_away, see_untagged, short_refusal, shortfall_in};
 pub use names::Name;
 pub use new_images::make_image;
-pub use outcomes::{job_end, run_end, told};
+pub use outcomes::run_end;
 pub use put_images::put_image;
 pub use readings::{image_at, image_of_file};
-pub use refusals::Refusal;

@@ -10,8 +10,6 @@ use crate::asides::Aside;
 use crate::files::is_file_at;
 use crate::image_logs::see_one_place;
 use crate::new_images::{clear, fill, take};
-use crate::outcomes::told;
-use crate::refusals::Refusal;
 use command_faults::CommandFault;
 use image_file::{EndedFile, HostFiles, Identity, Locks, replace_image};
 use shop_log::{LogNames, find_log, forget_log};
@@ -24,7 +22,7 @@ fn make_beside<F, R>(
     names: &LogNames,
     log: Option<Identity>,
     image: &[u8],
-) -> Result<(), Refusal>
+) -> Result<(), CommandFault>
 where
     F: EndedFile + Locks + OpenFile + Drop,
     R: HostFiles<File = F> + AllocGlobal,
@@ -33,8 +31,8 @@ where
     requires size { length image.now ≡ 174848 }
     ensures { OnOk result (IsMadeAt F.EndedFile.remains R.traces rt.now path.now image.now) }
 {
-    let aside = told(Aside::free(rt, path))?;
-    let mut file = told(aside.make_file(0o666))?;
+    let aside = Aside::free(rt, path)?;
+    let mut file = aside.make_file(0o666)?;
     let filled = fill(&aside, names, log, &mut file, image);
     if filled.is_err() {
         aside.remove_file(&file);
@@ -49,7 +47,7 @@ fn write_over<F, R>(
     names: &LogNames,
     log: Option<Identity>,
     image: &[u8],
-) -> Result<(), Refusal>
+) -> Result<(), CommandFault>
 where
     F: EndedFile + Locks + OpenFile + Drop,
     R: HostFiles<File = F> + AllocGlobal,
@@ -58,13 +56,13 @@ where
     requires size { length image.now ≡ 174848 }
     ensures { OnOk result (IsWrittenOver F.EndedFile.remains R.traces rt.now path.now image.now) }
 {
-    let mut file = told(rt.open_to_write(path))?;
+    let mut file = rt.open_to_write(path)?;
     take(&mut file)?;
     see_one_place(rt, path, &file)?;
     clear(rt, names, log)?;
     match replace_image(&mut file, image) {
-        Ok(()) => told(rt.sync_folder_of(path)),
-        Err(_) => Err(Refusal::Fault(CommandFault::File)),
+        Ok(()) => Ok(rt.sync_folder_of(path)?),
+        Err(_) => Err(CommandFault::File),
     }
 }
 
@@ -73,7 +71,7 @@ where
 ///
 /// `InUse`: another program has the file; `TwoNames`: it has a second name; `File` or `NoMemory`: a call of the system failed.
 /// What was made is removed then, unless its log couldn't be removed; a file that is written over may be spoiled.
-pub fn put_image<F, R>(rt: &R, path: &str, image: &[u8]) -> Result<(), Refusal>
+pub fn put_image<F, R>(rt: &R, path: &str, image: &[u8]) -> Result<(), CommandFault>
 where
     F: EndedFile + Locks + OpenFile + Drop,
     R: HostFiles<File = F> + AllocGlobal,
@@ -83,20 +81,20 @@ where
     ensures { OnOk result (IsPutAt F.EndedFile.remains R.traces rt.now path.now image.now) }
 {
     // before a file is made, since memory may be refused
-    let names = told(LogNames::of(rt, rt.alloc(), path))?;
-    let log = told(find_log(rt, &names))?;
-    if told(is_file_at(rt, path))? {
+    let names = LogNames::of(rt, rt.alloc(), path)?;
+    let log = find_log(rt, &names)?;
+    if is_file_at(rt, path)? {
         write_over(rt, path, &names, log, image)?;
     } else {
         match make_beside(rt, path, &names, log, image) {
             Ok(()) => {}
             // something came there meanwhile
-            Err(Refusal::Exists) => return Err(Refusal::Fault(CommandFault::File)),
+            Err(CommandFault::PathExists) => return Err(CommandFault::File),
             Err(refusal) => return Err(refusal),
         }
     }
     if log.is_none() {
         return Ok(());
     }
-    told(forget_log(rt, &names, log))
+    Ok(forget_log(rt, &names, log)?)
 }

@@ -4,11 +4,12 @@ ghost use Rattle.opened_files.specs.Rights.{MayChangeImage, MayMakeImage};
 ghost use Rattle.image_file.specs.paths.Rights.{MayWrite};
 ghost use Rattle.shop_jobs.specs.Formats.{IsFormattedEnd, IsPlaced, IsReplacedAt};
 
+use command_faults::CommandFault;
 use d64_image::IMAGE_BYTES;
 use disk_layout::Fault;
 use folder_changes::HostImages;
 use image_file::{EndedFile, HostFiles, Locks};
-use opened_files::{Refusal, opened_alone, put_image, run_end, see_size, size_of, told};
+use opened_files::{opened_alone, put_image, run_end, see_size, size_of};
 use shop_commands::{fresh_disk, put_whole};
 use shop_log::{LogNames, find_log};
 use std::fs::OpenFile;
@@ -16,7 +17,7 @@ use std::io::Write;
 
 /// The image's file at a path, which this program has alone, and the names of its log. `ImageSize` if it has another size;
 /// `File` also if something else than a log stands in the place of its log.
-fn image_to_replace<F, R>(rt: &R, path: &str) -> Result<(LogNames, F), Refusal>
+fn image_to_replace<F, R>(rt: &R, path: &str) -> Result<(LogNames, F), CommandFault>
 where
     F: Locks + OpenFile + Drop,
     R: HostFiles<File = F> + AllocGlobal,
@@ -25,13 +26,13 @@ where
 {
     let file = opened_alone(rt, path)?;
     see_size(&file)?;
-    let names = told(LogNames::of(rt, rt.alloc(), path))?;
-    told(find_log(rt, &names))?;
+    let names = LogNames::of(rt, rt.alloc(), path)?;
+    find_log(rt, &names)?;
     Ok((names, file))
 }
 
 /// Puts an image in the place of the one that stands at a path, and of its log, all or nothing.
-fn replace_image<F, R>(rt: &R, path: &str, image: &[u8]) -> Result<(), Refusal>
+fn replace_image<F, R>(rt: &R, path: &str, image: &[u8]) -> Result<(), CommandFault>
 where
     F: EndedFile + Locks + OpenFile + Drop,
     R: HostFiles<File = F> + HostImages + AllocGlobal,
@@ -40,14 +41,14 @@ where
     ensures { OnOk result (IsReplacedAt R.rights R.replaced rt.now path.now image.now) }
 {
     let (names, file) = image_to_replace(rt, path)?;
-    match told(rt.replace_at(rt.alloc(), &names, file, image))? {
+    match rt.replace_at(rt.alloc(), &names, file, image)? {
         Ok(()) => Ok(()),
-        Err(fault) => Err(Refusal::Fault(fault)),
+        Err(fault) => Err(fault),
     }
 }
 
 /// Puts an image at a path. One that stands there is replaced, with its log, all or nothing.
-fn place<F, R>(rt: &R, path: &str, image: &[u8]) -> Result<(), Refusal>
+fn place<F, R>(rt: &R, path: &str, image: &[u8]) -> Result<(), CommandFault>
 where
     F: EndedFile + Locks + OpenFile + Drop,
     R: HostFiles<File = F> + HostImages + AllocGlobal,
@@ -73,7 +74,7 @@ pub fn do_format<F, R, W>(
     path: &str,
     tills: u8,
     out: &mut W,
-) -> Result<Option<Fault>, Refusal>
+) -> Result<Option<Fault>, CommandFault>
 where
     F: EndedFile + Locks + OpenFile + Drop,
     R: HostFiles<File = F> + HostImages + AllocGlobal,
@@ -87,7 +88,7 @@ where
 {
     let disk = match fresh_disk(rt.alloc(), tills) {
         Ok(disk) => disk,
-        Err(fault) => return Err(Refusal::Fault(fault)),
+        Err(fault) => return Err(fault),
     };
     place(rt, path, disk.bytes())?;
     run_end(put_whole(out, b"FORMATTED\n"))

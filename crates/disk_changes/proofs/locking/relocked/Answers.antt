@@ -1,22 +1,21 @@
 -- The entry is found, and its type written on the disk in memory.
 use Rattle.std.proofs.Common.{◌≡◌, ◌⊎◌, ⊎_elim, ◌<◌, ℕ, List, Ok, Err, ap, inr, refl, subst, sym, ◌∙◌}
 use Rattle.std.proofs.lemmas.Bool.{false≢true}
-use Rattle.std.proofs.lemmas.Result.{IfOk-weaker}
+use Rattle.std.proofs.lemmas.Result.{IfOk-weaker, err_from_is_err_and}
 use Rattle.d64_image.specs.Images.{Image}
 use Rattle.d64_image.specs.Memory.{disk_image, memory, sectors_in}
 use Rattle.d64_image.specs.declared.mem_disk.MemDisk.{MemDisk}
 use Rattle.disk_changes.proofs.Judged.{never-fails}
-use Rattle.disk_changes.specs.Judged.{IsSoundWhole, edit_fault}
+use Rattle.disk_changes.specs.Judged.{IsSoundWhole}
 use Rattle.disk_changes.specs.Locks.{IsLockRefusal, IsLockSet, locked_text, with_lock}
 use Rattle.disk_changes.specs.declared.changes.Changed.{Changed}
 use Rattle.disk_changes.specs.declared.changes.Lock.{Lock}
-use Rattle.disk_changes.specs.declared.changes.Why.TheVariants as whys
+use Rattle.command_faults.specs.declared.faults.CommandFault.TheVariants as faults
 use Rattle.disk_layout.specs.Layout.{IsLayout}
 use Rattle.disk_layout.specs.declared.slot.Slot.{Slot}
 use Rattle.file_changes.proofs.Reslotted.{place}
 use Rattle.file_changes.specs.Entries.{FindsEntry, entries_of}
-use Rattle.file_changes.specs.declared.faults.ChangeFault.{ChangeFault}
-use Rattle.file_changes.specs.declared.faults.ChangeFault.TheVariants as change
+use Rattle.command_faults.specs.declared.faults.CommandFault.{CommandFault}
 use Rattle.keeper_commands.specs.ShopFiles.{HasShopFile}
 use Rattle.rel_records.proofs.lemmas.reading.Found.{slot-file}
 use Rattle.disk_changes.proofs.locking.relocked.Goals as goal
@@ -47,31 +46,26 @@ module _ (image name : List ℕ) (a b : MemDisk) (whole : IsSoundWhole image) (i
         text = text;
       }
 
-  no-other : (e : ChangeFault) → (e ≡ change.NotFound → ⊥) → (e ≡ change.Device → ⊥)
-      → (e ≡ change.NotFound) ⊎ (e ≡ change.Device) → ⊥
-  no-other e a b told = ⊎_elim a b told
-
-  refused : (fault : ChangeFault) → FindsEntry memory a b name (Err fault)
-      → IsLockRefusal image name (whys.Fault (edit_fault fault))
-  refused change.NotFound c = record { whole = whole; but = inr (c.not_found whole.layout sound refl) }
-  refused change.Device c = absurd (never-fails a b c.failures)
-  refused change.Locked c = absurd (no-other change.Locked (λ e. cc) (λ e. cc) c.told)
-  refused change.Exists c = absurd (no-other change.Exists (λ e. cc) (λ e. cc) c.told)
-  refused change.Full c = absurd (no-other change.Full (λ e. cc) (λ e. cc) c.told)
+  refused : (fault : CommandFault) → FindsEntry memory a b name (Err fault) → IsLockRefusal image name fault
+  refused faults.NoFile c = record { whole = whole; but = inr (c.not_found whole.layout sound refl) }
+  refused faults.Device c = absurd (never-fails a b c.failures)
+  refused _ c = absurd (⊎_elim (λ e. cc) (λ e. cc) c.told)
 
 pub put_lock-requires : goal.put_lock-requires
 put_lock-requires c = low c.args.image.now c.args.name.now c.in_ok-disk.disk c.find_entry.new.disk
-    c.in_ok-disk.ensures.ok.0 c.in_ok-disk.ensures.ok.1 c.in-Ok.entry c.in-Ok.ensures
+    c.in_ok-disk.ensures.ok.0 c.in_ok-disk.ensures.ok.1 c.in_ok-entry.entry c.in_ok-entry.ensures
 
-pub returns-in-Err-clause-err : goal.returns-in-Err-clause-err
-returns-in-Err-clause-err c = rw c.refusal.ensures
+pub returns-in_err-find_entry-clause-err : goal.returns-in_err-find_entry-clause-err
+returns-in_err-find_entry-clause-err c =
+    let p = err_from_is_err_and c.from_residual-in_err-find_entry.result c.from_residual-in_err-find_entry.ensures.1 in
+    rw (p.1 ∙ ap Err p.2)
     (refused c.args.image.now c.args.name.now c.in_ok-disk.disk c.find_entry.new.disk
-    c.in_ok-disk.ensures.ok.0 c.in_ok-disk.ensures.ok.1 c.in-Err.fault c.in-Err.ensures)
+    c.in_ok-disk.ensures.ok.0 c.in_ok-disk.ensures.ok.1 c.in_err-find_entry.field-0.0 c.in_err-find_entry.ensures)
 
 pub returns-clause-ok : goal.returns-clause-ok
 returns-clause-ok c = IfOk-weaker c.changed.result _ _
     (λ made is. done c.args.image.now c.args.name.now c.in_ok-disk.disk c.find_entry.new.disk
-    c.in_ok-disk.ensures.ok.0 c.in_ok-disk.ensures.ok.1 c.in-Ok.entry c.args.lock c.put_lock.new.disk made c.in-Ok.ensures
+    c.in_ok-disk.ensures.ok.0 c.in_ok-disk.ensures.ok.1 c.in_ok-entry.entry c.args.lock c.put_lock.new.disk made c.in_ok-entry.ensures
     c.put_lock.ensures
     (λ has. false≢true (sym c.if-branch.false ∙ c.in_ok-has_shop_file.ensures.ok.1 has)) is.0 (is.1 ∙ c.said.ensures))
     c.changed.ensures.ok

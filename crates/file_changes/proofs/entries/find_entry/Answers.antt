@@ -7,8 +7,8 @@ use Rattle.disk_layout.specs.Rest.{slot_name}
 use Rattle.disk_layout.specs.declared.slot.Slot.{Slot}
 use Rattle.file_changes.specs.Entries.{FindsEntry, IsFirstNamed, IsFreeName, entries_of}
 use Rattle.file_changes.specs.Faults.{TellsChange}
-use Rattle.file_changes.specs.declared.faults.ChangeFault.{ChangeFault}
-use Rattle.file_changes.specs.declared.faults.ChangeFault.TheVariants.{NotFound}
+use Rattle.command_faults.specs.declared.faults.CommandFault.{CommandFault}
+use Rattle.command_faults.specs.declared.faults.CommandFault.TheVariants.{NoFile}
 use Rattle.file_changes.proofs.entries.find_entry.Goals as goal
 
 module _ {D : Type 0} (S : History D) (a b : D) (name : List ℕ) (slots : List Slot) (padded : List ℕ)
@@ -18,8 +18,8 @@ module _ {D : Type 0} (S : History D) (a b : D) (name : List ℕ) (slots : List 
       → P (entries_of l) (slot_name name)
   there P h l is = subst (P (entries_of l)) old (subst (λ es. P es padded) (listed l is) h)
 
-  found : (r : Result Slot ChangeFault) → IfOk r (λ s. (n : ℕ) × IsFirstNamed slots padded n s)
-      → IfErr r (λ e. (e ≡ NotFound) × IsFreeName slots padded) → FindsEntry S a b name r
+  found : (r : Result Slot CommandFault) → IfOk r (λ s. (n : ℕ) × IsFirstNamed slots padded n s)
+      → IfErr r (λ e. (e ≡ NoFile) × IsFreeName slots padded) → FindsEntry S a b name r
   found (Ok s) first none = record {
     ok = there (λ es f. (n : ℕ) × IsFirstNamed es f n s) first;
     not_found = λ l is. tt;
@@ -29,7 +29,7 @@ module _ {D : Type 0} (S : History D) (a b : D) (name : List ℕ) (slots : List 
   }
   found (Err e) first (is, free) = record {
     ok = λ l layout. tt;
-    not_found = there (λ es f. e ≡ NotFound → IsFreeName es f) (λ _. free);
+    not_found = there (λ es f. e ≡ NoFile → IsFreeName es f) (λ _. free);
     told = inl is;
     reads = reads;
     failures = subst (λ x. TellsChange {T = Slot} S a b (Err x)) (sym is) fine;

@@ -38,7 +38,7 @@ returns-clause-played g c =
     let script = c.as_slice-2.result.now in
     let at = IsShopAt g.R.HostFiles.stands c.args.rt.now c.args.path.now in (
       play-quiet told _ file before behind c.args.out.now _ c.new-printer.ensures.out (λ same. search rules) ended
-          c.job_end.result c.job_end.ensures c.play_durably-ended.ensures.untouched,
+          c.play_durably-ended.ensures.untouched,
       play-lines told _ file before behind c.args.out.now _ c.new-printer.ensures.out (λ same. search rules) image script
           ended c.play_durably-ended.ensures.run,
       λ other all holds. played-at told (IsShopOf image) at
