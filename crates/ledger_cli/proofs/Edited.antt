@@ -19,7 +19,7 @@ module _ {F W : Type 0} (position : F → Option ℕ) (bytes contents : F → Op
     written file after old new (Ok left) (made, is, same, handed, printed) = (made, f made is, same, handed, printed)
     written file after old new (Err faults.Device) (made, is, part, silent) = (made, f made is, part, silent)
     written file after old new (Err faults.File) (made, is, handed, part) = (made, f made is, handed, part)
-    written file after old new (Err _) (is, same, silent) = (g _ is, same, silent)
+    written file after old new (Err _) done = (g _ done.0, done.1, done.2)
 
     pub job-weaker : (effect : Effect) (file after : Option F) (old new : W) (end : JobEnd)
         → IsChangeJob position bytes contents told effect Is Refuses file after old new end
