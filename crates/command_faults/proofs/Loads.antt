@@ -12,22 +12,7 @@ pub by-load : (image : List ℕ) (P : CommandFault → Type 0) → (length image
     → (length image ≡ 174848 → P faults.NoMemory) → (fault : CommandFault) → IsLoadFault image fault → P fault
 by-load image P size memory faults.ImageSize told = size told
 by-load image P size memory faults.NoMemory told = memory told
-by-load image P size memory (faults.Layout fault) told = absurd told
-by-load image P size memory faults.NoFile told = absurd told
-by-load image P size memory faults.FileExists told = absurd told
-by-load image P size memory faults.DiskFull told = absurd told
-by-load image P size memory faults.Locked told = absurd told
-by-load image P size memory faults.NoStock told = absurd told
-by-load image P size memory faults.NoRequests told = absurd told
-by-load image P size memory (faults.BadCard item) told = absurd told
-by-load image P size memory (faults.BadRequestCard till) told = absurd told
-by-load image P size memory faults.TwoIntents told = absurd told
-by-load image P size memory (faults.ScriptLine line) told = absurd told
-by-load image P size memory (faults.RecordsLine line) told = absurd told
-by-load image P size memory faults.Geos told = absurd told
-by-load image P size memory faults.Format told = absurd told
-by-load image P size memory faults.File told = absurd told
-by-load image P size memory faults.Device told = absurd told
+by-load image P size memory _ told = absurd told
 
 -- or the disk has a fault
 pub by-fault : (Has : Image → Fault → Type 0) (image : List ℕ) (P : CommandFault → Type 0)
@@ -37,21 +22,7 @@ pub by-fault : (Has : Image → Fault → Type 0) (image : List ℕ) (P : Comman
 by-fault Has image P size memory layout faults.ImageSize told = size told
 by-fault Has image P size memory layout faults.NoMemory told = memory told
 by-fault Has image P size memory layout (faults.Layout fault) told = layout fault told.0 told.1
-by-fault Has image P size memory layout faults.NoFile told = absurd told
-by-fault Has image P size memory layout faults.FileExists told = absurd told
-by-fault Has image P size memory layout faults.DiskFull told = absurd told
-by-fault Has image P size memory layout faults.Locked told = absurd told
-by-fault Has image P size memory layout faults.NoStock told = absurd told
-by-fault Has image P size memory layout faults.NoRequests told = absurd told
-by-fault Has image P size memory layout (faults.BadCard item) told = absurd told
-by-fault Has image P size memory layout (faults.BadRequestCard till) told = absurd told
-by-fault Has image P size memory layout faults.TwoIntents told = absurd told
-by-fault Has image P size memory layout (faults.ScriptLine line) told = absurd told
-by-fault Has image P size memory layout (faults.RecordsLine line) told = absurd told
-by-fault Has image P size memory layout faults.Geos told = absurd told
-by-fault Has image P size memory layout faults.Format told = absurd told
-by-fault Has image P size memory layout faults.File told = absurd told
-by-fault Has image P size memory layout faults.Device told = absurd told
+by-fault Has image P size memory layout _ told = absurd told
 
 -- an image that isn't taken into memory isn't that of a disk without such faults
 pub load-is : (Has : Image → Fault → Type 0) (image : List ℕ) (fault : CommandFault) → IsLoadFault image fault

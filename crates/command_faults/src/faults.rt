@@ -1,16 +1,27 @@
-//! Why a command over an image isn't done.
+//! Why a command isn't done.
 ghost use Rattle.std.specs.Prelude.{◌≡◌, Some};
 ghost use Rattle.std.specs.IoError.{error_kind};
-ghost use Rattle.command_faults.specs.Faults.{command_status, command_text, image_fault, io_fault};
+ghost use Rattle.command_faults.specs.Faults.{
+  call_fault,
+  command_status,
+  command_text,
+  image_fault,
+  io_fault,
+  is_told as told_there,
+  lock_fault,
+  record_fault,
+};
 ghost use Rattle.command_faults.specs.declared.faults.CommandFault.TheVariants as faults;
 
-use d64_image::ImageFault;
+use d64_image::{ImageFault, Place};
 use disk_layout::Fault;
+use rel_records::RelFault;
 use std::error::Error;
 use std::fmt::{self, Display, Formatter};
+use std::fs::TryLockError;
 use std::io;
 
-/// Why a command over an image isn't done, as it is reported on standard error.
+/// Why a command isn't done, as it is reported on standard error.
 #[derive(Clone, Copy, Debug, PartialEq, Eq)]
 pub enum CommandFault {
     /// The image hasn't the 174,848 bytes of a disk of 35 tracks.
@@ -51,16 +62,53 @@ pub enum CommandFault {
     /// A sector couldn't be read or written. A disk in memory has no such fault; of a disk whose sectors go on to a
     /// file the file failed.
     Device,
+    /// A file of the image is cut short: its chain ends at this sector, too early.
+    Short(Place),
+    /// A file that is to be renamed or deleted is one of a shop's two files. Nothing was changed.
+    ShopFile,
+    /// Another program has the image. Nothing was read or changed.
+    InUse,
+    /// Input that is set not to wait had nothing more yet. What was read before stands.
+    NotReady,
+    /// The disk is repaired, except that this number of sectors stay taken though no file owns them. The output says
+    /// so.
+    Kept(u16),
+    /// A file is to be made under a name that exists, or that has a log beside it. Nothing was changed.
+    PathExists,
+    /// The log beside the image can't be used: it is of another image, or isn't whole. Nothing was changed.
+    Log,
+    /// The image says that its log has the rest of it, and no log stands beside it. Nothing was changed.
+    LogAway,
+    /// The image's file has a second name, by which it would have another log. Nothing was changed.
+    TwoNames,
+    /// An image was trimmed, and sectors of it weren't read or are past track 35. Standard error has them.
+    Trimmed,
+    /// At least one of several images has a fault or is refused. The output has which and why. This is the greatest of
+    /// their exit statuses.
+    Several(u8),
 }
 
 impl CommandFault {
-    /// The exit status: 1 for what the image or the script holds, 3 for a file, the output, memory or the device.
+    /// The exit status: 1 for what the image or the script holds, 3 for a file, the output, memory, the device or
+    /// another program.
     pub fn status(&self) -> u8
         ensures { result ≡ command_status self.now }
     {
         match self {
             CommandFault::File | CommandFault::NoMemory | CommandFault::Device => 3,
+            CommandFault::InUse | CommandFault::NotReady => 3,
+            CommandFault::Several(greatest) => *greatest,
             _ => 1,
+        }
+    }
+
+    /// Whether it is reported on standard error now: all but what was reported before.
+    pub fn is_told(&self) -> bool
+        ensures { result ≡ told_there self.now }
+    {
+        match self {
+            CommandFault::Kept(_) | CommandFault::Trimmed | CommandFault::Several(_) => false,
+            _ => true,
         }
     }
 
@@ -71,6 +119,17 @@ impl CommandFault {
         match error.kind() {
             io::ErrorKind::OutOfMemory => CommandFault::NoMemory,
             _ => CommandFault::File,
+        }
+    }
+
+    /// What is reported if a file isn't locked for this reason: `InUse` if another program has it, otherwise that it
+    /// can't be used.
+    pub fn of_lock(error: &TryLockError) -> CommandFault
+        ensures { result ≡ lock_fault error.now }
+    {
+        match error {
+            TryLockError::WouldBlock => CommandFault::InUse,
+            TryLockError::Error(error) => CommandFault::of_io(error),
         }
     }
 }
@@ -98,6 +157,17 @@ impl Display for CommandFault {
             CommandFault::File => f.write_str("FILE"),
             CommandFault::NoMemory => f.write_str("NO MEMORY"),
             CommandFault::Device => f.write_str("DEVICE"),
+            CommandFault::Short(place) => write!(f, "SHORT {}/{}", place.track(), place.sector()),
+            CommandFault::ShopFile => f.write_str("SHOP FILE"),
+            CommandFault::InUse => f.write_str("IN USE"),
+            CommandFault::NotReady => f.write_str("NOT READY"),
+            CommandFault::Kept(count) => write!(f, "KEPT {count}"),
+            CommandFault::PathExists => f.write_str("FILE EXISTS"),
+            CommandFault::Log => f.write_str("LOG"),
+            CommandFault::LogAway => f.write_str("LOG AWAY"),
+            CommandFault::TwoNames => f.write_str("TWO NAMES"),
+            CommandFault::Trimmed => f.write_str("TRIMMED"),
+            CommandFault::Several(greatest) => write!(f, "STATUS {greatest}"),
         }
     }
 }
@@ -120,5 +190,30 @@ impl From<Fault> for CommandFault {
 
     fn from(e: Fault) -> CommandFault {
         CommandFault::Layout(e)
+    }
+}
+
+impl From<RelFault> for CommandFault {
+    ghost from_gives = { λ e fault. fault ≡ record_fault e };
+
+    fn from(e: RelFault) -> CommandFault {
+        match e {
+            RelFault::NotFound => CommandFault::NoFile,
+            RelFault::Exists => CommandFault::FileExists,
+            RelFault::Full => CommandFault::DiskFull,
+            _ => CommandFault::Device,
+        }
+    }
+}
+
+impl From<io::Error> for CommandFault {
+    ghost from_gives = { λ e fault. fault ≡ call_fault (error_kind e) };
+
+    /// `NotReady` if the system was asked not to wait, otherwise what `of_io` returns.
+    fn from(e: io::Error) -> CommandFault {
+        match e.kind() {
+            io::ErrorKind::WouldBlock => CommandFault::NotReady,
+            _ => CommandFault::of_io(&e),
+        }
     }
 }

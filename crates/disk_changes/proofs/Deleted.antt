@@ -1,5 +1,5 @@
 -- What comes of a deletion on the disk in memory.
-use Rattle.std.proofs.Common.{◌≡◌, ◌⊎◌, ⊎_elim, ℕ, List, Ok, Err, inr, refl, subst, sym}
+use Rattle.std.proofs.Common.{◌≡◌, ⊎_elim, ℕ, List, Ok, Err, inr, refl, subst, sym}
 use Rattle.std.specs.Prelude.{codes}
 use Rattle.d64_image.specs.Images.{Image}
 use Rattle.d64_image.specs.Memory.{disk_image, memory, sectors_in}
@@ -9,12 +9,10 @@ use Rattle.disk_changes.proofs.Judged.{never-fails}
 use Rattle.disk_changes.specs.Deletes.{IsDeleteRefusal, IsDeleted}
 use Rattle.disk_changes.specs.Judged.{IsCleanDisk}
 use Rattle.disk_changes.specs.declared.changes.Changed.{Changed}
-use Rattle.disk_changes.specs.declared.changes.Why.TheVariants as whys
+use Rattle.command_faults.specs.declared.faults.CommandFault.TheVariants as faults
 use Rattle.disk_layout.specs.Clean.{IsCleanLayout}
 use Rattle.file_changes.specs.Deletes.{Deletes, HasFreed}
-use Rattle.file_changes.specs.declared.faults.ChangeFault.{ChangeFault}
-use Rattle.file_changes.specs.declared.faults.ChangeFault.TheVariants as change
-use Rattle.disk_changes.specs.Judged.{edit_fault}
+use Rattle.command_faults.specs.declared.faults.CommandFault.{CommandFault}
 use Rattle.keeper_commands.specs.ShopFiles.{HasShopFile}
 
 module _ (image name : List ℕ) (a b : MemDisk) (whole : IsCleanDisk image Refused) (is : disk_image a ≡ sectors_in image) where
@@ -31,16 +29,9 @@ module _ (image name : List ℕ) (a b : MemDisk) (whole : IsCleanDisk image Refu
     text = text;
   }
 
-  no-exists : (change.Exists ≡ change.NotFound) ⊎ ((change.Exists ≡ change.Locked) ⊎ (change.Exists ≡ change.Device)) → ⊥
-  no-exists told = ⊎_elim (λ e. cc) (⊎_elim (λ e. cc) (λ e. cc)) told
-
-  no-full : (change.Full ≡ change.NotFound) ⊎ ((change.Full ≡ change.Locked) ⊎ (change.Full ≡ change.Device)) → ⊥
-  no-full told = ⊎_elim (λ e. cc) (⊎_elim (λ e. cc) (λ e. cc)) told
-
-  pub delete-refused : (fault : ChangeFault) → Deletes memory a b name (Err fault)
-      → IsDeleteRefusal image name (whys.Fault (edit_fault fault))
-  delete-refused change.NotFound c = record { disk = whole; but = inr ((c.layout whole.layout clean.layout).not_found refl) }
-  delete-refused change.Locked c = record { disk = whole; but = (c.layout whole.layout clean.layout).locked refl }
-  delete-refused change.Device c = absurd (never-fails a b c.failures)
-  delete-refused change.Exists c = absurd (no-exists c.told)
-  delete-refused change.Full c = absurd (no-full c.told)
+  pub delete-refused : (fault : CommandFault) → Deletes memory a b name (Err fault)
+      → IsDeleteRefusal image name fault
+  delete-refused faults.NoFile c = record { disk = whole; but = inr ((c.layout whole.layout clean.layout).not_found refl) }
+  delete-refused faults.Locked c = record { disk = whole; but = (c.layout whole.layout clean.layout).locked refl }
+  delete-refused faults.Device c = absurd (never-fails a b c.failures)
+  delete-refused _ c = absurd (⊎_elim (λ e. cc) (⊎_elim (λ e. cc) (λ e. cc)) c.told)

@@ -10,8 +10,7 @@ use Rattle.d64_image.specs.declared.place.Place.{Place}
 use Rattle.damaged_files.specs.cut.Told.{HasNoCut, IsCutShort, IsToldOf}
 use Rattle.damaged_files.specs.declared.sides.planning.Shortened.{Shortened}
 use Rattle.disk_changes.specs.Judged.{IsCleanDisk, IsSoundWhole, IsTaken, IsUnclean, IsUntaken}
-use Rattle.disk_changes.specs.declared.changes.Why.{Why}
-use Rattle.disk_changes.specs.declared.changes.Why.TheVariants as whys
+use Rattle.command_faults.specs.declared.faults.CommandFault.{CommandFault}
 use Rattle.disk_layout.specs.Clean.{IsCleanLayout}
 use Rattle.disk_layout.specs.Layout.{IsLayout, IsSound, Layout}
 
@@ -59,10 +58,10 @@ unsound-is image img is unsound p short =
     unsound (short.layout, subst (λ (i : Image). IsLayout i short.layout) (sym is) short.sound)
 
 -- an image that isn't taken isn't that of a clean disk
-pub untaken-unclean : (image : List ℕ) (why : Why) → IsUntaken image why → IsUnclean image why
-untaken-unclean image (whys.Fault faults.ImageSize) c = c
-untaken-unclean image (whys.Fault faults.NoMemory) c = c
-untaken-unclean image (whys.Short p) c = c
+pub untaken-unclean : (image : List ℕ) (why : CommandFault) → IsUntaken image why → IsUnclean image why
+untaken-unclean image faults.ImageSize c = c
+untaken-unclean image faults.NoMemory c = c
+untaken-unclean image (faults.Short p) c = c
 untaken-unclean image _ c = absurd c
 
 abbrev pub is-clean-disk : (image : List ℕ) (cut : Shortened) (img : Image) → img ≡ sectors_in image → IsTaken image cut

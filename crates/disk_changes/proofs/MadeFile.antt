@@ -9,9 +9,8 @@ use Rattle.disk_changes.proofs.Judged.{never-fails}
 use Rattle.disk_changes.specs.Judged.{IsCleanDisk}
 use Rattle.disk_changes.specs.Makes.{IsMade, IsMakeRefusal}
 use Rattle.disk_changes.specs.declared.changes.Changed.{Changed}
-use Rattle.disk_changes.specs.declared.changes.Why.TheVariants as whys
 use Rattle.disk_layout.specs.Clean.{IsCleanLayout}
-use Rattle.keeper_commands.specs.Faults.{keep_fault}
+use Rattle.command_faults.specs.Faults.{record_fault}
 use Rattle.rel_records.specs.Calls.{Creates}
 use Rattle.rel_records.specs.creation.Made.{HasFileMore, HasNoRoom}
 use Rattle.rel_records.specs.declared.faults.RelFault.{RelFault}
@@ -42,7 +41,7 @@ module _ (image name : List ℕ) (L : ℕ) (cut : Shortened) (a b : MemDisk) (wh
   no-other fault x y z told = ⊎_elim x (⊎_elim y z) told
 
   pub make-refused : (fault : RelFault) → Creates memory a b name L (Err fault)
-      → IsMakeRefusal image name cut (whys.Fault (keep_fault fault))
+      → IsMakeRefusal image name cut (record_fault fault)
   make-refused rel.Exists c = record { disk = whole; but = (c.refuses.layout whole.layout clean.layout).exists refl }
   make-refused rel.Full c =
       let full = (c.refuses.layout whole.layout clean.layout).full refl in

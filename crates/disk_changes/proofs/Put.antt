@@ -1,5 +1,5 @@
 -- What comes of putting a file on the disk in memory.
-use Rattle.std.proofs.Common.{◌≡◌, ◌⊎◌, ⊎_elim, ℕ, List, Ok, Err, length, refl, subst, sym}
+use Rattle.std.proofs.Common.{◌≡◌, ⊎_elim, ℕ, List, Ok, Err, length, refl, subst, sym}
 use Rattle.std.specs.Prelude.{codes}
 use Rattle.d64_image.specs.Images.{Image}
 use Rattle.d64_image.specs.Memory.{disk_image, memory, sectors_in}
@@ -9,20 +9,12 @@ use Rattle.disk_changes.proofs.Judged.{never-fails}
 use Rattle.disk_changes.specs.Judged.{IsCleanDisk}
 use Rattle.disk_changes.specs.Puts.{IsPut, IsPutRefusal}
 use Rattle.disk_changes.specs.declared.changes.Changed.{Changed}
-use Rattle.disk_changes.specs.declared.changes.Why.TheVariants as whys
+use Rattle.command_faults.specs.declared.faults.CommandFault.TheVariants as faults
 use Rattle.disk_layout.specs.Clean.{IsCleanLayout}
 use Rattle.file_changes.specs.Puts.{HasPut, Puts, sectors_for, stored}
-use Rattle.file_changes.specs.declared.faults.ChangeFault.{ChangeFault}
-use Rattle.file_changes.specs.declared.faults.ChangeFault.TheVariants as change
+use Rattle.command_faults.specs.declared.faults.CommandFault.{CommandFault}
 use Rattle.file_changes.specs.declared.file_type.FileType.{FileType}
-use Rattle.disk_changes.specs.Judged.{edit_fault}
 use Rattle.rel_records.specs.creation.Made.{HasNoRoomFor}
-
-no-missing : (change.NotFound ≡ change.Exists) ⊎ ((change.NotFound ≡ change.Full) ⊎ (change.NotFound ≡ change.Device)) → ⊥
-no-missing told = ⊎_elim (λ e. cc) (⊎_elim (λ e. cc) (λ e. cc)) told
-
-no-locked : (change.Locked ≡ change.Exists) ⊎ ((change.Locked ≡ change.Full) ⊎ (change.Locked ≡ change.Device)) → ⊥
-no-locked told = ⊎_elim (λ e. cc) (⊎_elim (λ e. cc) (λ e. cc)) told
 
 module _ (image name : List ℕ) (kind : FileType) (content : List ℕ) (a b : MemDisk) (whole : IsCleanDisk image Refused)
     (is : disk_image a ≡ sectors_in image) where
@@ -39,15 +31,14 @@ module _ (image name : List ℕ) (kind : FileType) (content : List ℕ) (a b : M
     text = text;
   }
 
-  pub put-refused : (fault : ChangeFault) → Puts memory a b name kind content (Err fault)
-      → IsPutRefusal image name kind content (whys.Fault (edit_fault fault))
-  put-refused change.Exists c = record { disk = whole; but = (c.layout whole.layout clean.layout).refuses.exists refl }
-  put-refused change.Full c =
+  pub put-refused : (fault : CommandFault) → Puts memory a b name kind content (Err fault)
+      → IsPutRefusal image name kind content fault
+  put-refused faults.FileExists c = record { disk = whole; but = (c.layout whole.layout clean.layout).refuses.exists refl }
+  put-refused faults.DiskFull c =
       let full = (c.layout whole.layout clean.layout).refuses.full refl in
       record {
         disk = whole;
         but = (subst (λ (i : Image). HasNoRoomFor i whole.layout (sectors_for (length (stored content)))) is full.0, full.1);
       }
-  put-refused change.Device c = absurd (never-fails a b c.failures)
-  put-refused change.NotFound c = absurd (no-missing c.told)
-  put-refused change.Locked c = absurd (no-locked c.told)
+  put-refused faults.Device c = absurd (never-fails a b c.failures)
+  put-refused _ c = absurd (⊎_elim (λ e. cc) (⊎_elim (λ e. cc) (λ e. cc)) c.told)

@@ -1,5 +1,5 @@
 -- What comes of a renaming on the disk in memory.
-use Rattle.std.proofs.Common.{◌≡◌, ◌⊎◌, ⊎_elim, ℕ, List, Ok, Err, inr, refl, subst, sym}
+use Rattle.std.proofs.Common.{◌≡◌, ⊎_elim, ℕ, List, Ok, Err, inr, refl, subst, sym}
 use Rattle.std.specs.Prelude.{codes}
 use Rattle.d64_image.specs.Images.{Image}
 use Rattle.d64_image.specs.Memory.{disk_image, memory, sectors_in}
@@ -8,12 +8,10 @@ use Rattle.disk_changes.proofs.Judged.{never-fails}
 use Rattle.disk_changes.specs.Judged.{IsSoundWhole}
 use Rattle.disk_changes.specs.Renames.{IsRenameRefusal, IsRenamed}
 use Rattle.disk_changes.specs.declared.changes.Changed.{Changed}
-use Rattle.disk_changes.specs.declared.changes.Why.TheVariants as whys
+use Rattle.command_faults.specs.declared.faults.CommandFault.TheVariants as faults
 use Rattle.disk_layout.specs.Layout.{IsLayout}
 use Rattle.file_changes.specs.Renames.{HasNewName, Renames}
-use Rattle.file_changes.specs.declared.faults.ChangeFault.{ChangeFault}
-use Rattle.file_changes.specs.declared.faults.ChangeFault.TheVariants as change
-use Rattle.disk_changes.specs.Judged.{edit_fault}
+use Rattle.command_faults.specs.declared.faults.CommandFault.{CommandFault}
 use Rattle.keeper_commands.specs.ShopFiles.{HasShopFile}
 
 module _ (image from to : List ℕ) (a b : MemDisk) (whole : IsSoundWhole image) (is : disk_image a ≡ sectors_in image) where
@@ -30,16 +28,9 @@ module _ (image from to : List ℕ) (a b : MemDisk) (whole : IsSoundWhole image)
     text = text;
   }
 
-  no-locked : (change.Locked ≡ change.NotFound) ⊎ ((change.Locked ≡ change.Exists) ⊎ (change.Locked ≡ change.Device)) → ⊥
-  no-locked told = ⊎_elim (λ e. cc) (⊎_elim (λ e. cc) (λ e. cc)) told
-
-  no-full : (change.Full ≡ change.NotFound) ⊎ ((change.Full ≡ change.Exists) ⊎ (change.Full ≡ change.Device)) → ⊥
-  no-full told = ⊎_elim (λ e. cc) (⊎_elim (λ e. cc) (λ e. cc)) told
-
-  pub rename-refused : (fault : ChangeFault) → Renames memory a b from to (Err fault)
-      → IsRenameRefusal image from to (whys.Fault (edit_fault fault))
-  rename-refused change.NotFound c = record { whole = whole; but = inr ((c.layout whole.layout sound).not_found refl) }
-  rename-refused change.Exists c = record { whole = whole; but = (c.layout whole.layout sound).exists refl }
-  rename-refused change.Device c = absurd (never-fails a b c.failures)
-  rename-refused change.Locked c = absurd (no-locked c.told)
-  rename-refused change.Full c = absurd (no-full c.told)
+  pub rename-refused : (fault : CommandFault) → Renames memory a b from to (Err fault)
+      → IsRenameRefusal image from to fault
+  rename-refused faults.NoFile c = record { whole = whole; but = inr ((c.layout whole.layout sound).not_found refl) }
+  rename-refused faults.FileExists c = record { whole = whole; but = (c.layout whole.layout sound).exists refl }
+  rename-refused faults.Device c = absurd (never-fails a b c.failures)
+  rename-refused _ c = absurd (⊎_elim (λ e. cc) (⊎_elim (λ e. cc) (λ e. cc)) c.told)

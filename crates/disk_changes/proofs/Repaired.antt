@@ -11,7 +11,6 @@ use Rattle.disk_changes.proofs.Judged.{never-fails}
 use Rattle.disk_changes.specs.Judged.{IsTaken, in_memory}
 use Rattle.disk_changes.specs.Repairs.{IsRepairRefusal, IsRepaired}
 use Rattle.disk_changes.specs.declared.changes.Changed.{Changed}
-use Rattle.disk_changes.specs.declared.changes.Why.TheVariants as whys
 use Rattle.disk_layout.specs.Directory.{map_place}
 use Rattle.disk_layout.specs.Fault.{Holds, nowhere}
 use Rattle.keeper_commands.specs.Kinds.{HasFormatByte, HasGeosSign, IsPlainDisk}
@@ -36,7 +35,7 @@ module _ (image : List ℕ) (free : Bool) (cut : Shortened) (a b : MemDisk) (tak
   }
 
   pub repair-refused : (v : W) (fault : CommandFault) → IsRepairFault free memory image a b w v fault
-      → IsRepairRefusal image (whys.Fault (in_memory fault))
+      → IsRepairRefusal image (in_memory fault)
   repair-refused v faults.ImageSize c = c.0
   repair-refused v faults.NoMemory c = c.0
   repair-refused v faults.Geos c = (c.0, subst (λ (i : Image). HasGeosSign (sector i map_place)) is c.1)
@@ -44,14 +43,4 @@ module _ (image : List ℕ) (free : Bool) (cut : Shortened) (a b : MemDisk) (tak
   repair-refused v (faults.Layout fault) c = (c.0, subst (λ (i : Image). Holds nowhere i fault) is c.2)
   repair-refused v faults.File c = taken.0
   repair-refused v faults.Device c = absurd (never-fails a b c.1)
-  repair-refused v faults.NoFile c = absurd c
-  repair-refused v faults.FileExists c = absurd c
-  repair-refused v faults.DiskFull c = absurd c
-  repair-refused v faults.Locked c = absurd c
-  repair-refused v faults.NoStock c = absurd c
-  repair-refused v faults.NoRequests c = absurd c
-  repair-refused v (faults.BadCard item) c = absurd c
-  repair-refused v (faults.BadRequestCard till) c = absurd c
-  repair-refused v faults.TwoIntents c = absurd c
-  repair-refused v (faults.ScriptLine line) c = absurd c
-  repair-refused v (faults.RecordsLine line) c = absurd c
+  repair-refused v _ c = absurd c

@@ -9,7 +9,6 @@ use Rattle.damaged_files.specs.sides.Rebuilt as sides
 use Rattle.disk_changes.proofs.Judged.{never-fails}
 use Rattle.disk_changes.specs.Judged.{in_memory}
 use Rattle.disk_changes.specs.Rebuilds.{IsRebuiltOf, IsUnbuilt}
-use Rattle.disk_changes.specs.declared.changes.Why.TheVariants as whys
 use Rattle.disk_layout.specs.Directory.{map_place}
 use Rattle.disk_layout.specs.Fault.{Holds, nowhere}
 use Rattle.keeper_commands.specs.Kinds.{HasFormatByte, HasGeosSign, IsPlainDisk}
@@ -24,7 +23,7 @@ module _ (image : List ℕ) (a b : MemDisk) (is : disk_image a ≡ sectors_in im
   )
 
   pub unbuilt : {W : Type 0} (w v : W) (fault : CommandFault) → IsRebuildFault memory image a b w v fault
-      → IsUnbuilt image (whys.Fault (in_memory fault))
+      → IsUnbuilt image (in_memory fault)
   unbuilt w v faults.ImageSize c = c.0
   unbuilt w v faults.NoMemory c = c.0
   unbuilt w v faults.Geos c = (c.0, subst (λ (i : Image). HasGeosSign (sector i map_place)) is c.1)

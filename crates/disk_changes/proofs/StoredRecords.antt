@@ -11,7 +11,6 @@ use Rattle.disk_changes.proofs.Judged.{is-clean-disk, never-fails}
 use Rattle.disk_changes.specs.Judged.{IsCleanBut, IsTaken, in_memory}
 use Rattle.disk_changes.specs.Stores.{IsStoreRefusal, IsStored}
 use Rattle.disk_changes.specs.declared.changes.Changed.{Changed}
-use Rattle.disk_changes.specs.declared.changes.Why.TheVariants as whys
 use Rattle.disk_layout.specs.Clean.{IsClean}
 use Rattle.disk_layout.specs.Layout.{File, Layout, record_length}
 use Rattle.disk_layout.specs.Records.{records}
@@ -57,7 +56,7 @@ module _ (image name text : List ℕ) (cut : Shortened) (a b : MemDisk) (taken :
     left Q x = record { disk = is-clean-disk image cut (disk_image a) is taken x.layout x.clean; but = x.why }
 
     pub store-refused : (fault : CommandFault) → IsStoreFault memory image name text a b w v fault
-        → IsStoreRefusal image name text cut (whys.Fault (in_memory fault))
+        → IsStoreRefusal image name text cut (in_memory fault)
     store-refused faults.ImageSize c = c.0
     store-refused faults.NoMemory c = c.0
     store-refused (faults.Layout fault) c = (c.0, c.1)
@@ -67,13 +66,4 @@ module _ (image name text : List ℕ) (cut : Shortened) (a b : MemDisk) (taken :
         (subst (λ (i : Image). IsLeft memory image a b w v (HasNoStoreRoom i name text)) is c)
     store-refused faults.File c = taken.0
     store-refused faults.Device c = absurd (never-fails a b c.0)
-    store-refused faults.FileExists c = absurd c
-    store-refused faults.Locked c = absurd c
-    store-refused faults.Geos c = absurd c
-    store-refused faults.Format c = absurd c
-    store-refused faults.NoStock c = absurd c
-    store-refused faults.NoRequests c = absurd c
-    store-refused (faults.BadCard item) c = absurd c
-    store-refused (faults.BadRequestCard till) c = absurd c
-    store-refused faults.TwoIntents c = absurd c
-    store-refused (faults.ScriptLine line) c = absurd c
+    store-refused _ c = absurd c

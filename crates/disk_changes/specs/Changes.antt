@@ -12,7 +12,7 @@ use Rattle.disk_changes.specs.Titles.{IsTitled}
 use Rattle.disk_changes.specs.declared.changes.Change.{Change}
 use Rattle.disk_changes.specs.declared.changes.Change.TheVariants as changes
 use Rattle.disk_changes.specs.declared.changes.Changed.{Changed}
-use Rattle.disk_changes.specs.declared.changes.Why.{Why}
+use Rattle.command_faults.specs.declared.faults.CommandFault.{CommandFault}
 use Rattle.rel_records.specs.File.{IsLength}
 
 -- the name that a file gets fits an entry, and so does the length of its records
@@ -38,7 +38,7 @@ IsChanged (changes.Repair free cut) image made = IsRepaired image free cut made
 IsChanged (changes.Rebuild free cut) image made = IsRebuilt image free cut made
 
 -- it wasn't, for this reason
-abbrev pub IsRefused : Change → (image : List ℕ) → Why → Type 0
+abbrev pub IsRefused : Change → (image : List ℕ) → CommandFault → Type 0
 IsRefused (changes.Rename from to) image why = IsRenameRefusal image from.now to.now why
 IsRefused (changes.Title id name) image why = IsUnsoundOrShort image why
 IsRefused (changes.Delete name) image why = IsDeleteRefusal image name.now why

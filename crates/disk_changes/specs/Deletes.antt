@@ -5,8 +5,7 @@ use Rattle.d64_image.specs.Memory.{disk_image, sectors_in}
 use Rattle.damaged_files.specs.declared.sides.planning.Shortened.TheVariants.{Refused}
 use Rattle.disk_changes.specs.Judged.{IsCleanBut, IsCleanDisk, IsNoName, IsUnclean}
 use Rattle.disk_changes.specs.declared.changes.Changed.{Changed}
-use Rattle.disk_changes.specs.declared.changes.Why.{Why}
-use Rattle.disk_changes.specs.declared.changes.Why.TheVariants as whys
+use Rattle.command_faults.specs.declared.faults.CommandFault.{CommandFault}
 use Rattle.disk_layout.specs.Layout.{Layout}
 use Rattle.disk_layout.specs.Rest.{slot_name}
 use Rattle.disk_layout.specs.declared.slot.Slot.{Slot}
@@ -26,8 +25,8 @@ pub record IsDeleted (image name : List ℕ) (made : Changed) : Type 0 where
   pub text : made.text.items ≡ codes "DELETED\n"
 
 -- why a file isn't deleted
-abbrev pub IsDeleteRefusal : (image name : List ℕ) → Why → Type 0
-IsDeleteRefusal image name whys.ShopFile = IsCleanDisk image Refused × HasShopFile image name
-IsDeleteRefusal image name (whys.Fault faults.NoFile) = IsCleanBut image Refused (λ l. IsNoName l name)
-IsDeleteRefusal image name (whys.Fault faults.Locked) = IsCleanBut image Refused (λ l. IsLockedName l name)
+abbrev pub IsDeleteRefusal : (image name : List ℕ) → CommandFault → Type 0
+IsDeleteRefusal image name faults.ShopFile = IsCleanDisk image Refused × HasShopFile image name
+IsDeleteRefusal image name faults.NoFile = IsCleanBut image Refused (λ l. IsNoName l name)
+IsDeleteRefusal image name faults.Locked = IsCleanBut image Refused (λ l. IsLockedName l name)
 IsDeleteRefusal image name why = IsUnclean image why

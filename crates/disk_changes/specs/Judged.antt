@@ -8,14 +8,10 @@ use Rattle.d64_image.specs.declared.place.Place.{Place}
 use Rattle.damaged_files.specs.cut.Told.{HasNoCut, IsCutShort}
 use Rattle.damaged_files.specs.declared.sides.planning.Shortened.{Shortened}
 use Rattle.damaged_files.specs.declared.sides.planning.Shortened.TheVariants.{Accepted}
-use Rattle.disk_changes.specs.declared.changes.Why.{Why}
-use Rattle.disk_changes.specs.declared.changes.Why.TheVariants as whys
 use Rattle.disk_layout.specs.Clean.{IsCleanLayout}
 use Rattle.disk_layout.specs.Layout.{IsLayout, Layout}
 use Rattle.disk_layout.specs.Rest.{slot_name}
 use Rattle.file_changes.specs.Entries.{IsFreeName, entries_of}
-use Rattle.file_changes.specs.declared.faults.ChangeFault.{ChangeFault}
-use Rattle.file_changes.specs.declared.faults.ChangeFault.TheVariants as change
 
 -- The image is that of a sound disk, and no file of it is cut short.
 pub record IsSoundWhole (image : List ℕ) : Type 0 where
@@ -35,21 +31,19 @@ pub record IsCleanDisk (image : List ℕ) (cut : Shortened) : Type 0 where
   pub clean : IsCleanLayout (sectors_in image) layout
 
 -- why the image isn't so
-abbrev pub IsUnsoundOrShort : List ℕ → Why → Type 0
-IsUnsoundOrShort image (whys.Fault fault) = IsSoundFault image fault
-IsUnsoundOrShort image (whys.Short p) = IsCutShort image p
-IsUnsoundOrShort image whys.ShopFile = ⊥
+abbrev pub IsUnsoundOrShort : List ℕ → CommandFault → Type 0
+IsUnsoundOrShort image (faults.Short p) = IsCutShort image p
+IsUnsoundOrShort image fault = IsSoundFault image fault
 
-abbrev pub IsUntaken : (image : List ℕ) → Why → Type 0
-IsUntaken image (whys.Fault faults.ImageSize) = length image ≢ 174848
-IsUntaken image (whys.Fault faults.NoMemory) = length image ≡ 174848
-IsUntaken image (whys.Short p) = IsCutShort image p
+abbrev pub IsUntaken : (image : List ℕ) → CommandFault → Type 0
+IsUntaken image faults.ImageSize = length image ≢ 174848
+IsUntaken image faults.NoMemory = length image ≡ 174848
+IsUntaken image (faults.Short p) = IsCutShort image p
 IsUntaken image why = ⊥
 
-abbrev pub IsUnclean : List ℕ → Why → Type 0
-IsUnclean image (whys.Fault fault) = IsCleanFault image fault
-IsUnclean image (whys.Short p) = IsCutShort image p
-IsUnclean image whys.ShopFile = ⊥
+abbrev pub IsUnclean : List ℕ → CommandFault → Type 0
+IsUnclean image (faults.Short p) = IsCutShort image p
+IsUnclean image fault = IsCleanFault image fault
 
 -- it is so, and this holds of its layout
 pub record IsSoundBut (image : List ℕ) (Q : Layout → Type 0) : Type 0 where
@@ -63,14 +57,6 @@ pub record IsCleanBut (image : List ℕ) (cut : Shortened) (Q : Layout → Type 
 -- no entry has the name: it is too long for one, or none is so named
 abbrev pub IsNoName : Layout → List ℕ → Type 0
 IsNoName l name = (16 < length name) ⊎ IsFreeName (entries_of l) (slot_name name)
-
--- what is reported if a change isn't made for this fault
-abbrev pub edit_fault : ChangeFault → CommandFault
-edit_fault change.NotFound = faults.NoFile
-edit_fault change.Exists = faults.FileExists
-edit_fault change.Full = faults.DiskFull
-edit_fault change.Locked = faults.Locked
-edit_fault change.Device = faults.Device
 
 -- what is reported of a change in memory: its output fails only if there is no memory for it
 abbrev pub in_memory : CommandFault → CommandFault

@@ -5,8 +5,7 @@ use Rattle.d64_image.specs.Memory.{disk_image, sectors_in}
 use Rattle.damaged_files.specs.declared.sides.planning.Shortened.{Shortened}
 use Rattle.disk_changes.specs.Judged.{IsCleanBut, IsCleanDisk, IsUnclean}
 use Rattle.disk_changes.specs.declared.changes.Changed.{Changed}
-use Rattle.disk_changes.specs.declared.changes.Why.{Why}
-use Rattle.disk_changes.specs.declared.changes.Why.TheVariants as whys
+use Rattle.command_faults.specs.declared.faults.CommandFault.{CommandFault}
 use Rattle.rel_records.specs.creation.Made.{HasFileMore, HasNoRoom, IsTakenName}
 
 -- The disk that comes of it has the files of the first one, and the new one with records of L bytes; and what is printed.
@@ -18,8 +17,8 @@ pub record IsMade (image name : List ℕ) (L : ℕ) (cut : Shortened) (made : Ch
   pub text : made.text.items ≡ codes "MADE\n"
 
 -- why a file isn't made
-abbrev pub IsMakeRefusal : (image name : List ℕ) → Shortened → Why → Type 0
-IsMakeRefusal image name cut (whys.Fault faults.FileExists) = IsCleanBut image cut (λ l. IsTakenName l name)
-IsMakeRefusal image name cut (whys.Fault faults.DiskFull) =
+abbrev pub IsMakeRefusal : (image name : List ℕ) → Shortened → CommandFault → Type 0
+IsMakeRefusal image name cut faults.FileExists = IsCleanBut image cut (λ l. IsTakenName l name)
+IsMakeRefusal image name cut faults.DiskFull =
     IsCleanBut image cut (λ l. HasNoRoom (sectors_in image) l × ¬ (IsTakenName l name))
 IsMakeRefusal image name cut why = IsUnclean image why

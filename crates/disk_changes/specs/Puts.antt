@@ -5,8 +5,7 @@ use Rattle.d64_image.specs.Memory.{disk_image, sectors_in}
 use Rattle.damaged_files.specs.declared.sides.planning.Shortened.TheVariants.{Refused}
 use Rattle.disk_changes.specs.Judged.{IsCleanBut, IsCleanDisk, IsUnclean}
 use Rattle.disk_changes.specs.declared.changes.Changed.{Changed}
-use Rattle.disk_changes.specs.declared.changes.Why.{Why}
-use Rattle.disk_changes.specs.declared.changes.Why.TheVariants as whys
+use Rattle.command_faults.specs.declared.faults.CommandFault.{CommandFault}
 use Rattle.file_changes.specs.Puts.{HasPut, IsNewName, sectors_for, stored}
 use Rattle.file_changes.specs.declared.file_type.FileType.{FileType}
 use Rattle.rel_records.specs.creation.Made.{HasNoRoomFor}
@@ -18,8 +17,8 @@ pub record IsPut (image name : List ℕ) (kind : FileType) (content : List ℕ) 
   pub text : made.text.items ≡ codes "PUT\n"
 
 -- why a file isn't put there
-abbrev pub IsPutRefusal : (image name : List ℕ) → FileType → (content : List ℕ) → Why → Type 0
-IsPutRefusal image name kind content (whys.Fault faults.FileExists) = IsCleanBut image Refused (λ l. ¬ (IsNewName l name))
-IsPutRefusal image name kind content (whys.Fault faults.DiskFull) = IsCleanBut image Refused (λ l.
+abbrev pub IsPutRefusal : (image name : List ℕ) → FileType → (content : List ℕ) → CommandFault → Type 0
+IsPutRefusal image name kind content faults.FileExists = IsCleanBut image Refused (λ l. ¬ (IsNewName l name))
+IsPutRefusal image name kind content faults.DiskFull = IsCleanBut image Refused (λ l.
     HasNoRoomFor (sectors_in image) l (sectors_for (length (stored content))) × IsNewName l name)
 IsPutRefusal image name kind content why = IsUnclean image why

@@ -8,8 +8,7 @@ use Rattle.damaged_files.specs.declared.sides.planning.Shortened.{Shortened}
 use Rattle.damaged_files.specs.sides.Rebuilt as sides
 use Rattle.disk_changes.specs.Repairs.{IsRepairRefusal, IsRepaired}
 use Rattle.disk_changes.specs.declared.changes.Changed.{Changed}
-use Rattle.disk_changes.specs.declared.changes.Why.{Why}
-use Rattle.disk_changes.specs.declared.changes.Why.TheVariants as whys
+use Rattle.command_faults.specs.declared.faults.CommandFault.{CommandFault}
 use Rattle.disk_layout.specs.Directory.{map_place}
 use Rattle.disk_layout.specs.Fault.{Holds, nowhere}
 use Rattle.keeper_commands.specs.Kinds.{HasFormatByte, HasGeosSign, IsPlainDisk}
@@ -26,13 +25,13 @@ IsBuilt image old new disk =
     IsRebuiltOf image (disk_image disk) × (new ≡ old ++ changed_text (sectors_in image) (disk_image disk))
 
 -- Why they aren't built anew: this holds of the image's bytes, or there was no memory.
-abbrev pub IsUnbuilt : (image : List ℕ) → Why → Type 0
-IsUnbuilt image (whys.Fault faults.ImageSize) = length image ≢ 174848
-IsUnbuilt image (whys.Fault faults.NoMemory) = length image ≡ 174848
-IsUnbuilt image (whys.Fault faults.Geos) = (length image ≡ 174848) × HasGeosSign (sector (sectors_in image) map_place)
-IsUnbuilt image (whys.Fault faults.Format) =
+abbrev pub IsUnbuilt : (image : List ℕ) → CommandFault → Type 0
+IsUnbuilt image faults.ImageSize = length image ≢ 174848
+IsUnbuilt image faults.NoMemory = length image ≡ 174848
+IsUnbuilt image faults.Geos = (length image ≡ 174848) × HasGeosSign (sector (sectors_in image) map_place)
+IsUnbuilt image faults.Format =
     (length image ≡ 174848) × ¬ (HasFormatByte (sector (sectors_in image) map_place))
-IsUnbuilt image (whys.Fault (faults.Layout fault)) = (length image ≡ 174848)
+IsUnbuilt image (faults.Layout fault) = (length image ≡ 174848)
     × IsPlainDisk (sector (sectors_in image) map_place) × Holds nowhere (sectors_in image) fault
 IsUnbuilt image why = ⊥
 
@@ -48,6 +47,6 @@ pub record IsRebuilt (image : List ℕ) (free : Bool) (cut : Shortened) (made : 
   pub text : made.text.items ≡ changed_text (sectors_in image) (sectors_in bytes) ++ second.text.items
 
 -- why not both were done
-abbrev pub IsRebuildRefusal : (image : List ℕ) → Why → Type 0
+abbrev pub IsRebuildRefusal : (image : List ℕ) → CommandFault → Type 0
 IsRebuildRefusal image why = IsUnbuilt image why
     ⊎ ((bytes : List ℕ) × IsRebuiltOf image (sectors_in bytes) × IsRepairRefusal bytes why)

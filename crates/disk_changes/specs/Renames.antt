@@ -4,8 +4,7 @@ use Rattle.command_faults.specs.declared.faults.CommandFault.TheVariants as faul
 use Rattle.d64_image.specs.Memory.{disk_image, sectors_in}
 use Rattle.disk_changes.specs.Judged.{IsNoName, IsSoundBut, IsSoundWhole, IsUnsoundOrShort}
 use Rattle.disk_changes.specs.declared.changes.Changed.{Changed}
-use Rattle.disk_changes.specs.declared.changes.Why.{Why}
-use Rattle.disk_changes.specs.declared.changes.Why.TheVariants as whys
+use Rattle.command_faults.specs.declared.faults.CommandFault.{CommandFault}
 use Rattle.disk_layout.specs.Rest.{slot_name}
 use Rattle.file_changes.specs.Entries.{IsFreeName, entries_of}
 use Rattle.file_changes.specs.Renames.{HasNewName}
@@ -19,9 +18,9 @@ pub record IsRenamed (image from to : List ℕ) (made : Changed) : Type 0 where
   pub text : made.text.items ≡ codes "RENAMED\n"
 
 -- why an entry isn't renamed
-abbrev pub IsRenameRefusal : (image from to : List ℕ) → Why → Type 0
-IsRenameRefusal image from to whys.ShopFile = IsSoundWhole image × HasShopFile image from
-IsRenameRefusal image from to (whys.Fault faults.NoFile) = IsSoundBut image (λ l. IsNoName l from)
-IsRenameRefusal image from to (whys.Fault faults.FileExists) = IsSoundBut image (λ l.
+abbrev pub IsRenameRefusal : (image from to : List ℕ) → CommandFault → Type 0
+IsRenameRefusal image from to faults.ShopFile = IsSoundWhole image × HasShopFile image from
+IsRenameRefusal image from to faults.NoFile = IsSoundBut image (λ l. IsNoName l from)
+IsRenameRefusal image from to faults.FileExists = IsSoundBut image (λ l.
     ¬ (IsFreeName (entries_of l) (slot_name from)) × ¬ (IsFreeName (entries_of l) (slot_name to)))
 IsRenameRefusal image from to why = IsUnsoundOrShort image why

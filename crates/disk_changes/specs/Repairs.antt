@@ -6,8 +6,7 @@ use Rattle.d64_image.specs.Memory.{disk_image, sectors_in}
 use Rattle.damaged_files.specs.declared.sides.planning.Shortened.{Shortened}
 use Rattle.disk_changes.specs.Judged.{IsTaken, IsUntaken}
 use Rattle.disk_changes.specs.declared.changes.Changed.{Changed}
-use Rattle.disk_changes.specs.declared.changes.Why.{Why}
-use Rattle.disk_changes.specs.declared.changes.Why.TheVariants as whys
+use Rattle.command_faults.specs.declared.faults.CommandFault.{CommandFault}
 use Rattle.disk_layout.specs.Directory.{map_place}
 use Rattle.disk_layout.specs.Fault.{Holds, nowhere}
 use Rattle.keeper_commands.specs.Kinds.{HasFormatByte, HasGeosSign, IsPlainDisk}
@@ -23,11 +22,11 @@ pub record IsRepaired (image : List ℕ) (free : Bool) (cut : Shortened) (made :
   pub text : made.text.items ≡ mended_text (sectors_in image) (disk_image made.disk) made.left
 
 -- why a disk isn't repaired
-abbrev pub IsRepairRefusal : (image : List ℕ) → Why → Type 0
-IsRepairRefusal image (whys.Fault faults.Geos) =
+abbrev pub IsRepairRefusal : (image : List ℕ) → CommandFault → Type 0
+IsRepairRefusal image faults.Geos =
     (length image ≡ 174848) × HasGeosSign (sector (sectors_in image) map_place)
-IsRepairRefusal image (whys.Fault faults.Format) =
+IsRepairRefusal image faults.Format =
     (length image ≡ 174848) × ¬ (HasFormatByte (sector (sectors_in image) map_place))
-IsRepairRefusal image (whys.Fault (faults.Layout fault)) =
+IsRepairRefusal image (faults.Layout fault) =
     (length image ≡ 174848) × Holds nowhere (sectors_in image) fault
 IsRepairRefusal image why = IsUntaken image why

@@ -5,8 +5,7 @@ use Rattle.d64_image.specs.Memory.{disk_image, sectors_in}
 use Rattle.damaged_files.specs.declared.sides.planning.Shortened.{Shortened}
 use Rattle.disk_changes.specs.Judged.{IsCleanBut, IsCleanDisk, IsUnclean}
 use Rattle.disk_changes.specs.declared.changes.Changed.{Changed}
-use Rattle.disk_changes.specs.declared.changes.Why.{Why}
-use Rattle.disk_changes.specs.declared.changes.Why.TheVariants as whys
+use Rattle.command_faults.specs.declared.faults.CommandFault.{CommandFault}
 use Rattle.disk_layout.specs.Clean.{IsClean}
 use Rattle.disk_layout.specs.Layout.{File, record_length}
 use Rattle.disk_layout.specs.Records.{records}
@@ -40,10 +39,10 @@ pub record IsStored (image name given : List ℕ) (cut : Shortened) (made : Chan
       changed_text (record_length file.slot) (last_ones all) (grown_to (sectors_in image) file (greatest all))
 
 -- why records aren't stored
-abbrev pub IsStoreRefusal : (image name text : List ℕ) → Shortened → Why → Type 0
-IsStoreRefusal image name text cut (whys.Fault faults.NoFile) = IsCleanBut image cut
+abbrev pub IsStoreRefusal : (image name text : List ℕ) → Shortened → CommandFault → Type 0
+IsStoreRefusal image name text cut faults.NoFile = IsCleanBut image cut
     (λ l. (k : ℕ) (f : File) → slice_get l.files k ≡ Some f → ¬ (IsNamed name f))
-IsStoreRefusal image name text cut (whys.Fault (faults.RecordsLine k)) = IsCleanBut image cut (HasBadLine name text k)
-IsStoreRefusal image name text cut (whys.Fault faults.DiskFull) =
+IsStoreRefusal image name text cut (faults.RecordsLine k) = IsCleanBut image cut (HasBadLine name text k)
+IsStoreRefusal image name text cut faults.DiskFull =
     IsCleanBut image cut (HasNoStoreRoom (sectors_in image) name text)
 IsStoreRefusal image name text cut why = IsUnclean image why

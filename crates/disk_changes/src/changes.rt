@@ -1,12 +1,7 @@
-//! A change, what comes of it, and why it isn't made.
-ghost use Rattle.std.specs.Prelude.{◌≡◌};
-ghost use Rattle.command_faults.specs.declared.faults.CommandFault.TheVariants as faults;
-ghost use Rattle.disk_changes.specs.declared.changes.Why.TheVariants as whys;
+//! A change, and what comes of it.
 
-use command_faults::CommandFault;
-use d64_image::{MemDisk, Place};
+use d64_image::MemDisk;
 use damaged_files::Shortened;
-use disk_layout::Fault;
 use file_changes::FileType;
 
 /// A change to the files of a disk. A name that a file gets has at most sixteen bytes. If a file of the disk is cut short,
@@ -66,31 +61,4 @@ pub struct Changed {
     pub text: Vec<u8>,
     /// How many sectors stay taken though no file owns them. 0 of a change that isn't a repair.
     pub left: u16,
-}
-
-/// Why a change isn't made.
-#[derive(Clone, Copy, Debug, PartialEq, Eq)]
-pub enum Why {
-    /// What the image or the words have wrong, or there was no memory.
-    Fault(CommandFault),
-    /// A file of the image is cut short: its chain ends at this sector, too early.
-    Short(Place),
-    /// The file is one of a shop's two.
-    ShopFile,
-}
-
-impl From<CommandFault> for Why {
-    ghost from_gives = { λ fault why. why ≡ whys.Fault fault };
-
-    fn from(fault: CommandFault) -> Why {
-        Why::Fault(fault)
-    }
-}
-
-impl From<Fault> for Why {
-    ghost from_gives = { λ fault why. why ≡ whys.Fault (faults.Layout fault) };
-
-    fn from(fault: Fault) -> Why {
-        Why::Fault(CommandFault::Layout(fault))
-    }
 }

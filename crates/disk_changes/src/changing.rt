@@ -2,7 +2,7 @@
 ghost use Rattle.std.specs.Prelude.{IfErr, IfOk};
 ghost use Rattle.disk_changes.specs.Changes.{IsChanged, IsFit, IsRefused};
 
-use crate::changes::{Change, Changed, Why};
+use crate::changes::{Change, Changed};
 use crate::deleting::deleted;
 use crate::making::made;
 use crate::putting::put;
@@ -11,11 +11,12 @@ use crate::renaming::renamed;
 use crate::repairing::repaired;
 use crate::storing::stored;
 use crate::titling::titled;
+use command_faults::CommandFault;
 use std::alloc::Global;
 
 /// The disk that comes of a change to that of the image, and what is printed; or why the change isn't made. Nothing is
 /// read or written.
-pub fn change(alloc: Global, what: &Change<'_>, image: &[u8]) -> Result<Changed, Why>
+pub fn change(alloc: Global, what: &Change<'_>, image: &[u8]) -> Result<Changed, CommandFault>
     requires fit { IsFit what.now }
     ensures ok { IfOk result (IsChanged what.now image.now) }
     ensures err { IfErr result (IsRefused what.now image.now) }

@@ -2,9 +2,9 @@
 ghost use Rattle.std.specs.Prelude.{IfErr, IfOk};
 ghost use Rattle.disk_changes.specs.Deletes.{IsDeleted, IsDeleteRefusal};
 
-use crate::changes::{Changed, Why};
+use crate::changes::Changed;
 use crate::judging::clean_disk;
-use crate::outcomes::{changed, refusal};
+use crate::outcomes::changed;
 use command_faults::CommandFault;
 use damaged_files::Shortened;
 use file_changes::delete;
@@ -12,19 +12,17 @@ use keeper_commands::has_shop_file;
 use std::alloc::Global;
 
 /// The image without the first file that has this name, of whatever type.
-pub(crate) fn deleted(alloc: Global, image: &[u8], name: &[u8]) -> Result<Changed, Why>
+pub(crate) fn deleted(alloc: Global, image: &[u8], name: &[u8]) -> Result<Changed, CommandFault>
     ensures ok { IfOk result (IsDeleted image.now name.now) }
     ensures err { IfErr result (IsDeleteRefusal image.now name.now) }
 {
     let mut disk = clean_disk(alloc, image, Shortened::Refused)?;
     if has_shop_file(alloc, image, name)? {
-        return Err(Why::ShopFile);
+        return Err(CommandFault::ShopFile);
     }
     if name.len() > 16 {
-        return Err(Why::Fault(CommandFault::NoFile));
+        return Err(CommandFault::NoFile);
     }
-    if let Err(fault) = delete(&mut disk, name) {
-        return Err(refusal(fault));
-    }
+    delete(&mut disk, name)?;
     changed(alloc, disk, b"DELETED\n")
 }

@@ -3,28 +3,31 @@ ghost use Rattle.std.specs.Prelude.{◌≡◌, IfErr, IfOk};
 ghost use Rattle.d64_image.specs.Memory.{disk_image, sectors_in};
 ghost use Rattle.disk_changes.specs.Judged.{IsCleanDisk, IsSoundWhole, IsTaken, IsUnclean, IsUnsoundOrShort, IsUntaken};
 
-use crate::changes::Why;
-use command_faults::load;
+use command_faults::{CommandFault, load};
 use d64_image::MemDisk;
 use damaged_files::{Shortened, find_cut};
 use layout_check::check;
 use std::alloc::Global;
 
 /// The disk of an image in memory, if it is sound and no file of it is cut short.
-pub(crate) fn sound_disk(alloc: Global, image: &[u8]) -> Result<MemDisk, Why>
+pub(crate) fn sound_disk(alloc: Global, image: &[u8]) -> Result<MemDisk, CommandFault>
     ensures ok { IfOk result (λ disk. IsSoundWhole image.now × (disk_image disk ≡ sectors_in image.now)) }
     ensures err { IfErr result (IsUnsoundOrShort image.now) }
 {
     let mut disk = load(alloc, image)?;
     match find_cut(&mut disk, None)? {
-        Some(place) => Err(Why::Short(place)),
+        Some(place) => Err(CommandFault::Short(place)),
         None => Ok(disk),
     }
 }
 
 /// The disk of an image in memory, unless a file of it is cut short and that isn't accepted. A disk that isn't sound has
 /// no such file.
-pub(crate) fn taken_disk(alloc: Global, image: &[u8], cut: Shortened) -> Result<MemDisk, Why>
+pub(crate) fn taken_disk(
+    alloc: Global,
+    image: &[u8],
+    cut: Shortened,
+) -> Result<MemDisk, CommandFault>
     ensures ok { IfOk result (λ disk. IsTaken image.now cut × (disk_image disk ≡ sectors_in image.now)) }
     ensures err { IfErr result (IsUntaken image.now) }
 {
@@ -32,7 +35,7 @@ pub(crate) fn taken_disk(alloc: Global, image: &[u8], cut: Shortened) -> Result<
     match cut {
         Shortened::Accepted => Ok(disk),
         Shortened::Refused => match find_cut(&mut disk, None) {
-            Ok(Some(place)) => Err(Why::Short(place)),
+            Ok(Some(place)) => Err(CommandFault::Short(place)),
             Ok(None) => Ok(disk),
             Err(_) => Ok(disk),
         },
@@ -40,7 +43,11 @@ pub(crate) fn taken_disk(alloc: Global, image: &[u8], cut: Shortened) -> Result<
 }
 
 /// The same, if the disk is clean.
-pub(crate) fn clean_disk(alloc: Global, image: &[u8], cut: Shortened) -> Result<MemDisk, Why>
+pub(crate) fn clean_disk(
+    alloc: Global,
+    image: &[u8],
+    cut: Shortened,
+) -> Result<MemDisk, CommandFault>
     ensures ok { IfOk result (λ disk. IsCleanDisk image.now cut × (disk_image disk ≡ sectors_in image.now)) }
     ensures err { IfErr result (IsUnclean image.now) }
 {

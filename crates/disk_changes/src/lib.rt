@@ -15,5 +15,5 @@ mod repairing;
 mod storing;
 mod titling;
 
-pub use changes::{Change, Changed, Why};
+pub use changes::{Change, Changed};
 pub use changing::change;

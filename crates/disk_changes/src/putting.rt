@@ -2,9 +2,10 @@
 ghost use Rattle.std.specs.Prelude.{◌≤◌, IfErr, IfOk, length};
 ghost use Rattle.disk_changes.specs.Puts.{IsPut, IsPutRefusal};
 
-use crate::changes::{Changed, Why};
+use crate::changes::Changed;
 use crate::judging::clean_disk;
-use crate::outcomes::{changed, refusal};
+use crate::outcomes::changed;
+use command_faults::CommandFault;
 use damaged_files::Shortened;
 use file_changes::{FileType, put_file};
 use std::alloc::Global;
@@ -16,14 +17,12 @@ pub(crate) fn put(
     name: &[u8],
     kind: FileType,
     content: &[u8],
-) -> Result<Changed, Why>
+) -> Result<Changed, CommandFault>
     requires name { length name.now ≤ 16 }
     ensures ok { IfOk result (IsPut image.now name.now kind content.now) }
     ensures err { IfErr result (IsPutRefusal image.now name.now kind content.now) }
 {
     let mut disk = clean_disk(alloc, image, Shortened::Refused)?;
-    if let Err(fault) = put_file(&mut disk, name, kind, content) {
-        return Err(refusal(fault));
-    }
+    put_file(&mut disk, name, kind, content)?;
     changed(alloc, disk, b"PUT\n")
 }

@@ -1,10 +1,9 @@
 //! The disk of an image with its side sectors built anew, and then repaired.
 ghost use Rattle.std.specs.Prelude.{◌≡◌, ◌++◌, IfErr, IfOk};
 ghost use Rattle.disk_changes.specs.Rebuilds.{IsBuilt, IsRebuildRefusal, IsRebuilt, IsUnbuilt};
-ghost use Rattle.disk_changes.specs.declared.changes.Why.TheVariants.{Fault};
 ghost use Rattle.command_faults.specs.declared.faults.CommandFault.TheVariants.{NoMemory};
 
-use crate::changes::{Changed, Why};
+use crate::changes::Changed;
 use crate::outcomes::in_memory;
 use crate::repairing::repaired;
 use command_faults::{CommandFault, load};
@@ -14,22 +13,27 @@ use keeper_commands::rebuild_image;
 use std::alloc::Global;
 
 /// The disk of an image with its side sectors built anew, and a line for each that changed, which goes to `text`.
-fn built(alloc: Global, image: &[u8], cut: Shortened, text: &mut Vec<u8>) -> Result<MemDisk, Why>
+fn built(
+    alloc: Global,
+    image: &[u8],
+    cut: Shortened,
+    text: &mut Vec<u8>,
+) -> Result<MemDisk, CommandFault>
     ensures ok { IfOk result (IsBuilt image.now text.old.items text.new.items) }
     ensures err { IfErr result (IsUnbuilt image.now) }
 {
     let mut disk = load(alloc, image)?;
     match rebuild_image(alloc, image, cut, &mut disk, text) {
         Ok(()) => Ok(disk),
-        Err(fault) => Err(Why::Fault(in_memory(fault))),
+        Err(fault) => Err(in_memory(fault)),
     }
 }
 
 /// What comes of the second of two changes, with the text of the first before its own.
-fn after(mut text: Vec<u8>, then: Changed) -> Result<Changed, Why>
+fn after(mut text: Vec<u8>, then: Changed) -> Result<Changed, CommandFault>
     ensures ok { IfOk result (λ made. (made.disk ≡ then.disk) × (made.left ≡ then.left)
         × (made.text.items ≡ text.items ++ then.text.items)) }
-    ensures err { IfErr result (λ why. why ≡ Fault NoMemory) }
+    ensures err { IfErr result (λ why. why ≡ NoMemory) }
 {
     match text.extend_from_slice(then.text.as_slice()) {
         Ok(()) => Ok(Changed {
@@ -37,7 +41,7 @@ fn after(mut text: Vec<u8>, then: Changed) -> Result<Changed, Why>
             text,
             left: then.left,
         }),
-        Err(_) => Err(Why::Fault(CommandFault::NoMemory)),
+        Err(_) => Err(CommandFault::NoMemory),
     }
 }
 
@@ -47,7 +51,7 @@ pub(crate) fn rebuilt(
     image: &[u8],
     free: bool,
     cut: Shortened,
-) -> Result<Changed, Why>
+) -> Result<Changed, CommandFault>
     ensures ok { IfOk result (IsRebuilt image.now free cut) }
     ensures err { IfErr result (IsRebuildRefusal image.now) }
 {

@@ -2,9 +2,10 @@
 ghost use Rattle.std.specs.Prelude.{IfErr, IfOk};
 ghost use Rattle.disk_changes.specs.Repairs.{IsRepaired, IsRepairRefusal};
 
-use crate::changes::{Changed, Why};
+use crate::changes::Changed;
 use crate::judging::taken_disk;
 use crate::outcomes::in_memory;
+use command_faults::CommandFault;
 use damaged_files::Shortened;
 use keeper_commands::repair_image;
 use std::alloc::Global;
@@ -15,7 +16,7 @@ pub(crate) fn repaired(
     image: &[u8],
     free: bool,
     cut: Shortened,
-) -> Result<Changed, Why>
+) -> Result<Changed, CommandFault>
     ensures ok { IfOk result (IsRepaired image.now free cut) }
     ensures err { IfErr result (IsRepairRefusal image.now) }
 {
@@ -23,6 +24,6 @@ pub(crate) fn repaired(
     let mut text = Vec::new(alloc);
     match repair_image(alloc, image, free, &mut disk, &mut text) {
         Ok(left) => Ok(Changed { disk, text, left }),
-        Err(fault) => Err(Why::Fault(in_memory(fault))),
+        Err(fault) => Err(in_memory(fault)),
     }
 }

@@ -2,9 +2,10 @@
 ghost use Rattle.std.specs.Prelude.{IfErr, IfOk};
 ghost use Rattle.disk_changes.specs.Stores.{IsStoreRefusal, IsStored};
 
-use crate::changes::{Changed, Why};
+use crate::changes::Changed;
 use crate::judging::taken_disk;
 use crate::outcomes::in_memory;
+use command_faults::CommandFault;
 use damaged_files::Shortened;
 use keeper_commands::store_image;
 use std::alloc::Global;
@@ -17,7 +18,7 @@ pub(crate) fn stored(
     name: &[u8],
     text: &[u8],
     cut: Shortened,
-) -> Result<Changed, Why>
+) -> Result<Changed, CommandFault>
     ensures ok { IfOk result (IsStored image.now name.now text.now cut) }
     ensures err { IfErr result (IsStoreRefusal image.now name.now text.now cut) }
 {
@@ -29,6 +30,6 @@ pub(crate) fn stored(
             text: told,
             left: 0,
         }),
-        Err(fault) => Err(Why::Fault(in_memory(fault))),
+        Err(fault) => Err(in_memory(fault)),
     }
 }

@@ -4,9 +4,10 @@ ghost use Rattle.d64_image.specs.Memory.{disk_image};
 ghost use Rattle.disk_changes.specs.Judged.{IsUnsoundOrShort};
 ghost use Rattle.disk_changes.specs.Titles.{IsTitled, retitled};
 
-use crate::changes::{Changed, Why};
+use crate::changes::Changed;
 use crate::judging::sound_disk;
 use crate::outcomes::changed;
+use command_faults::CommandFault;
 use d64_image::{MemDisk, Sectors};
 use disk_layout::{map_place, padded_name};
 use file_changes::overwrite;
@@ -24,7 +25,12 @@ fn put_title(disk: &mut MemDisk, name: &[u8], id: [u8; 2])
 }
 
 /// The image whose disk has this name and this ID.
-pub(crate) fn titled(alloc: Global, image: &[u8], name: &[u8], id: [u8; 2]) -> Result<Changed, Why>
+pub(crate) fn titled(
+    alloc: Global,
+    image: &[u8],
+    name: &[u8],
+    id: [u8; 2],
+) -> Result<Changed, CommandFault>
     requires name { length name.now ≤ 16 }
     ensures ok { IfOk result (IsTitled image.now name.now id) }
     ensures err { IfErr result (IsUnsoundOrShort image.now) }

@@ -23,10 +23,10 @@ use Rattle.file_changes.proofs.UnlistedWhole.{exact-after, first-without, withou
 use Rattle.file_changes.specs.Deletes.{Deletes, FindsDeletable, HasLost, IsDeletable, IsLocked, IsWithout}
 use Rattle.file_changes.specs.Entries.{IsFirstNamed, IsFreeName, entries_of, without_file}
 use Rattle.file_changes.specs.Patches.{PatchesSector, patched}
-use Rattle.file_changes.specs.declared.faults.ChangeFault.{ChangeFault}
-use Rattle.file_changes.specs.declared.faults.ChangeFault.TheVariants.{Device, Locked, NotFound}
+use Rattle.command_faults.specs.declared.faults.CommandFault.{CommandFault}
+use Rattle.command_faults.specs.declared.faults.CommandFault.TheVariants.{Device, Locked, NoFile}
 
-device-not-found : Device ≡ NotFound → ⊥
+device-not-found : Device ≡ NoFile → ⊥
 device-not-found e = cc
 
 device-not-locked : Device ≡ Locked → ⊥
@@ -39,14 +39,14 @@ module _ {D : Type 0} (S : History D) (a b : D) (name : List ℕ) (slots : List 
       → P (entries_of l) (slot_name name)
   there P h l is = subst (P (entries_of l)) old (subst (λ es. P es padded) (listed l is) h)
 
-  pub found-deletable : (r : Result Slot ChangeFault)
+  pub found-deletable : (r : Result Slot CommandFault)
       → IfOk r (λ s. (n : ℕ) × IsFirstNamed slots padded n s × ¬ (IsLocked s))
-      → IfErr r (λ e. e ≡ NotFound → IsFreeName slots padded)
+      → IfErr r (λ e. e ≡ NoFile → IsFreeName slots padded)
       → IfErr r (λ e. e ≡ Locked → (n : ℕ) × (s : Slot) × IsFirstNamed slots padded n s × IsLocked s)
-      → IfErr r (λ e. (e ≡ NotFound) ⊎ (e ≡ Locked)) → FindsDeletable S a b name r
+      → IfErr r (λ e. (e ≡ NoFile) ⊎ (e ≡ Locked)) → FindsDeletable S a b name r
   found-deletable r first missing locked told = record {
     ok = there (λ es f. IfOk r (λ s. (n : ℕ) × IsFirstNamed es f n s × ¬ (IsLocked s))) first;
-    not_found = there (λ es f. IfErr r (λ e. e ≡ NotFound → IsFreeName es f)) missing;
+    not_found = there (λ es f. IfErr r (λ e. e ≡ NoFile → IsFreeName es f)) missing;
     locked = there (λ es f. IfErr r (λ e. e ≡ Locked → (n : ℕ) × (s : Slot) × IsFirstNamed es f n s × IsLocked s)) locked;
     told = told-more r Locked told;
     reads = reads;

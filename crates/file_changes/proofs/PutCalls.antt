@@ -11,10 +11,11 @@ use Rattle.disk_layout.specs.Layout.{IsLayout, Layout}
 use Rattle.disk_layout.specs.Rest.{slot_name}
 use Rattle.file_changes.specs.Entries.{entries_of}
 use Rattle.file_changes.specs.Faults.{TellsChange}
-use Rattle.file_changes.specs.PutWrites.{PutsFile, change_of}
+use Rattle.command_faults.specs.Faults.{record_fault}
+use Rattle.file_changes.specs.PutWrites.{PutsFile}
 use Rattle.file_changes.specs.Puts.{HasPut, IsNewName, IsPutting, Puts, RefusesPut, sectors_for, stored}
-use Rattle.file_changes.specs.declared.faults.ChangeFault.{ChangeFault}
-use Rattle.file_changes.specs.declared.faults.ChangeFault.TheVariants.{Device, Exists, Full}
+use Rattle.command_faults.specs.declared.faults.CommandFault.{CommandFault}
+use Rattle.command_faults.specs.declared.faults.CommandFault.TheVariants.{Device, DiskFull, FileExists}
 use Rattle.file_changes.specs.declared.file_type.FileType.{FileType}
 use Rattle.rel_records.proofs.lemmas.creation.Creating.{creating-before}
 use Rattle.rel_records.proofs.lemmas.creation.TakenNames.{slot-taken, taken-slot}
@@ -52,9 +53,9 @@ module _ {D : Type 0} (S : History D) (a b : D) (name : List ℕ) (kind : FileTy
       (λ c e. subst (λ i. IsPutting (S.image a) l name kind (stored bytes) i) (sym e)
       (inl (creating-before (S.image a) (S.image a) l h (λ q own. refl) refl), λ w. w)) quiet.held
 
-  refused : (f : ChangeFault) → ((l : Layout) → IsLayout (S.image a) l
+  refused : (f : CommandFault) → ((l : Layout) → IsLayout (S.image a) l
       → RefusesPut {T = Unit {0}} (S.image a) l name (sectors_for (length (stored bytes))) (Err f))
-      → (f ≡ Exists) ⊎ ((f ≡ Full) ⊎ (f ≡ Device)) → (f ≢ Device → OnlyReads S a b 55)
+      → (f ≡ FileExists) ⊎ ((f ≡ DiskFull) ⊎ (f ≡ Device)) → (f ≢ Device → OnlyReads S a b 55)
       → TellsChange {T = Unit {0}} S a b (Err f) → Puts S a b name kind bytes (Err f)
   refused f refuses told reads failures = record {
     layout = λ l h. record {
@@ -69,28 +70,28 @@ module _ {D : Type 0} (S : History D) (a b : D) (name : List ℕ) (kind : FileTy
   }
 
   refused-for : (e : RelFault) → (e ≡ rel.Exists) ⊎ ((e ≡ rel.Full) ⊎ (e ≡ rel.Device))
-      → Chooses S a b name (sectors_for (length (stored bytes))) (Err e) → Puts S a b name kind bytes (Err (change_of e))
+      → Chooses S a b name (sectors_for (length (stored bytes))) (Err e) → Puts S a b name kind bytes (Err (record_fault e))
   refused-for e (inl is) chooses =
       let c = subst (λ x. Chooses S a b name n (Err x)) is chooses in
-      subst (λ x. Puts S a b name kind bytes (Err (change_of x))) (sym is) (refused Exists (λ l h. record {
+      subst (λ x. Puts S a b name kind bytes (Err (record_fault x))) (sym is) (refused FileExists (λ l h. record {
         exists = λ x. old-name l name ((c.refuses.layout l h).exists refl);
         full = λ x. cc;
         fits = tt;
       }) (inl refl) (λ ne. c.refuses.refused (λ x. cc)) c.refuses.failures)
   refused-for e (inr (inl is)) chooses =
       let c = subst (λ x. Chooses S a b name n (Err x)) is chooses in
-      subst (λ x. Puts S a b name kind bytes (Err (change_of x))) (sym is) (refused Full (λ l h.
+      subst (λ x. Puts S a b name kind bytes (Err (record_fault x))) (sym is) (refused DiskFull (λ l h.
       let full = (c.refuses.layout l h).full refl in
       record { exists = λ x. cc; full = λ x. (full.0, new-name l name full.1); fits = tt })
       (inr (inl refl)) (λ ne. c.refuses.refused (λ x. cc)) c.refuses.failures)
   refused-for e (inr (inr is)) chooses =
       let c = subst (λ x. Chooses S a b name n (Err x)) is chooses in
-      subst (λ x. Puts S a b name kind bytes (Err (change_of x))) (sym is) (refused Device
+      subst (λ x. Puts S a b name kind bytes (Err (record_fault x))) (sym is) (refused Device
       (λ l h. record { exists = λ x. cc; full = λ x. cc; fits = tt })
       (inr (inr refl)) (λ ne. absurd (ne refl)) c.refuses.failures)
 
   pub put-refused : (e : RelFault) → Chooses S a b name (sectors_for (length (stored bytes))) (Err e)
-      → Puts S a b name kind bytes (Err (change_of e))
+      → Puts S a b name kind bytes (Err (record_fault e))
   put-refused e chooses = refused-for e chooses.refuses.told chooses
 
   module _ (site : Site) (c : D) (chooses : Chooses S a b name (sectors_for (length (stored bytes))) (Ok site))

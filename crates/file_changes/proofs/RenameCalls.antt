@@ -16,8 +16,8 @@ use Rattle.file_changes.proofs.Refused.{not-device, told-more}
 use Rattle.file_changes.specs.Entries.{IsFirstNamed, IsFreeName, entries_of}
 use Rattle.file_changes.specs.Patches.{PatchesSector, patched}
 use Rattle.file_changes.specs.Renames.{FindsRenamable, HasNewName, IsRenamable, IsRenamed, Renames}
-use Rattle.file_changes.specs.declared.faults.ChangeFault.{ChangeFault}
-use Rattle.file_changes.specs.declared.faults.ChangeFault.TheVariants.{Device, Exists, NotFound}
+use Rattle.command_faults.specs.declared.faults.CommandFault.{CommandFault}
+use Rattle.command_faults.specs.declared.faults.CommandFault.TheVariants.{Device, FileExists, NoFile}
 
 module _ {D : Type 0} (S : History D) (a b : D) (from to : List ℕ) (slots : List Slot) (padded other : List ℕ)
     (old : padded ≡ slot_name from) (new : other ≡ slot_name to)
@@ -28,18 +28,18 @@ module _ {D : Type 0} (S : History D) (a b : D) (from to : List ℕ) (slots : Li
   there P h l is = subst (P (entries_of l) (slot_name from)) new (subst (λ xs. P (entries_of l) xs other) old
       (subst (λ es. P es padded other) (listed l is) h))
 
-  pub found : (r : Result Slot ChangeFault)
+  pub found : (r : Result Slot CommandFault)
       → IfOk r (λ s. (n : ℕ) × IsFirstNamed slots padded n s × IsFreeName slots other)
-      → IfErr r (λ e. e ≡ NotFound → IsFreeName slots padded)
-      → IfErr r (λ e. e ≡ Exists → ¬ (IsFreeName slots padded) × ¬ (IsFreeName slots other))
-      → IfErr r (λ e. (e ≡ NotFound) ⊎ (e ≡ Exists)) → FindsRenamable S a b from to r
+      → IfErr r (λ e. e ≡ NoFile → IsFreeName slots padded)
+      → IfErr r (λ e. e ≡ FileExists → ¬ (IsFreeName slots padded) × ¬ (IsFreeName slots other))
+      → IfErr r (λ e. (e ≡ NoFile) ⊎ (e ≡ FileExists)) → FindsRenamable S a b from to r
   found r first missing exists told = record {
     ok = there (λ es f t. IfOk r (λ s. (n : ℕ) × IsFirstNamed es f n s × IsFreeName es t)) first;
-    not_found = there (λ es f t. IfErr r (λ e. e ≡ NotFound → IsFreeName es f)) missing;
-    exists = there (λ es f t. IfErr r (λ e. e ≡ Exists → ¬ (IsFreeName es f) × ¬ (IsFreeName es t))) exists;
-    told = told-more r Exists told;
+    not_found = there (λ es f t. IfErr r (λ e. e ≡ NoFile → IsFreeName es f)) missing;
+    exists = there (λ es f t. IfErr r (λ e. e ≡ FileExists → ¬ (IsFreeName es f) × ¬ (IsFreeName es t))) exists;
+    told = told-more r FileExists told;
     reads = reads;
-    failures = not-device S a b r Exists refl fine told;
+    failures = not-device S a b r FileExists refl fine told;
   }
 
 -- the file of the entry
@@ -112,8 +112,8 @@ module _ {D : Type 0} (S : History D) (a b c : D) (from to : List ℕ) (few : le
     failures = failed_later S a b c finds.failures patch.failures;
   }
     where
-      device-not-found : Device ≡ NotFound → ⊥
+      device-not-found : Device ≡ NoFile → ⊥
       device-not-found e = cc
 
-      device-not-exists : Device ≡ Exists → ⊥
+      device-not-exists : Device ≡ FileExists → ⊥
       device-not-exists e = cc

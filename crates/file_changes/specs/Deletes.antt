@@ -12,8 +12,8 @@ use Rattle.disk_layout.specs.Whole.{IsWhole}
 use Rattle.disk_layout.specs.declared.slot.Slot.{Slot}
 use Rattle.file_changes.specs.Entries.{IsFirstNamed, IsFreeName, entries_of, without_file}
 use Rattle.file_changes.specs.Faults.{TellsChange}
-use Rattle.file_changes.specs.declared.faults.ChangeFault.{ChangeFault}
-use Rattle.file_changes.specs.declared.faults.ChangeFault.TheVariants.{Device, Locked, NotFound}
+use Rattle.command_faults.specs.declared.faults.CommandFault.{CommandFault}
+use Rattle.command_faults.specs.declared.faults.CommandFault.TheVariants.{Device, Locked, NoFile}
 
 -- bit 6 of the entry's type is set, as in a closed entry of one of the types C0 to C4
 abbrev pub IsLocked : Slot → Type 0
@@ -48,9 +48,9 @@ pub record HasFreed (a : Image) (l : Layout) (name : List ℕ) (c : Image) : Typ
 
 -- A file was deleted, or not, on a disk with the layout l.
 pub record DeletesIn {D : Type 0} (S : History D) (old new : D) (l : Layout) (name : List ℕ)
-    (result : Result (Unit {0}) ChangeFault) : Type 0 where
+    (result : Result (Unit {0}) CommandFault) : Type 0 where
   pub ok : OnOk result (HasFreed (S.image old) l name (S.image new))
-  pub not_found : IfErr result (λ e. e ≡ NotFound → IsFreeName (entries_of l) (slot_name name))
+  pub not_found : IfErr result (λ e. e ≡ NoFile → IsFreeName (entries_of l) (slot_name name))
   pub locked : IfErr result (λ e. e ≡ Locked
       → (n : ℕ) × (s : Slot) × IsFirstNamed (entries_of l) (slot_name name) n s × IsLocked s)
   -- every image held, and the two writes
@@ -58,22 +58,22 @@ pub record DeletesIn {D : Type 0} (S : History D) (old new : D) (l : Layout) (na
 
 -- The file to be deleted was found, or the deletion is refused; nothing was written.
 pub record FindsDeletable {D : Type 0} (S : History D) (old new : D) (name : List ℕ)
-    (result : Result Slot ChangeFault) : Type 0 where
+    (result : Result Slot CommandFault) : Type 0 where
   pub ok : (l : Layout) → IsLayout (S.image old) l → IfOk result (λ s.
       (n : ℕ) × IsFirstNamed (entries_of l) (slot_name name) n s × ¬ (IsLocked s))
   pub not_found : (l : Layout) → IsLayout (S.image old) l
-      → IfErr result (λ e. e ≡ NotFound → IsFreeName (entries_of l) (slot_name name))
+      → IfErr result (λ e. e ≡ NoFile → IsFreeName (entries_of l) (slot_name name))
   pub locked : (l : Layout) → IsLayout (S.image old) l → IfErr result (λ e. e ≡ Locked
       → (n : ℕ) × (s : Slot) × IsFirstNamed (entries_of l) (slot_name name) n s × IsLocked s)
-  pub told : IfErr result (λ e. (e ≡ NotFound) ⊎ ((e ≡ Locked) ⊎ (e ≡ Device)))
+  pub told : IfErr result (λ e. (e ≡ NoFile) ⊎ ((e ≡ Locked) ⊎ (e ≡ Device)))
   pub reads : OnlyReads S old new 18
   pub failures : TellsChange S old new result
 
 -- The first file of a name was deleted, or that was refused.
 pub record Deletes {D : Type 0} (S : History D) (old new : D) (name : List ℕ)
-    (result : Result (Unit {0}) ChangeFault) : Type 0 where
+    (result : Result (Unit {0}) CommandFault) : Type 0 where
   pub layout : (l : Layout) → IsLayout (S.image old) l → DeletesIn S old new l name result
-  pub told : IfErr result (λ e. (e ≡ NotFound) ⊎ ((e ≡ Locked) ⊎ (e ≡ Device)))
+  pub told : IfErr result (λ e. (e ≡ NoFile) ⊎ ((e ≡ Locked) ⊎ (e ≡ Device)))
   pub refused : IfErr result (λ e. e ≢ Device → OnlyReads S old new 18)
   -- those of a repair, and the directory's
   pub reads : S.reads new ≤ S.reads old + 5562

@@ -7,11 +7,7 @@ use Rattle.d64_image.specs.declared.place.Place.{Place}
 use Rattle.disk_layout.specs.Directory.{map_place}
 use Rattle.disk_layout.specs.Layout.{Layout}
 use Rattle.file_changes.specs.Puts.{HasPut, HoldsChain, IsPutting, chain_sector, sectors_for}
-use Rattle.file_changes.specs.declared.faults.ChangeFault.{ChangeFault}
-use Rattle.file_changes.specs.declared.faults.ChangeFault.TheVariants.{Device, Exists, Full}
 use Rattle.file_changes.specs.declared.file_type.FileType.{FileType}
-use Rattle.rel_records.specs.declared.faults.RelFault.{RelFault}
-use Rattle.rel_records.specs.declared.faults.RelFault.TheVariants as rel
 
 -- n bytes need exactly so many sectors
 pub record Fills (n count : ℕ) : Type 0 where
@@ -42,9 +38,3 @@ pub record PutsFile {D : Type 0} (S : History D) (old new : D) (l : Layout) (nam
     (bytes : List ℕ) (result : Result (Unit {0}) DeviceFault) : Type 0 where
   pub ok : OnOk result (HasPut (S.image old) l name kind bytes (S.image new))
   pub moments : Changes S old new (sectors_for (length bytes) + 3) (IsPutting (S.image old) l name kind bytes)
-
--- the fault of a change for one of a choice
-abbrev pub change_of : RelFault → ChangeFault
-change_of rel.Exists = Exists
-change_of rel.Full = Full
-change_of _ = Device

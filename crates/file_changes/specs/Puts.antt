@@ -16,8 +16,8 @@ use Rattle.disk_layout.specs.Side.{link_bytes, padded, place_bytes}
 use Rattle.disk_layout.specs.Whole.{IsWhole}
 use Rattle.file_changes.specs.Entries.{IsFreeName, entries_of}
 use Rattle.file_changes.specs.Faults.{TellsChange}
-use Rattle.file_changes.specs.declared.faults.ChangeFault.{ChangeFault}
-use Rattle.file_changes.specs.declared.faults.ChangeFault.TheVariants.{Device, Exists, Full}
+use Rattle.command_faults.specs.declared.faults.CommandFault.{CommandFault}
+use Rattle.command_faults.specs.declared.faults.CommandFault.TheVariants.{Device, DiskFull, FileExists}
 use Rattle.file_changes.specs.declared.file_type.FileType.{FileType}
 use Rattle.file_changes.specs.declared.file_type.FileType.TheVariants.{Prg, Seq, Usr}
 use Rattle.rel_records.specs.creation.Made.{HasFilesOf, HasNoRoomFor, IsNewSlot}
@@ -83,15 +83,15 @@ abbrev pub IsNewName : Layout → List ℕ → Type 0
 IsNewName l name = IsFreeName (entries_of l) (slot_name name)
 
 -- A new file is refused for a cause, or isn't.
-pub record RefusesPut {T : Type 0} (img : Image) (l : Layout) (name : List ℕ) (n : ℕ) (result : Result T ChangeFault)
+pub record RefusesPut {T : Type 0} (img : Image) (l : Layout) (name : List ℕ) (n : ℕ) (result : Result T CommandFault)
     : Type 0 where
-  pub exists : IfErr result (λ e. e ≡ Exists → ¬ (IsNewName l name))
-  pub full : IfErr result (λ e. e ≡ Full → HasNoRoomFor img l n × IsNewName l name)
+  pub exists : IfErr result (λ e. e ≡ FileExists → ¬ (IsNewName l name))
+  pub full : IfErr result (λ e. e ≡ DiskFull → HasNoRoomFor img l n × IsNewName l name)
   pub fits : OnOk result (¬ (HasNoRoomFor img l n) × IsNewName l name)
 
 -- A file was put on the disk, or not; the disk has the layout l.
 pub record PutsIn {D : Type 0} (S : History D) (old new : D) (l : Layout) (name : List ℕ) (kind : FileType)
-    (bytes : List ℕ) (result : Result (Unit {0}) ChangeFault) : Type 0 where
+    (bytes : List ℕ) (result : Result (Unit {0}) CommandFault) : Type 0 where
   pub ok : OnOk result (HasPut (S.image old) l name kind (stored bytes) (S.image new))
   pub refuses : RefusesPut (S.image old) l name (sectors_for (length (stored bytes))) result
   -- every image held, and the writes: the map, the file's sectors, and one or two of the directory
@@ -100,9 +100,9 @@ pub record PutsIn {D : Type 0} (S : History D) (old new : D) (l : Layout) (name 
 
 -- A file was put on a disk, or that was refused.
 pub record Puts {D : Type 0} (S : History D) (old new : D) (name : List ℕ) (kind : FileType) (bytes : List ℕ)
-    (result : Result (Unit {0}) ChangeFault) : Type 0 where
+    (result : Result (Unit {0}) CommandFault) : Type 0 where
   pub layout : (l : Layout) → IsLayout (S.image old) l → PutsIn S old new l name kind bytes result
-  pub told : IfErr result (λ e. (e ≡ Exists) ⊎ ((e ≡ Full) ⊎ (e ≡ Device)))
+  pub told : IfErr result (λ e. (e ≡ FileExists) ⊎ ((e ≡ DiskFull) ⊎ (e ≡ Device)))
   -- three times the eighteen sectors of the directory, and the map
   pub refused : IfErr result (λ e. e ≢ Device → OnlyReads S old new 55)
   pub reads : OnOk result (S.reads new ≤ S.reads old + 55)

@@ -11,8 +11,8 @@ use Rattle.disk_layout.specs.declared.slot.Slot.{Slot}
 use Rattle.file_changes.specs.Entries.{IsFirstNamed, IsFreeName, entries_of, renamed, with_file}
 use Rattle.file_changes.specs.Faults.{TellsChange}
 use Rattle.file_changes.specs.Patches.{patched}
-use Rattle.file_changes.specs.declared.faults.ChangeFault.{ChangeFault}
-use Rattle.file_changes.specs.declared.faults.ChangeFault.TheVariants.{Device, Exists, NotFound}
+use Rattle.command_faults.specs.declared.faults.CommandFault.{CommandFault}
+use Rattle.command_faults.specs.declared.faults.CommandFault.TheVariants.{Device, FileExists, NoFile}
 
 -- f, file n of the layout, is the one that a change of the name `from` to the name `to` is about
 pub record IsRenamable (l : Layout) (from to : List ℕ) (n : ℕ) (f : File) : Type 0 where
@@ -38,31 +38,31 @@ pub record HasNewName (a : Image) (l : Layout) (from to : List ℕ) (c : Image) 
 
 -- An entry got another name, or not, on a disk with the layout l.
 pub record RenamesIn {D : Type 0} (S : History D) (old new : D) (l : Layout) (from to : List ℕ)
-    (result : Result (Unit {0}) ChangeFault) : Type 0 where
+    (result : Result (Unit {0}) CommandFault) : Type 0 where
   pub ok : OnOk result (HasNewName (S.image old) l from to (S.image new))
-  pub not_found : IfErr result (λ e. e ≡ NotFound → IsFreeName (entries_of l) (slot_name from))
-  pub exists : IfErr result (λ e. e ≡ Exists → ¬ (IsFreeName (entries_of l) (slot_name from)) × ¬ (IsFreeName (entries_of l) (slot_name to)))
+  pub not_found : IfErr result (λ e. e ≡ NoFile → IsFreeName (entries_of l) (slot_name from))
+  pub exists : IfErr result (λ e. e ≡ FileExists → ¬ (IsFreeName (entries_of l) (slot_name from)) × ¬ (IsFreeName (entries_of l) (slot_name to)))
   -- every image held, and the one write
   pub moments : Changes S old new 1 (λ c. (c ≡ S.image old) ⊎ HasNewName (S.image old) l from to c)
 
 -- The entry to be renamed was found, or the change is refused; nothing was written.
 pub record FindsRenamable {D : Type 0} (S : History D) (old new : D) (from to : List ℕ)
-    (result : Result Slot ChangeFault) : Type 0 where
+    (result : Result Slot CommandFault) : Type 0 where
   pub ok : (l : Layout) → IsLayout (S.image old) l → IfOk result (λ s.
       (n : ℕ) × IsFirstNamed (entries_of l) (slot_name from) n s × IsFreeName (entries_of l) (slot_name to))
   pub not_found : (l : Layout) → IsLayout (S.image old) l
-      → IfErr result (λ e. e ≡ NotFound → IsFreeName (entries_of l) (slot_name from))
-  pub exists : (l : Layout) → IsLayout (S.image old) l → IfErr result (λ e. e ≡ Exists
+      → IfErr result (λ e. e ≡ NoFile → IsFreeName (entries_of l) (slot_name from))
+  pub exists : (l : Layout) → IsLayout (S.image old) l → IfErr result (λ e. e ≡ FileExists
       → ¬ (IsFreeName (entries_of l) (slot_name from)) × ¬ (IsFreeName (entries_of l) (slot_name to)))
-  pub told : IfErr result (λ e. (e ≡ NotFound) ⊎ ((e ≡ Exists) ⊎ (e ≡ Device)))
+  pub told : IfErr result (λ e. (e ≡ NoFile) ⊎ ((e ≡ FileExists) ⊎ (e ≡ Device)))
   pub reads : OnlyReads S old new 18
   pub failures : TellsChange S old new result
 
 -- The first entry of a name got another name, or was refused.
 pub record Renames {D : Type 0} (S : History D) (old new : D) (from to : List ℕ)
-    (result : Result (Unit {0}) ChangeFault) : Type 0 where
+    (result : Result (Unit {0}) CommandFault) : Type 0 where
   pub layout : (l : Layout) → IsLayout (S.image old) l → RenamesIn S old new l from to result
-  pub told : IfErr result (λ e. (e ≡ NotFound) ⊎ ((e ≡ Exists) ⊎ (e ≡ Device)))
+  pub told : IfErr result (λ e. (e ≡ NoFile) ⊎ ((e ≡ FileExists) ⊎ (e ≡ Device)))
   pub refused : IfErr result (λ e. e ≢ Device → OnlyReads S old new 18)
   pub reads : S.reads new ≤ S.reads old + 19
   pub failures : TellsChange S old new result

@@ -4,11 +4,11 @@ ghost use Rattle.d64_image.specs.History.{OnlyReads};
 ghost use Rattle.disk_layout.specs.Layout.{IsLayout, IsSound, Layout};
 ghost use Rattle.file_changes.specs.Entries.{IsFirstNamed, IsFreeName, entries_of};
 ghost use Rattle.file_changes.specs.Faults.{TellsChange};
-ghost use Rattle.file_changes.specs.declared.faults.ChangeFault.TheVariants.{Device};
+ghost use Rattle.command_faults.specs.declared.faults.CommandFault.TheVariants.{Device};
 ghost use Rattle.disk_layout.specs.declared.slot.Slot.{Slot};
 
-use crate::faults::ChangeFault;
 use arrayvec::ArrayVec;
+use command_faults::CommandFault;
 use d64_image::Sectors;
 use disk_layout::{Slot, read_directory};
 use rel_records::has_padded_name;
@@ -30,7 +30,7 @@ pub(crate) fn first_named(entries: &[Slot], padded: &[u8; 16]) -> Option<usize>
 pub(crate) fn list_entries<D: Sectors>(
     disk: &mut D,
     entries: &mut ArrayVec<Slot, 144>,
-) -> Result<(), ChangeFault>
+) -> Result<(), CommandFault>
     requires sound { IsSound (D.history.image disk.old) }
     ensures ok { OnOk result ((l : Layout) → IsLayout (D.history.image disk.old) l
         → entries.new.items ≡ entries_of l) }
@@ -41,6 +41,6 @@ pub(crate) fn list_entries<D: Sectors>(
     match read_directory(disk, entries) {
         Ok(()) => Ok(()),
         // a sound disk has a directory
-        Err(_) => Err(ChangeFault::Device),
+        Err(_) => Err(CommandFault::Device),
     }
 }

@@ -4,7 +4,6 @@
 
 mod deleting;
 mod entries;
-mod faults;
 mod file_type;
 mod formatting;
 mod patching;
@@ -14,7 +13,6 @@ mod putting;
 mod renaming;
 
 pub use deleting::delete;
-pub use faults::ChangeFault;
 pub use file_type::FileType;
 pub use formatting::{format_disk, new_disk};
 pub use patching::overwrite;

@@ -1,29 +1,17 @@
 //! A file put on a disk.
 ghost use Rattle.std.specs.Prelude.{◌≡◌, ◌≤◌, length};
 ghost use Rattle.disk_layout.specs.Clean.{IsClean};
-ghost use Rattle.file_changes.specs.PutWrites.{change_of};
 ghost use Rattle.file_changes.specs.Puts as specs;
 ghost use Rattle.file_changes.specs.Puts.{Puts};
 
-use crate::faults::ChangeFault;
 use crate::file_type::FileType;
 use crate::put_writes::write_file;
+use command_faults::CommandFault;
 use d64_image::Sectors;
-use rel_records::{RelFault, choose_site};
+use rel_records::choose_site;
 
 /// What an empty file gets: a carriage return.
 const EMPTY: [u8; 1] = [0x0D];
-
-/// The fault of a file that isn't put, for the one by which no site was chosen.
-fn fault_of(fault: RelFault) -> ChangeFault
-    ensures { result ≡ change_of fault }
-{
-    match fault {
-        RelFault::Exists => ChangeFault::Exists,
-        RelFault::Full => ChangeFault::Full,
-        _ => ChangeFault::Device,
-    }
-}
 
 /// The data that a new file gets.
 fn stored(content: &[u8]) -> &[u8]
@@ -37,7 +25,7 @@ fn stored(content: &[u8]) -> &[u8]
 /// first free slot of the directory or, if all are used, into a new directory sector, the lowest free one of track 18.
 /// If there are no data, the file gets a carriage return, as the drive gives one to an empty file when it closes it.
 ///
-/// `Exists` if an entry has the name, of whatever type; otherwise `Full` if the disk has fewer free blocks than the file
+/// `FileExists` if an entry has the name, of whatever type; otherwise `DiskFull` if the disk has fewer free blocks than the file
 /// takes, or the directory neither a free slot nor a free sector. Both write nothing. The name isn't judged: whoever
 /// asks sees to it that it doesn't end in a shifted space. `Device` if the device failed: the file is there, whole, or
 /// it isn't. If not, the map perhaps calls sectors taken that nobody owns, which `layout_check::repair` mends.
@@ -50,18 +38,15 @@ pub fn put_file<D: Sectors>(
     name: &[u8],
     kind: FileType,
     content: &[u8],
-) -> Result<(), ChangeFault>
+) -> Result<(), CommandFault>
     requires clean { IsClean (D.history.image disk.old) }
     requires name { length name.now ≤ 16 }
     ensures { Puts D.history disk.old disk.new name.now kind content.now result }
 {
     let content = stored(content);
-    let site = match choose_site(disk, name, (content.len() + 253) / 254) {
-        Ok(site) => site,
-        Err(fault) => return Err(fault_of(fault)),
-    };
+    let site = choose_site(disk, name, (content.len() + 253) / 254)?;
     match write_file(disk, &site, name, kind, content) {
         Ok(()) => Ok(()),
-        Err(_) => Err(ChangeFault::Device),
+        Err(_) => Err(CommandFault::Device),
     }
 }

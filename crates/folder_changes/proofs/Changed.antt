@@ -1,17 +1,17 @@
 -- A folder whose image is changed.
-use Rattle.std.proofs.Common.{◌≡◌, ℕ, List, inl, inr, subst, sym, ⊎_elim}
+use Rattle.std.proofs.Common.{◌≡◌, ℕ, List, inl, inr, refl, subst, sym, ⊎_elim}
 use Rattle.std.specs.Prelude.{◌≢◌, Err, IfErr, IfOk, None, Ok, OnErr, Option, Result}
 use Rattle.std.specs.Io.KnownBytes.{Appends}
 use Rattle.command_faults.specs.Outputs.{HandsPart}
 use Rattle.d64_image.specs.Images.{Image}
 use Rattle.d64_image.specs.Memory.{disk_image, sectors_in}
-use Rattle.disk_changes.specs.Changes.{IsChanged}
+use Rattle.disk_changes.specs.Changes.{IsChanged, IsRefused}
 use Rattle.disk_changes.specs.declared.changes.Change.{Change}
+use Rattle.disk_changes.specs.declared.changes.Change.TheVariants as changes
 use Rattle.disk_changes.specs.declared.changes.Changed.{Changed}
-use Rattle.disk_changes.specs.declared.changes.Why.{Why}
+use Rattle.command_faults.specs.declared.faults.CommandFault.{CommandFault}
 use Rattle.folder_changes.specs.FolderChanges.{GivesChanged, IsToldAs}
-use Rattle.folder_changes.specs.declared.stops.Stop.{Stop}
-use Rattle.folder_changes.specs.declared.stops.Stop.TheVariants as stops
+use Rattle.command_faults.specs.declared.faults.CommandFault.TheVariants as faults
 use Rattle.shop_log.specs.life.Bringing.{RestsAlone, RestsWith}
 use Rattle.shop_log.specs.life.Folders.{FolderHistory, LeavesFolders}
 use Rattle.shop_log.specs.life.Replacing.{KeepsOrGives}
@@ -44,25 +44,38 @@ module _ {D : Type 0} (h : FolderHistory D) (what : Change) (image : List ℕ) w
       (λ after. inr (made, is, after)) gives) moments
 
 -- a change that is made was printed, or not
-pub printed : {W : Type 0} (contents : W → Option (List ℕ)) (Is : Changed → Type 0) (Refuses : Why → Type 0)
-    (before after : W) (made : Changed) → Is made → (r : Result ℕ Stop)
+pub printed : {W : Type 0} (contents : W → Option (List ℕ)) (Is : Changed → Type 0) (Refuses : CommandFault → Type 0)
+    (before after : W) (made : Changed) → Is made → (r : Result ℕ CommandFault)
     → IfOk r (λ left. (left ≡ made.left) × Appends (contents before) (contents after) made.text.items)
-    → OnErr r (HandsPart (contents before) (contents after) made.text.items) → IfErr r (λ stop. stop ≡ stops.Output)
+    → OnErr r (HandsPart (contents before) (contents after) made.text.items) → IfErr r (λ fault. fault ≡ faults.File)
     → IsToldAs contents Is Refuses before after r
 printed contents Is Refuses before after made is (Ok left) all part output = (made, is, all.0, all.1)
-printed contents Is Refuses before after made is (Err stop) all part output =
-    subst (λ (s : Stop). IsToldAs contents Is Refuses before after (Err s)) (sym output) (made, is, part)
+printed contents Is Refuses before after made is (Err fault) all part output =
+    subst (λ (s : CommandFault). IsToldAs contents Is Refuses before after (Err s)) (sym output) (made, is, part)
+
+-- what refuses a change in memory is neither the output nor the device
+pub in-memory : (what : Change) (image : List ℕ) → (IsRefused what image faults.File → ⊥) × (IsRefused what image faults.Device → ⊥)
+in-memory (changes.Rebuild free cut) image =
+    (λ why. ⊎_elim (λ w. w) (λ w. w.2) why, λ why. ⊎_elim (λ w. w) (λ w. w.2) why)
+in-memory _ image = (λ why. why, λ why. why)
+
+-- nothing is printed of a change that is refused
+pub refused : {W : Type 0} (contents : W → Option (List ℕ)) (Is : Changed → Type 0) (Refuses : CommandFault → Type 0) (w : W)
+    (fault : CommandFault) → (Refuses faults.File → ⊥) → Refuses fault → IsToldAs contents Is Refuses w w (Err fault)
+refused contents Is Refuses w faults.Device no-output why = refl
+refused contents Is Refuses w faults.File no-output why = absurd (no-output why)
+refused contents Is Refuses w _ no-output why = (why, refl)
 
 -- only an output fails while a text is printed
-pub no-device : (r : Result ℕ Stop) → IfErr r (λ stop. stop ≡ stops.Output) → r ≢ Err stops.Device
+pub no-device : (r : Result ℕ CommandFault) → IfErr r (λ fault. fault ≡ faults.File) → r ≢ Err faults.Device
 no-device (Ok left) output device = cc
-no-device (Err stop) output device = cc
+no-device (Err fault) output device = cc
 
 -- what is known of a change and of its refusal may be weakened
-pub told-weaker : {W : Type 0} (contents : W → Option (List ℕ)) (Is Then : Changed → Type 0) (Refuses Why' : Why → Type 0)
-    (old new : W) → ((made : Changed) → Is made → Then made) → ((why : Why) → Refuses why → Why' why)
-    → (r : Result ℕ Stop) → IsToldAs contents Is Refuses old new r → IsToldAs contents Then Why' old new r
+pub told-weaker : {W : Type 0} (contents : W → Option (List ℕ)) (Is Then : Changed → Type 0) (Refuses Why' : CommandFault → Type 0)
+    (old new : W) → ((made : Changed) → Is made → Then made) → ((why : CommandFault) → Refuses why → Why' why)
+    → (r : Result ℕ CommandFault) → IsToldAs contents Is Refuses old new r → IsToldAs contents Then Why' old new r
 told-weaker contents Is Then Refuses Why' old new f g (Ok left) told = (told.0, f told.0 told.1, told.2, told.3)
-told-weaker contents Is Then Refuses Why' old new f g (Err (stops.Refused why)) told = (g why told.0, told.1)
-told-weaker contents Is Then Refuses Why' old new f g (Err stops.Device) told = told
-told-weaker contents Is Then Refuses Why' old new f g (Err stops.Output) told = (told.0, f told.0 told.1, told.2)
+told-weaker contents Is Then Refuses Why' old new f g (Err faults.Device) told = told
+told-weaker contents Is Then Refuses Why' old new f g (Err faults.File) told = (told.0, f told.0 told.1, told.2)
+told-weaker contents Is Then Refuses Why' old new f g (Err _) told = (g _ told.0, told.1)

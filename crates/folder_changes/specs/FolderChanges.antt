@@ -6,9 +6,8 @@ use Rattle.d64_image.specs.Memory.{disk_image, sectors_in}
 use Rattle.disk_changes.specs.Changes.{IsChanged, IsRefused}
 use Rattle.disk_changes.specs.declared.changes.Change.{Change}
 use Rattle.disk_changes.specs.declared.changes.Changed.{Changed}
-use Rattle.disk_changes.specs.declared.changes.Why.{Why}
-use Rattle.folder_changes.specs.declared.stops.Stop.{Stop}
-use Rattle.folder_changes.specs.declared.stops.Stop.TheVariants as stops
+use Rattle.command_faults.specs.declared.faults.CommandFault.{CommandFault}
+use Rattle.command_faults.specs.declared.faults.CommandFault.TheVariants as faults
 use Rattle.shop_log.specs.life.Bringing.{RestsAlone}
 use Rattle.shop_log.specs.life.Folders.{Folder, FolderHistory}
 use Rattle.shop_log.specs.life.Shops.{Gives}
@@ -21,23 +20,23 @@ GivesChanged what image s = Gives s (sectors_in image)
 -- What was printed of a change that is made so, or refused so. It is made, so many sectors are left, and its text was
 -- printed; or it is refused, and nothing was; or its image failed to be kept, and nothing was; or it is made, and the
 -- output failed.
-abbrev pub IsToldAs : {W : Type 0} → (W → Option (List ℕ)) → (Is : Changed → Type 0) → (Refuses : Why → Type 0) → W → W
-    → Result ℕ Stop → Type 0
+abbrev pub IsToldAs : {W : Type 0} → (W → Option (List ℕ)) → (Is : Changed → Type 0) → (Refuses : CommandFault → Type 0) → W → W
+    → Result ℕ CommandFault → Type 0
 IsToldAs contents Is Refuses before after (Ok left) =
     (made : Changed) × Is made × (left ≡ made.left) × Appends (contents before) (contents after) made.text.items
-IsToldAs contents Is Refuses before after (Err (stops.Refused why)) = Refuses why × (after ≡ before)
-IsToldAs contents Is Refuses before after (Err stops.Device) = after ≡ before
-IsToldAs contents Is Refuses before after (Err stops.Output) =
+IsToldAs contents Is Refuses before after (Err faults.Device) = after ≡ before
+IsToldAs contents Is Refuses before after (Err faults.File) =
     (made : Changed) × Is made × HandsPart (contents before) (contents after) made.text.items
+IsToldAs contents Is Refuses before after (Err why) = Refuses why × (after ≡ before)
 
 -- the same of a change that is only printed: no folder fails
-abbrev pub IsShownAs : {W : Type 0} → (W → Option (List ℕ)) → (Is : Changed → Type 0) → (Refuses : Why → Type 0) → W → W
-    → Result ℕ Stop → Type 0
+abbrev pub IsShownAs : {W : Type 0} → (W → Option (List ℕ)) → (Is : Changed → Type 0) → (Refuses : CommandFault → Type 0) → W → W
+    → Result ℕ CommandFault → Type 0
 IsShownAs contents Is Refuses before after result =
-    IsToldAs contents Is Refuses before after result × (result ≢ Err stops.Device)
+    IsToldAs contents Is Refuses before after result × (result ≢ Err faults.Device)
 
 -- the same of a change to an image
-abbrev pub IsChangePrinted : {W : Type 0} → Change → (image : List ℕ) → (W → Option (List ℕ)) → W → W → Result ℕ Stop
+abbrev pub IsChangePrinted : {W : Type 0} → Change → (image : List ℕ) → (W → Option (List ℕ)) → W → W → Result ℕ CommandFault
     → Type 0
 IsChangePrinted what image contents before after result =
     IsShownAs contents (IsChanged what image) (IsRefused what image) before after result
@@ -48,9 +47,9 @@ module _ {D : Type 0} (h : FolderHistory D) (what : Change) (image : List ℕ) (
   IsMade made = IsChanged what image made × (RestsAlone h old (sectors_in image) → RestsAlone h new (disk_image made.disk))
 
   -- it was refused, and the folder is as it was
-  abbrev pub IsLeft : Why → Type 0
+  abbrev pub IsLeft : CommandFault → Type 0
   IsLeft why = IsRefused what image why × (new ≡ old)
 
   -- a change to the image in a folder ended so
-  abbrev pub IsChangeOver : {W : Type 0} → (W → Option (List ℕ)) → W → W → Result ℕ Stop → Type 0
+  abbrev pub IsChangeOver : {W : Type 0} → (W → Option (List ℕ)) → W → W → Result ℕ CommandFault → Type 0
   IsChangeOver contents before after result = IsToldAs contents IsMade IsLeft before after result

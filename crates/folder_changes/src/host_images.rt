@@ -6,7 +6,7 @@ ghost use Rattle.folder_changes.specs.FolderChanges.{IsToldAs};
 ghost use Rattle.shop_log.specs.life.LogRights.{MayKeepLogOf};
 
 use crate::image_changing::change_image;
-use crate::stops::Stop;
+use command_faults::CommandFault;
 use disk_changes::Change;
 use image_file::{EndedFile, HostFiles};
 use shop_log::{ImageFolder, LogNames};
@@ -30,7 +30,7 @@ pub trait HostImages: HostFiles {
         image: &[u8],
         what: &Change<'_>,
         out: &mut W,
-    ) -> io::Result<Result<u16, Stop>>
+    ) -> io::Result<Result<u16, CommandFault>>
         requires log { MayKeepLogOf Self.rights self.now (string_bytes names.now.image) }
         requires fit { IsFit what.now }
         ensures run { IfOk result (IsToldAs W.contents
@@ -51,7 +51,7 @@ where
         image: &[u8],
         what: &Change<'_>,
         out: &mut W,
-    ) -> io::Result<Result<u16, Stop>> {
+    ) -> io::Result<Result<u16, CommandFault>> {
         let mut folder = ImageFolder::new(self, names, file)?;
         Ok(change_image(alloc, &mut folder, image, what, out))
     }

@@ -2,19 +2,16 @@
 ghost use Rattle.std.specs.Prelude.{◌≡◌, ◌⊎◌, Err, IfErr, IfOk, None, OnErr, OnOk, length, true};
 ghost use Rattle.std.specs.Io.KnownBytes.{Appends};
 ghost use Rattle.command_faults.specs.Outputs.{HandsPart};
-ghost use Rattle.command_faults.specs.declared.faults.CommandFault.TheVariants.{NoMemory};
+ghost use Rattle.command_faults.specs.declared.faults.CommandFault.TheVariants as faults;
 ghost use Rattle.d64_image.specs.Memory.{disk_image, sectors_in};
 ghost use Rattle.disk_changes.specs.Changes.{IsFit};
-ghost use Rattle.disk_changes.specs.declared.changes.Why.TheVariants.{Fault};
 ghost use Rattle.folder_changes.specs.FolderChanges.{GivesChanged, IsChangeOver, IsChangePrinted};
-ghost use Rattle.folder_changes.specs.declared.stops.Stop.TheVariants as stops;
 ghost use Rattle.shop_log.specs.life.Bringing.{RestsAlone};
 ghost use Rattle.shop_log.specs.life.Folders.{LeavesFolders};
 ghost use Rattle.shop_log.specs.life.Replacing.{KeepsOrGives};
 
-use crate::stops::Stop;
 use command_faults::{CommandFault, flush, put};
-use disk_changes::{Change, Changed, Why, change};
+use disk_changes::{Change, Changed, change};
 use shop_log::{LogFile, LogFolder, LogRoom, replace, sectors_of};
 use std::alloc::Global;
 use std::io::Write;
@@ -26,21 +23,21 @@ fn put_in_place<F: LogFile, D: LogFolder<F>>(
     folder: &mut D,
     image: &[u8],
     made: &Changed,
-) -> Result<(), Stop>
+) -> Result<(), CommandFault>
     requires { length image.now ≡ 174848 }
     ensures any_moment { RestsAlone D.history folder.old (sectors_in image.now)
         → LeavesFolders D.history folder.old folder.new
         (KeepsOrGives None (sectors_in image.now) (disk_image made.now.disk)) }
     ensures ok { OnOk result (RestsAlone D.history folder.old (sectors_in image.now)
         → RestsAlone D.history folder.new (disk_image made.now.disk)) }
-    ensures err { IfErr result (λ stop. ((stop ≡ stops.Refused (Fault NoMemory)) × (folder.new ≡ folder.old))
-        ⊎ ((stop ≡ stops.Device) × (D.history.has_failed folder.new ≡ true))) }
+    ensures err { IfErr result (λ fault. ((fault ≡ faults.NoMemory) × (folder.new ≡ folder.old))
+        ⊎ ((fault ≡ faults.Device) × (D.history.has_failed folder.new ≡ true))) }
 {
     if made.disk.bytes() == image {
         return Ok(());
     }
     let Ok(room) = LogRoom::new(alloc) else {
-        return Err(Stop::Refused(Why::Fault(CommandFault::NoMemory)));
+        return Err(CommandFault::NoMemory);
     };
     match replace(
         folder,
@@ -49,35 +46,32 @@ fn put_in_place<F: LogFile, D: LogFolder<F>>(
         sectors_of(made.disk.bytes()),
     ) {
         Ok(()) => Ok(()),
-        Err(_) => Err(Stop::Device),
+        Err(_) => Err(CommandFault::Device),
     }
 }
 
 /// Prints the text of a change, and flushes the output. Returns how many sectors the change leaves taken though no file owns
 /// them.
-fn print<W: Write>(made: &Changed, out: &mut W) -> Result<u16, Stop>
+fn print<W: Write>(made: &Changed, out: &mut W) -> Result<u16, CommandFault>
     ensures ok { IfOk result (λ left. (left ≡ made.now.left)
         × Appends (W.contents out.old) (W.contents out.new) made.now.text.items) }
     ensures part { OnErr result (HandsPart (W.contents out.old) (W.contents out.new) made.now.text.items) }
-    ensures err { IfErr result (λ stop. stop ≡ stops.Output) }
+    ensures err { IfErr result (λ fault. fault ≡ faults.File) }
 {
-    if put(out, made.text.as_slice()).is_err() {
-        return Err(Stop::Output);
-    }
-    match flush(out) {
-        Ok(()) => Ok(made.left),
-        Err(_) => Err(Stop::Output),
-    }
+    put(out, made.text.as_slice())?;
+    flush(out)?;
+    Ok(made.left)
 }
 
 /// Prints what a change to this image would print, and makes none. Returns how many sectors it would leave taken though no
-/// file owns them.
+/// file owns them. `File` if the output failed, which has a first part of the text. Any other error refuses the change, and
+/// nothing was printed.
 pub fn show_change<W: Write>(
     alloc: Global,
     image: &[u8],
     what: &Change<'_>,
     out: &mut W,
-) -> Result<u16, Stop>
+) -> Result<u16, CommandFault>
     requires fit { IsFit what.now }
     ensures { IsChangePrinted what.now image.now W.contents out.old out.new result }
 {
@@ -87,20 +81,22 @@ pub fn show_change<W: Write>(
 
 /// Changes the image in a folder, all or nothing, and prints the change's text. Returns how many sectors it leaves taken
 /// though no file owns them. `image` has the bytes of IMAGE, which has no log beside it; both are synced, as `land` leaves
-/// them. A power loss at any moment, and an error, leave a folder that gives this image, or the one with the change. `Device`
-/// only if the folder failed.
+/// them. A power loss at any moment, and an error, leave a folder that gives this image, or the one with the change.
+///
+/// `Device` if the folder or its log's file failed: nothing was printed. `File` if the output failed, which has a first part
+/// of the text: the image is changed. Any other error refuses the change: nothing was written or printed.
 pub fn change_image<F: LogFile, D: LogFolder<F>, W: Write>(
     alloc: Global,
     folder: &mut D,
     image: &[u8],
     what: &Change<'_>,
     out: &mut W,
-) -> Result<u16, Stop>
+) -> Result<u16, CommandFault>
     requires fit { IsFit what.now }
     ensures run { IsChangeOver D.history what.now image.now folder.old folder.new W.contents out.old out.new result }
     ensures any_moment { RestsAlone D.history folder.old (sectors_in image.now)
         → LeavesFolders D.history folder.old folder.new (GivesChanged what.now image.now) }
-    ensures cause { result ≡ Err stops.Device → D.history.has_failed folder.new ≡ true }
+    ensures cause { result ≡ Err faults.Device → D.history.has_failed folder.new ≡ true }
 {
     let made = change(alloc, what, image)?;
     put_in_place(alloc, folder, image, &made)?;

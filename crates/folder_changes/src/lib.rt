@@ -4,8 +4,6 @@
 
 mod host_images;
 mod image_changing;
-mod stops;
 
 pub use host_images::HostImages;
 pub use image_changing::{change_image, show_change};
-pub use stops::Stop;

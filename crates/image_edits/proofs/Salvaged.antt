@@ -11,10 +11,10 @@ use Rattle.shop_log.specs.life.Faults.{IsMisfit}
 use Rattle.opened_files.specs.Ends.{JobEnd, log_refusal}
 use Rattle.opened_files.specs.Makings.{IsMadeAt, IsNewEnd}
 use Rattle.image_edits.specs.Salvages.{IsOfLog, IsUnsalvaged, log_bytes, salvage_text}
-use Rattle.opened_files.specs.declared.refusals.Refusal.{Refusal}
+use Rattle.command_faults.specs.declared.faults.CommandFault.{CommandFault}
 
 -- why a log without a base isn't taken
-pub unsalvaged : (all : List ℕ) (fault : LogFault) (refusal : Refusal) → refusal ≡ log_refusal fault → IsMisfit fault
+pub unsalvaged : (all : List ℕ) (fault : LogFault) (refusal : CommandFault) → refusal ≡ log_refusal fault → IsMisfit fault
     → base_end (log_bytes all) ≡ 0 → IsUnsalvaged all refusal
 unsalvaged all (Unfit why) refusal is misfit none = subst (IsUnsalvaged all) (sym is) none
 unsalvaged all (File why) refusal is misfit none = absurd misfit

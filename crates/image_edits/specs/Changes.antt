@@ -2,36 +2,23 @@
 use Rattle.std.specs.Prelude.{◌≡◌, ℕ, List, None, Option, Result, Ok, Err, if◌then◌else◌, nat_eq, true}
 use Rattle.command_faults.specs.declared.faults.CommandFault.TheVariants as faults
 use Rattle.disk_changes.specs.declared.changes.Changed.{Changed}
-use Rattle.disk_changes.specs.declared.changes.Why.{Why}
-use Rattle.disk_changes.specs.declared.changes.Why.TheVariants as whys
+use Rattle.command_faults.specs.declared.faults.CommandFault.{CommandFault}
 use Rattle.folder_changes.specs.FolderChanges.{IsShownAs, IsToldAs}
-use Rattle.folder_changes.specs.declared.stops.Stop.{Stop}
-use Rattle.folder_changes.specs.declared.stops.Stop.TheVariants as stops
 use Rattle.image_file.specs.paths.Rights.{Rights}
 use Rattle.opened_files.specs.Ends.{EndsAs, JobEnd}
-use Rattle.opened_files.specs.declared.refusals.Refusal.{Refusal}
-use Rattle.opened_files.specs.declared.refusals.Refusal.TheVariants as refusals
-
--- what is reported of a change that was stopped
-abbrev pub stop_refusal : Stop → Refusal
-stop_refusal (stops.Refused (whys.Fault fault)) = refusals.Fault fault
-stop_refusal (stops.Refused (whys.Short p)) = refusals.Short p
-stop_refusal (stops.Refused whys.ShopFile) = refusals.ShopFile
-stop_refusal stops.Device = refusals.Fault faults.Device
-stop_refusal stops.Output = refusals.Fault faults.File
 
 -- what came of a change, as a job's end: so many sectors are left, or it was stopped
-abbrev pub as_change : Result ℕ Stop → JobEnd
-as_change (Ok n) = if nat_eq n 0 then Ok None else Err (refusals.Kept n)
-as_change (Err stop) = Err (stop_refusal stop)
+abbrev pub as_change : Result ℕ CommandFault → JobEnd
+as_change (Ok n) = if nat_eq n 0 then Ok None else Err (faults.Kept n)
+as_change (Err fault) = Err fault
 
 -- A job that changes an image ended so. This holds of what comes of the change, and its text was printed; or this holds of
 -- why it isn't made, and nothing was; or the image couldn't be kept, and nothing was printed; or the output failed.
-abbrev pub IsChangeEnd : {W : Type 0} → (W → Option (List ℕ)) → (Changed → Type 0) → (Why → Type 0) → W → W → JobEnd → Type 0
+abbrev pub IsChangeEnd : {W : Type 0} → (W → Option (List ℕ)) → (Changed → Type 0) → (CommandFault → Type 0) → W → W → JobEnd → Type 0
 IsChangeEnd contents Is Refuses old new end = EndsAs as_change end (IsToldAs contents Is Refuses old new)
 
 -- the same of a job that only prints what a change would print
-abbrev pub IsShownEnd : {W : Type 0} → (W → Option (List ℕ)) → (Changed → Type 0) → (Why → Type 0) → W → W → JobEnd → Type 0
+abbrev pub IsShownEnd : {W : Type 0} → (W → Option (List ℕ)) → (Changed → Type 0) → (CommandFault → Type 0) → W → W → JobEnd → Type 0
 IsShownEnd contents Is Refuses old new end = EndsAs as_change end (IsShownAs contents Is Refuses old new)
 
 -- the image of these bytes in the file to which a path leads was changed to what the change made

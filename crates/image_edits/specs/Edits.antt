@@ -10,7 +10,7 @@ use Rattle.disk_changes.specs.Judged.{IsUnsoundOrShort}
 use Rattle.disk_changes.specs.Stores.{IsStoreRefusal, IsStored}
 use Rattle.disk_changes.specs.Titles.{IsTitled}
 use Rattle.disk_changes.specs.declared.changes.Changed.{Changed}
-use Rattle.disk_changes.specs.declared.changes.Why.{Why}
+use Rattle.command_faults.specs.declared.faults.CommandFault.{CommandFault}
 use Rattle.image_file.specs.paths.Standing.{Stands}
 use Rattle.keeper_commands.specs.Makes.{IsNewName}
 use Rattle.image_edits.specs.Columns.{text_in}
@@ -68,7 +68,7 @@ IsEdited (edits.Store records columns loss name) text image made =
     IsStored image (name_bytes name) text (shortened loss) made
 
 -- it wasn't, for this reason
-abbrev pub IsUnedited : Edit → (text image : List ℕ) → Why → Type 0
+abbrev pub IsUnedited : Edit → (text image : List ℕ) → CommandFault → Type 0
 IsUnedited (edits.Repair loss unowned) text image why = IsRepairRefusal image why
 IsUnedited (edits.RepairSides loss unowned) text image why = IsRebuildRefusal image why
 IsUnedited (edits.Make size loss name) text image why = IsMakeRefusal image (name_bytes name) (shortened loss) why

@@ -10,8 +10,7 @@ use Rattle.image_file.specs.Remains.{Remains}
 use Rattle.image_file.specs.paths.Traces.{Traces}
 use Rattle.opened_files.specs.Ends.{JobEnd}
 use Rattle.opened_files.specs.Makings.{IsMadeAt, IsNewEnd}
-use Rattle.opened_files.specs.declared.refusals.Refusal.{Refusal}
-use Rattle.opened_files.specs.declared.refusals.Refusal.TheVariants as refusals
+use Rattle.command_faults.specs.declared.faults.CommandFault.{CommandFault}
 
 -- the first bytes of a file, as many as a log has; zeros stand for those that it hasn't
 abbrev pub log_bytes : List ℕ → List ℕ
@@ -28,14 +27,14 @@ IsOfLog all P = (image : Image) × (salvaged : Salvaged) × IsSalvaged (log_byte
     × P image (salvage_text salvaged)
 
 -- why no image was taken of a log: its first commit isn't whole, or there was no memory
-abbrev pub IsUnsalvaged : List ℕ → Refusal → Type 0
-IsUnsalvaged all refusals.Log = base_end (log_bytes all) ≡ 0
-IsUnsalvaged all (refusals.Fault faults.NoMemory) = Unit
+abbrev pub IsUnsalvaged : List ℕ → CommandFault → Type 0
+IsUnsalvaged all faults.Log = base_end (log_bytes all) ≡ 0
+IsUnsalvaged all faults.NoMemory = Unit
 IsUnsalvaged all _ = ⊥
 
 -- The image of a log was copied to a path, and that was printed; or the job isn't done, and this may be why.
 abbrev pub IsSalvageEnd : {H F W : Type 0} → Traces H F → Remains F → (W → Option (List ℕ)) → H → (path all : List ℕ)
     → W → W → JobEnd → Type 0
 IsSalvageEnd traces remains contents host path all old new end =
-    ((refusal : Refusal) × (end ≡ Err refusal) × IsUnsalvaged all refusal × (new ≡ old))
+    ((refusal : CommandFault) × (end ≡ Err refusal) × IsUnsalvaged all refusal × (new ≡ old))
     ⊎ IsOfLog all (λ image text. IsNewEnd contents (IsMadeAt remains traces host path (bytes_of image)) text old new end)

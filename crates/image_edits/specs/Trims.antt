@@ -3,7 +3,7 @@ use Rattle.std.specs.Prelude.{Bool, true, false, List, ℕ, None, Option, Result
 use Rattle.disk_pictures.specs.Trims.{IsTrimFault, IsTrimmed}
 use Rattle.command_faults.specs.declared.faults.CommandFault.{CommandFault}
 use Rattle.opened_files.specs.Ends.{JobEnd}
-use Rattle.opened_files.specs.declared.refusals.Refusal.TheVariants as refusals
+use Rattle.command_faults.specs.declared.faults.CommandFault.TheVariants as faults
 
 -- it ended so: they were printed, and what isn't there was listed; or not, for this fault
 pub record IsTrimRun {W E : Type 0} (contents : W → Option (List ℕ)) (told : E → Option (List ℕ)) (image : List ℕ)
@@ -14,5 +14,5 @@ pub record IsTrimRun {W E : Type 0} (contents : W → Option (List ℕ)) (told :
 -- what came of it, as a job's end
 abbrev pub as_trimmed : Result Bool CommandFault → JobEnd
 as_trimmed (Ok true) = Ok None
-as_trimmed (Ok false) = Err refusals.Trimmed
-as_trimmed (Err fault) = Err (refusals.Fault fault)
+as_trimmed (Ok false) = Err faults.Trimmed
+as_trimmed (Err fault) = Err fault

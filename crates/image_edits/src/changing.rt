@@ -1,7 +1,7 @@
 //! The image at a path, changed all or nothing.
 ghost use Rattle.std.specs.Prelude.{◌≡◌, ◌⊎◌, IfErr, IfOk, string_bytes, take, true, vec_items};
 ghost use Rattle.disk_changes.specs.Changes.{IsChanged, IsFit, IsRefused};
-ghost use Rattle.image_edits.specs.Changes.{IsChangeEnd, IsChangedAt, as_change, stop_refusal as refusal_of};
+ghost use Rattle.image_edits.specs.Changes.{IsChangeEnd, IsChangedAt, as_change};
 ghost use Rattle.image_file.specs.paths.Rights.{Look, May};
 ghost use Rattle.opened_files.specs.HostFiles.{IsUnbegun, OfWritten, RunEnds};
 ghost use Rattle.opened_files.specs.Losses.{IsAwayFault};
@@ -9,42 +9,33 @@ ghost use Rattle.opened_files.specs.Rights.{MayChangeImage};
 ghost use Rattle.shop_log.specs.life.Tags.{SaysLogAway};
 
 use command_faults::CommandFault;
-use disk_changes::{Change, Why};
+use disk_changes::Change;
 use disk_layout::Fault;
-use folder_changes::{HostImages, Stop};
+use folder_changes::HostImages;
 use image_file::{EndedFile, HostFiles, Locks};
-use opened_files::{Loss, Refusal, opened_and_landed, read_synced, see_untagged, told};
+use opened_files::{Loss, opened_and_landed, read_synced, see_untagged};
 use shop_log::LogNames;
 use std::fs::OpenFile;
 use std::io::Write;
 
-/// What is reported of a change that was stopped.
-fn stop_refusal(stop: Stop) -> Refusal
-    ensures { result ≡ refusal_of stop }
-{
-    match stop {
-        Stop::Refused(Why::Fault(fault)) => Refusal::Fault(fault),
-        Stop::Refused(Why::Short(place)) => Refusal::Short(place),
-        Stop::Refused(Why::ShopFile) => Refusal::ShopFile,
-        Stop::Device => Refusal::Fault(CommandFault::Device),
-        Stop::Output => Refusal::Fault(CommandFault::File),
-    }
-}
-
 /// What came of a change, as a job's end: so many sectors are left.
-pub fn change_end(ended: Result<u16, Stop>) -> Result<Option<Fault>, Refusal>
+pub fn change_end(ended: Result<u16, CommandFault>) -> Result<Option<Fault>, CommandFault>
     ensures { result ≡ as_change ended }
 {
     match ended {
         Ok(0) => Ok(None),
-        Ok(left) => Err(Refusal::Kept(left)),
-        Err(stop) => Err(stop_refusal(stop)),
+        Ok(left) => Err(CommandFault::Kept(left)),
+        Err(fault) => Err(fault),
     }
 }
 
 /// The bytes of the image at a path and its file, which this program has alone. No log is beside it, and all is synced.
 /// `LogAway` if its log has the rest, isn't there, and no loss is accepted.
-pub(crate) fn image_to_change<F, R>(rt: &R, path: &str, loss: Loss) -> Result<(Vec<u8>, F), Refusal>
+pub(crate) fn image_to_change<F, R>(
+    rt: &R,
+    path: &str,
+    loss: Loss,
+) -> Result<(Vec<u8>, F), CommandFault>
 where
     F: EndedFile + Locks + OpenFile + Drop,
     R: HostFiles<File = F> + AllocGlobal,
@@ -63,12 +54,12 @@ where
 }
 
 /// The names of the image at a path and of its log.
-fn names_at<R: HostFiles + AllocGlobal>(rt: &R, path: &str) -> Result<LogNames, Refusal>
+fn names_at<R: HostFiles + AllocGlobal>(rt: &R, path: &str) -> Result<LogNames, CommandFault>
     requires { May R.rights rt.now Look path.now }
     ensures leads { IfOk result (λ names. R.rights.leads rt.now path.now (string_bytes names.image) ≡ true) }
     ensures err { IfErr result IsUnbegun }
 {
-    told(LogNames::of(rt, rt.alloc(), path))
+    Ok(LogNames::of(rt, rt.alloc(), path)?)
 }
 
 /// Changes the image at a path, whose bytes and file these are, all or nothing, and prints the change's text.
@@ -79,7 +70,7 @@ pub(crate) fn change_taken<F, R, W>(
     file: F,
     what: &Change<'_>,
     out: &mut W,
-) -> Result<Option<Fault>, Refusal>
+) -> Result<Option<Fault>, CommandFault>
 where
     F: EndedFile + Locks + OpenFile + Drop,
     R: HostFiles<File = F> + HostImages + AllocGlobal,
@@ -92,6 +83,6 @@ where
         (IsRefused what.now image.now) out.old out.new result) }
 {
     let names = names_at(rt, path)?;
-    let ended = told(rt.change_at(rt.alloc(), &names, file, image, what, out))?;
+    let ended = rt.change_at(rt.alloc(), &names, file, image, what, out)?;
     change_end(ended)
 }

@@ -9,7 +9,7 @@ use command_faults::CommandFault;
 use d64_image::IMAGE_BYTES;
 use disk_layout::Fault;
 use image_file::{EndedFile, HostFiles, Locks};
-use opened_files::{Refusal, image_at, make_image, metadata_of, run_end};
+use opened_files::{image_at, make_image, metadata_of, run_end};
 use shop_commands::put_whole;
 use std::fs::{Metadata, OpenFile};
 use std::io::{Read, Write};
@@ -22,7 +22,7 @@ pub(crate) fn make_told<F, R, W>(
     image: &[u8],
     said: &[u8],
     out: &mut W,
-) -> Result<Option<Fault>, Refusal>
+) -> Result<Option<Fault>, CommandFault>
 where
     F: EndedFile + Locks + OpenFile + Drop,
     R: HostFiles<File = F> + AllocGlobal,
@@ -43,7 +43,7 @@ fn copy_read<F, R, W>(
     like: Option<Metadata>,
     image: &[u8],
     out: &mut W,
-) -> Result<Option<Fault>, Refusal>
+) -> Result<Option<Fault>, CommandFault>
 where
     F: EndedFile + Locks + OpenFile + Drop,
     R: HostFiles<File = F> + AllocGlobal,
@@ -53,7 +53,7 @@ where
         out.old out.new result }
 {
     if image.len() != IMAGE_BYTES {
-        return Err(Refusal::Fault(CommandFault::ImageSize));
+        return Err(CommandFault::ImageSize);
     }
     make_told(rt, copy, like, image, b"COPIED\n", out)
 }
@@ -66,7 +66,7 @@ pub fn do_copying<F, R, W>(
     path: &str,
     copy: &str,
     out: &mut W,
-) -> Result<Option<Fault>, Refusal>
+) -> Result<Option<Fault>, CommandFault>
 where
     F: EndedFile + Read + Locks + OpenFile + Drop,
     R: HostFiles<File = F> + Input + AllocGlobal,

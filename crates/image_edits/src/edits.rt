@@ -3,7 +3,7 @@ ghost use Rattle.std.specs.Prelude.{◌≡◌, ◌⊎◌, IfErr, IfOk, List, ℕ
 ghost use Rattle.command_faults.specs.declared.faults.CommandFault.TheVariants.{NoMemory};
 ghost use Rattle.disk_changes.specs.Changes.{IsChanged, IsFit, IsRefused};
 ghost use Rattle.disk_changes.specs.declared.changes.Changed.{Changed};
-ghost use Rattle.disk_changes.specs.declared.changes.Why.{Why};
+ghost use Rattle.command_faults.specs.declared.faults.CommandFault.{CommandFault};
 ghost use Rattle.image_edits.specs.Columns.{text_in};
 ghost use Rattle.image_edits.specs.Edits.{IsEdited, IsFitEdit, IsTextFor, IsUnedited, loss_of};
 ghost use Rattle.opened_files.specs.HostFiles.{IsUnbegun, IsUnread, OfImage, OfText};
@@ -12,7 +12,6 @@ ghost use Rattle.opened_files.specs.Losses.{IsAwayFault, IsNear};
 ghost use Rattle.opened_files.specs.Rights.{MayChangeImage, MayReadImage, MayReadText};
 ghost use Rattle.image_edits.specs.EditRights.{MayEdit, MayReadSource};
 ghost use Rattle.image_edits.specs.declared.edit.Effect.TheVariants.{Printed, Written};
-ghost use Rattle.opened_files.specs.declared.refusals.Refusal.TheVariants as refusals;
 ghost use Rattle.shop_log.specs.life.Tags.{SaysLogAway};
 
 use crate::changing::{change_end, change_taken, image_to_change};
@@ -23,7 +22,7 @@ use disk_layout::Fault;
 use folder_changes::{HostImages, show_change};
 use image_file::{EndedFile, HostFiles, Locks};
 use keeper_commands::plain_lines;
-use opened_files::{Loss, Refusal, image_at, script_to_play, see_log_away};
+use opened_files::{Loss, image_at, script_to_play, see_log_away};
 use std::alloc::Global;
 use std::fs::OpenFile;
 use std::io::{Read, Write};
@@ -47,7 +46,7 @@ impl Edit<'_> {
         requires fit { IsFitEdit self.now }
         ensures fit { IsFit result }
         ensures made { (image : List ℕ) (made : Changed) → IsChanged result image made → IsEdited self.now text.now image made }
-        ensures refused { (image : List ℕ) (why : Why) → IsRefused result image why → IsUnedited self.now text.now image why }
+        ensures refused { (image : List ℕ) (why : CommandFault) → IsRefused result image why → IsUnedited self.now text.now image why }
     {
         match *self {
             Edit::Repair { loss, unowned } => {
@@ -97,21 +96,21 @@ impl Edit<'_> {
 }
 
 /// The text with one column for each record. `NoMemory` if there was none for it.
-fn one_column(alloc: Global, columns: Columns, text: Vec<u8>) -> Result<Vec<u8>, Refusal>
+fn one_column(alloc: Global, columns: Columns, text: Vec<u8>) -> Result<Vec<u8>, CommandFault>
     ensures ok { IfOk result (λ plain. vec_items plain ≡ text_in columns (vec_items text)) }
-    ensures err { IfErr result (λ refusal. refusal ≡ refusals.Fault NoMemory) }
+    ensures err { IfErr result (λ refusal. refusal ≡ NoMemory) }
 {
     match columns {
         Columns::One => Ok(text),
         Columns::Several(form) => match plain_lines(alloc, form, text.as_slice()) {
             Ok(plain) => Ok(plain),
-            Err(_) => Err(Refusal::Fault(CommandFault::NoMemory)),
+            Err(_) => Err(CommandFault::NoMemory),
         },
     }
 }
 
 /// The records at a path, or of standard input, with one column each.
-fn records_at<R>(rt: &R, path: &str, columns: Columns) -> Result<Vec<u8>, Refusal>
+fn records_at<R>(rt: &R, path: &str, columns: Columns) -> Result<Vec<u8>, CommandFault>
 where
     R: HostFiles + Input + AllocGlobal,
     requires { MayReadText R.rights rt.now path.now }
@@ -123,7 +122,7 @@ where
 }
 
 /// The bytes that a change takes of a file of the host; none if it takes none.
-fn text_for<R>(rt: &R, edit: &Edit<'_>) -> Result<Vec<u8>, Refusal>
+fn text_for<R>(rt: &R, edit: &Edit<'_>) -> Result<Vec<u8>, CommandFault>
 where
     R: HostFiles + Input + AllocGlobal,
     requires { MayReadSource R.rights rt.now edit.now }
@@ -150,7 +149,7 @@ fn edit_written<F, R, W>(
     path: &str,
     edit: &Edit<'_>,
     out: &mut W,
-) -> Result<Option<Fault>, Refusal>
+) -> Result<Option<Fault>, CommandFault>
 where
     F: EndedFile + Locks + OpenFile + Drop,
     R: HostFiles<File = F> + HostImages + Input + AllocGlobal,
@@ -168,7 +167,7 @@ where
 
 /// The bytes of the image at a path, as its shop is now, or of standard input. `LogAway` if its log has the rest, isn't
 /// there, and no loss is accepted.
-fn image_to_show<F, R>(rt: &R, path: &str, loss: Loss) -> Result<Vec<u8>, Refusal>
+fn image_to_show<F, R>(rt: &R, path: &str, loss: Loss) -> Result<Vec<u8>, CommandFault>
 where
     F: Locks + OpenFile + Drop,
     R: HostFiles<File = F> + Input + AllocGlobal,
@@ -190,7 +189,7 @@ fn edit_shown<F, R, W>(
     path: &str,
     edit: &Edit<'_>,
     out: &mut W,
-) -> Result<Option<Fault>, Refusal>
+) -> Result<Option<Fault>, CommandFault>
 where
     F: Read + Locks + OpenFile + Drop,
     R: HostFiles<File = F> + HostImages + Input + AllocGlobal,
@@ -213,7 +212,7 @@ pub fn do_edit<F, R, W>(
     edit: &Edit<'_>,
     effect: Effect,
     out: &mut W,
-) -> Result<Option<Fault>, Refusal>
+) -> Result<Option<Fault>, CommandFault>
 where
     F: EndedFile + Read + Locks + OpenFile + Drop,
     R: HostFiles<File = F> + HostImages + Input + AllocGlobal,

@@ -12,19 +12,19 @@ use d64_image::MemDisk;
 use disk_layout::Fault;
 use file_changes::new_disk;
 use image_file::{EndedFile, HostFiles, Locks};
-use opened_files::{Name, Refusal};
+use opened_files::Name;
 use std::alloc::Global;
 use std::fs::OpenFile;
 use std::io::Write;
 
 /// The empty disk of this name and this id. `NoMemory` if there is none for it.
-fn made_disk(alloc: Global, name: &[u8], id: [u8; 2]) -> Result<MemDisk, Refusal>
+fn made_disk(alloc: Global, name: &[u8], id: [u8; 2]) -> Result<MemDisk, CommandFault>
     requires name { length name.now ≤ 16 }
     ensures ok { IfOk result (λ disk. IsNewDisk name.now id (disk_image disk)) }
 {
     match new_disk(alloc, name, id) {
         Ok(disk) => Ok(disk),
-        Err(_) => Err(Refusal::Fault(CommandFault::NoMemory)),
+        Err(_) => Err(CommandFault::NoMemory),
     }
 }
 
@@ -37,7 +37,7 @@ pub fn do_new<F, R, W>(
     name: &Name,
     id: [u8; 2],
     out: &mut W,
-) -> Result<Option<Fault>, Refusal>
+) -> Result<Option<Fault>, CommandFault>
 where
     F: EndedFile + Locks + OpenFile + Drop,
     R: HostFiles<File = F> + AllocGlobal,

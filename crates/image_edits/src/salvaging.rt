@@ -6,13 +6,12 @@ ghost use Rattle.image_edits.specs.EditRuns.{IsSalvagedFrom};
 ghost use Rattle.opened_files.specs.Rights.{MayMakeImage};
 ghost use Rattle.image_edits.specs.Salvages.{IsOfLog, IsUnsalvaged, log_bytes, salvage_text as text_of};
 ghost use Rattle.command_faults.specs.declared.faults.CommandFault.TheVariants as faults;
-ghost use Rattle.opened_files.specs.declared.refusals.Refusal.TheVariants as refusals;
 
 use crate::copying::make_told;
 use command_faults::CommandFault;
 use disk_layout::Fault;
 use image_file::{EndedFile, HostFiles, Locks, read_script};
-use opened_files::{Refusal, log_refusal, metadata_of, opened_shared, told};
+use opened_files::{log_refusal, metadata_of, opened_shared};
 use shop_log::{Salvaged, image_room, salvage};
 use std::alloc::Global;
 use std::fs::OpenFile;
@@ -22,27 +21,27 @@ use std::io::{self, Read, Write};
 const LOG_BYTES: usize = 4_198_400;
 
 /// What is printed of an image that was made of a log. `NoMemory` if there is none for it.
-fn salvage_text(alloc: Global, taken: Salvaged) -> Result<Vec<u8>, Refusal>
+fn salvage_text(alloc: Global, taken: Salvaged) -> Result<Vec<u8>, CommandFault>
     ensures ok { IfOk result (λ text. text.items ≡ text_of taken) }
-    ensures err { IfErr result (λ refusal. refusal ≡ refusals.Fault faults.NoMemory) }
+    ensures err { IfErr result (λ refusal. refusal ≡ faults.NoMemory) }
 {
     let Salvaged { commits, left } = taken;
     let mut text = Vec::new(alloc);
     if write!(text, "COPIED\nCOMMITS {commits}\nLEFT {left}\n").is_err() {
-        return Err(Refusal::Fault(CommandFault::NoMemory));
+        return Err(CommandFault::NoMemory);
     }
     Ok(text)
 }
 
 /// Gives these bytes the length of a log. `NoMemory` if there is none for it.
-fn complete(log: &mut Vec<u8>) -> Result<(), Refusal>
+fn complete(log: &mut Vec<u8>) -> Result<(), CommandFault>
     ensures ok { IfOk result (λ _. log.new.items ≡ log_bytes log.old.items) }
     ensures len { IfOk result (λ _. length log.new.items ≡ 4198400) }
-    ensures err { IfErr result (λ refusal. refusal ≡ refusals.Fault faults.NoMemory) }
+    ensures err { IfErr result (λ refusal. refusal ≡ faults.NoMemory) }
 {
     match log.resize(LOG_BYTES, 0) {
         Ok(()) => Ok(()),
-        Err(_) => Err(Refusal::Fault(CommandFault::NoMemory)),
+        Err(_) => Err(CommandFault::NoMemory),
     }
 }
 
@@ -51,7 +50,7 @@ fn take_commits(
     alloc: Global,
     log: &mut Vec<u8>,
     shop: &mut [[u8; 256]],
-) -> Result<Vec<u8>, Refusal>
+) -> Result<Vec<u8>, CommandFault>
     requires sized { length shop.old ≡ 683 }
     ensures sized { length shop.new ≡ 683 }
     ensures ok { IfOk result (λ text. IsOfLog log.old.items (λ image said. (image ≡ shop.new) × (text.items ≡ said))) }
@@ -65,7 +64,7 @@ fn take_commits(
 }
 
 /// The image of a log's whole commits, and what is printed of that.
-fn salvaged(alloc: Global, log: Vec<u8>) -> Result<(Vec<[u8; 256]>, Vec<u8>), Refusal>
+fn salvaged(alloc: Global, log: Vec<u8>) -> Result<(Vec<[u8; 256]>, Vec<u8>), CommandFault>
     ensures ok { IfOk result (λ made. IsOfLog (vec_items log)
         (λ image said. (image ≡ vec_items made.0) × (vec_items made.1 ≡ said))) }
     ensures sized { IfOk result (λ made. length (vec_items made.0) ≡ 683) }
@@ -73,7 +72,7 @@ fn salvaged(alloc: Global, log: Vec<u8>) -> Result<(Vec<[u8; 256]>, Vec<u8>), Re
 {
     let mut log = log;
     let Ok(mut image) = image_room(alloc) else {
-        return Err(Refusal::Fault(CommandFault::NoMemory));
+        return Err(CommandFault::NoMemory);
     };
     let text = take_commits(alloc, &mut log, image.as_mut_slice())?;
     Ok((image, text))
@@ -94,7 +93,7 @@ fn read_log_file<F: Locks + Drop>(alloc: Global, file: F) -> io::Result<Vec<u8>>
 }
 
 /// The same of the log at a path, which is opened and locked with others that read it.
-fn log_at<F, R>(rt: &R, path: &str) -> Result<Vec<u8>, Refusal>
+fn log_at<F, R>(rt: &R, path: &str) -> Result<Vec<u8>, CommandFault>
 where
     F: Locks + Drop,
     R: HostFiles<File = F> + AllocGlobal,
@@ -103,7 +102,7 @@ where
     ensures err { IfErr result IsUnread }
 {
     let file = opened_shared(rt, path)?;
-    told(read_log_file(rt.alloc(), file))
+    Ok(read_log_file(rt.alloc(), file)?)
 }
 
 /// Copies the image of the whole commits of the log at a path to a file at another path, at which there must be none. Prints
@@ -116,7 +115,7 @@ pub fn do_salvaging<F, R, W>(
     path: &str,
     copy: &str,
     out: &mut W,
-) -> Result<Option<Fault>, Refusal>
+) -> Result<Option<Fault>, CommandFault>
 where
     F: EndedFile + Read + Locks + OpenFile + Drop,
     R: HostFiles<File = F> + AllocGlobal,

@@ -9,7 +9,7 @@ use command_faults::CommandFault;
 use disk_layout::Fault;
 use disk_pictures::trim_image;
 use image_file::{HostFiles, Locks, read_script};
-use opened_files::{Refusal, STANDARD_INPUT, logged_image, opened_shared, told};
+use opened_files::{STANDARD_INPUT, logged_image, opened_shared};
 use std::alloc::Global;
 use std::fs::OpenFile;
 use std::io::{self, Read, Write};
@@ -18,13 +18,13 @@ use std::io::{self, Read, Write};
 const MOST_READ: u64 = 197_377;
 
 /// The end of a job that trimmed an image.
-fn trimmed_end(ended: Result<bool, CommandFault>) -> Result<Option<Fault>, Refusal>
+fn trimmed_end(ended: Result<bool, CommandFault>) -> Result<Option<Fault>, CommandFault>
     ensures { result ≡ as_trimmed ended }
 {
     match ended {
         Ok(true) => Ok(None),
-        Ok(false) => Err(Refusal::Trimmed),
-        Err(fault) => Err(Refusal::Fault(fault)),
+        Ok(false) => Err(CommandFault::Trimmed),
+        Err(fault) => Err(fault),
     }
 }
 
@@ -35,7 +35,7 @@ pub fn trim_run<W: Write, E: Write>(
     image: &[u8],
     out: &mut W,
     err: &mut E,
-) -> Result<Option<Fault>, Refusal>
+) -> Result<Option<Fault>, CommandFault>
     ensures { EndsAs as_trimmed result
         (IsTrimRun W.contents E.contents image.now out.old out.new err.old err.new) }
 {
@@ -57,7 +57,7 @@ fn read_long_file<F: Locks + Drop>(alloc: Global, file: F) -> io::Result<Vec<u8>
 }
 
 /// The bytes of the image at a path, as its shop is now, or of standard input.
-fn long_image_at<F, R>(rt: &R, path: &str) -> Result<Vec<u8>, Refusal>
+fn long_image_at<F, R>(rt: &R, path: &str) -> Result<Vec<u8>, CommandFault>
 where
     F: Read + Locks + OpenFile + Drop,
     R: HostFiles<File = F> + Input + AllocGlobal,
@@ -67,12 +67,12 @@ where
     ensures err { IfErr result IsUnbegun }
 {
     if path == STANDARD_INPUT {
-        return told(read_long(rt.alloc(), rt.reader()));
+        return Ok(read_long(rt.alloc(), rt.reader())?);
     }
     let file = opened_shared(rt, path)?;
     match logged_image(rt, path, &file)? {
-        Some(image) => told(read_long(rt.alloc(), image.as_slice().as_flattened())),
-        None => told(read_long_file(rt.alloc(), file)),
+        Some(image) => Ok(read_long(rt.alloc(), image.as_slice().as_flattened())?),
+        None => Ok(read_long_file(rt.alloc(), file)?),
     }
 }
 
@@ -82,7 +82,7 @@ pub fn do_trim<F, R, W, E>(
     path: &str,
     out: &mut W,
     err: &mut E,
-) -> Result<Option<Fault>, Refusal>
+) -> Result<Option<Fault>, CommandFault>
 where
     F: Read + Locks + OpenFile + Drop,
     R: HostFiles<File = F> + Input + AllocGlobal,

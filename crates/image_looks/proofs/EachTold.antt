@@ -1,25 +1,35 @@
 -- What is printed of images one after another.
 use Rattle.std.proofs.Common.{◌≡◌, ◌<◌, ◌+◌, ◌++◌, ℕ, List, [], ◌∷◌, ap, arith, get_or, length, map, refl, subst, sym, take}
-use Rattle.std.specs.Prelude.{IfOk, None, Ok, Err, Option, Result, Some, max, Vec, take, vec_items}
+use Rattle.std.specs.Prelude.{IfErr, IfOk, None, Ok, Err, Option, Result, Some, max, Vec, take, vec_items}
 use Rattle.std.specs.Io.KnownBytes.{Keeps}
 use Rattle.std.specs.Borrow.{Bor}
 use Rattle.std.proofs.lemmas.List.{map_more}
-use Rattle.image_looks.specs.EachImage.{AreEach, AreHandedOn, IsOneFrom, IsSeveralEnd, Loaded, as_loaded, IsReadAt}
+use Rattle.image_looks.specs.EachImage.{AreEach, AreHandedOn, IsCutOff, IsOneFrom, IsSeveralEnd, Loaded, as_loaded, IsReadAt}
 use Rattle.opened_files.specs.Ends.{JobEnd}
-use Rattle.opened_files.specs.declared.refusals.Refusal.TheVariants as refusals
+use Rattle.command_faults.specs.declared.faults.CommandFault.TheVariants as faults
 use Rattle.std.specs.declared.alloc.Global.{Global}
 use Rattle.image_file.specs.paths.Rights.{Rights}
 use Rattle.image_file.specs.paths.Standing.{Stands}
 use Rattle.opened_files.specs.HostFiles.{OfImage}
-use Rattle.opened_files.specs.declared.refusals.Refusal.{Refusal}
+use Rattle.command_faults.specs.declared.faults.CommandFault.{CommandFault}
 
 -- what was done with a greatest status comes to something else
 several-weaker : (P Q : ℕ → Type 0) → ((n : ℕ) → P n → Q n) → (end : JobEnd) → IsSeveralEnd P end → IsSeveralEnd Q end
 several-weaker P Q weaker (Ok None) done = weaker 0 done
 several-weaker P Q weaker (Ok (Some found)) done = done
-several-weaker P Q weaker (Err (refusals.Several greatest)) (some, done) = (some, weaker greatest done)
-several-weaker P Q weaker (Err (refusals.Fault fault)) done = done
+several-weaker P Q weaker (Err (faults.Several greatest)) (some, done) = (some, weaker greatest done)
 several-weaker P Q weaker (Err _) done = done
+
+-- or not all of it was
+pub cut-off : (Done : ℕ → Type 0) (fault : CommandFault) → IsCutOff fault → IsSeveralEnd Done (Err fault)
+cut-off Done faults.File why = why
+cut-off Done faults.NoMemory why = why
+cut-off Done _ why = absurd why
+
+-- since the output failed
+pub output-cut-off : {T : Type 0} (r : Result T CommandFault) → IfErr r (λ fault. fault ≡ faults.File) → IfErr r IsCutOff
+output-cut-off (Ok it) is = tt
+output-cut-off (Err fault) is = subst IsCutOff (sym is) tt
 
 -- with this status something was done
 pub several-done : (P : ℕ → Type 0) (greatest : ℕ) (end : JobEnd) → P greatest → IsSeveralEnd (λ n. n ≡ greatest) end
@@ -76,14 +86,14 @@ module _ {W : Type 0} (gives : List ℕ → Loaded → Type 0) (prints : List �
           handed = is.1;
         }) end ended
 
-loaded : (read : Result (Vec ℕ Global) Refusal) (front : List ℕ) → IfOk read (λ image. vec_items image ≡ front)
+loaded : (read : Result (Vec ℕ Global) CommandFault) (front : List ℕ) → IfOk read (λ image. vec_items image ≡ front)
     → IfOk (as_loaded read) (λ image. image ≡ front)
 loaded (Ok image) front is = is
 loaded (Err refusal) front is = tt
 
 -- what was read of an image, as a job over several holds it
 pub read-at : {H : Type 0} (rights : Rights H) (stands : H → List ℕ → Stands) (host : H) (path : List ℕ)
-    (read : Result (Vec ℕ Global) Refusal)
+    (read : Result (Vec ℕ Global) CommandFault)
     → OfImage rights stands host path (λ all. IfOk read (λ image. vec_items image ≡ take 174849 all))
     → IsReadAt rights stands host path (as_loaded read)
 read-at rights stands host path read is =

@@ -1,22 +1,23 @@
 -- How a look ended, from what its command says of what it printed.
-use Rattle.std.proofs.Common.{◌≡◌, ◌≢◌, None, Option, Result, Ok, Err, Some, refl, subst, sym}
+use Rattle.std.proofs.Common.{◌≡◌, ◌≢◌, ℕ, List, None, Option, Result, Ok, Err, Some, refl, subst, sym}
 use Rattle.std.specs.Prelude.{IfErr, IfOk, OnErr, OnOk}
 use Rattle.d64_image.specs.declared.place.Place.{Place}
 use Rattle.disk_layout.specs.declared.faults.Fault.{Fault}
 use Rattle.command_faults.specs.declared.faults.CommandFault.{CommandFault}
 use Rattle.command_faults.specs.declared.faults.CommandFault.TheVariants as faults
-use Rattle.opened_files.specs.Ends.{JobEnd, as_job, as_run, IsPrintEnd, IsQuietPrint}
-use Rattle.image_looks.specs.Looks.{IsTakingEnd, taken_end}
+use Rattle.opened_files.specs.Ends.{JobEnd, as_run, IsPrintEnd, IsQuietPrint}
+use Rattle.image_looks.specs.Looks.{IsTakingEnd, WhyNoRecords, taken_end}
+use Rattle.keeper_commands.specs.declared.finding.Candidates.{Candidates}
+use Rattle.keeper_commands.specs.declared.finding.Candidates.TheVariants.{All, Closed}
+use Rattle.keeper_commands.specs.declared.forms.RecordForm.{RecordForm}
 
 module _ {W : Type 0} (old new : W) where
   -- of what reports a fault
   pub printed : (Printed : W → W → Option Fault → Type 0) (Why : CommandFault → Type 0)
-      (ended : Result (Option Fault) CommandFault) (end : JobEnd) → end ≡ as_job ended
-      → IfOk ended (Printed old new) → IfErr ended Why → IfErr ended (λ fault. fault ≢ faults.File → new ≡ old)
+      (end : JobEnd) → IfOk end (Printed old new) → IfErr end Why → IfErr end (λ fault. fault ≢ faults.File → new ≡ old)
       → IsPrintEnd Printed Why old new end
-  printed Printed Why (Ok found) end is ok err untouched = subst (IsPrintEnd Printed Why old new) (sym is) ok
-  printed Printed Why (Err fault) end is ok err untouched =
-      subst (IsPrintEnd Printed Why old new) (sym is) (err, untouched)
+  printed Printed Why (Ok found) ok err untouched = ok
+  printed Printed Why (Err fault) ok err untouched = (err, untouched)
 
   -- of what reports none
   pub quietly-printed : (Printed : W → W → Type 0) (Why : CommandFault → Type 0) (ended : Result Unit CommandFault)
@@ -29,11 +30,19 @@ module _ {W : Type 0} (old new : W) where
 
   -- of what is taken out of an image
   pub taken : (Taken : W → W → Option Place → Type 0) (Why : W → W → CommandFault → Type 0)
-      (ended : Result (Option Place) CommandFault) (end : JobEnd) → end ≡ taken_end ended → IfOk ended (Taken old new)
-      → IfErr ended (Why old new) → IsTakingEnd Taken Why old new end
-  taken Taken Why (Ok (Some p)) end is ok err = subst (IsTakingEnd Taken Why old new) (sym is) ok
-  taken Taken Why (Ok None) end is ok err = subst (IsTakingEnd Taken Why old new) (sym is) ok
-  taken Taken Why (Err fault) end is ok err = subst (IsTakingEnd Taken Why old new) (sym is) err
+      → ((p : Place) → Why old new (faults.Short p) → ⊥) → (ended : Result (Option Place) CommandFault) (end : JobEnd)
+      → end ≡ taken_end ended → IfOk ended (Taken old new) → IfErr ended (Why old new) → IsTakingEnd Taken Why old new end
+  taken Taken Why other (Ok (Some p)) end is ok err = subst (IsTakingEnd Taken Why old new) (sym is) ok
+  taken Taken Why other (Ok None) end is ok err = subst (IsTakingEnd Taken Why old new) (sym is) ok
+  taken Taken Why other (Err (faults.Short p)) end is ok err = absurd (other p err)
+  taken Taken Why other (Err _) end is ok err = subst (IsTakingEnd Taken Why old new) (sym is) err
+
+-- the records that aren't taken are none of a file that is cut short
+pub no-cut-records : {W : Type 0} (contents : W → Option (List ℕ)) (form : RecordForm) (candidates : Candidates)
+    (image name : List ℕ) (old new : W) (p : Place)
+    → WhyNoRecords contents form candidates image name old new (faults.Short p) → ⊥
+no-cut-records contents form Closed image name old new p why = why.0
+no-cut-records contents form All image name old new p why = why.0
 
 -- three clauses of what was done are one
 pub if-all : {T E : Type 0} (P Q R : T → Type 0) (ended : Result T E) → IfOk ended P → IfOk ended Q → IfOk ended R

@@ -6,22 +6,21 @@ use Rattle.disk_reports.specs.Objects.{refused_text}
 use Rattle.disk_reports.specs.Outcomes.{IsDescribeFault, IsDescribed}
 use Rattle.disk_layout.specs.declared.faults.Fault.{Fault}
 use Rattle.image_looks.specs.EachImage.{Loaded}
-use Rattle.opened_files.specs.Ends.{end_status, refusal_status, refusal_text}
-use Rattle.opened_files.specs.declared.refusals.Refusal.{Refusal}
-use Rattle.opened_files.specs.declared.refusals.Refusal.TheVariants as refusals
+use Rattle.opened_files.specs.Ends.{end_status}
+use Rattle.command_faults.specs.Faults.{command_status, command_text}
 
 -- the object of an image at this path that is refused was printed: it has why, and the size that the system says
-abbrev pub IsRefusedObject : {W : Type 0} → (W → Option (List ℕ)) → List ℕ → Refusal → W → W → ℕ → Type 0
+abbrev pub IsRefusedObject : {W : Type 0} → (W → Option (List ℕ)) → List ℕ → CommandFault → W → W → ℕ → Type 0
 IsRefusedObject contents path refusal old new status =
-    ((size : Option ℕ) × Appends (contents old) (contents new) (refused_text path size (refusal_text refusal)))
-    × (status ≡ refusal_status refusal)
+    ((size : Option ℕ) × Appends (contents old) (contents new) (refused_text path size (command_text refusal)))
+    × (status ≡ command_status refusal)
 
 -- the object of an image at this path that has these bytes was printed, with the status of its check
 abbrev pub IsImageObject : {W : Type 0} → (W → Option (List ℕ)) → List ℕ → (image : List ℕ) → W → W → ℕ → Type 0
 IsImageObject contents path image old new status =
     ((found : Option Fault) × IsDescribed contents path image old new found × (status ≡ end_status (Ok found)))
     ⊎ ((fault : CommandFault) × IsDescribeFault image fault
-    × IsRefusedObject contents path (refusals.Fault fault) old new status)
+    × IsRefusedObject contents path fault old new status)
 
 -- one object was printed, that of an image at this path from which this was read
 abbrev pub IsObjectOf : {W : Type 0} → (W → Option (List ℕ)) → List ℕ → Loaded → W → W → ℕ → Type 0

@@ -3,18 +3,18 @@ use Rattle.std.specs.Prelude.{◌≡◌, ◌≢◌, ⊤, ℕ, List, [], ◌∷�
 use Rattle.std.specs.declared.alloc.Global.{Global}
 use Rattle.std.specs.Io.KnownBytes.{Keeps}
 use Rattle.opened_files.specs.Ends.{JobEnd}
-use Rattle.opened_files.specs.declared.refusals.Refusal.{Refusal}
-use Rattle.opened_files.specs.declared.refusals.Refusal.TheVariants as refusals
+use Rattle.command_faults.specs.declared.faults.CommandFault.{CommandFault}
+use Rattle.command_faults.specs.declared.faults.CommandFault.TheVariants as faults
 use Rattle.image_file.specs.paths.Rights.{Rights}
 use Rattle.image_file.specs.paths.Standing.{Stands}
 use Rattle.opened_files.specs.HostFiles.{OfImage}
 
 -- what was read of an image: its bytes, or why there are none
 abbrev pub Loaded : Type 0
-Loaded = Result (List ℕ) Refusal
+Loaded = Result (List ℕ) CommandFault
 
 -- what was read of an image, from what the code holds
-abbrev pub as_loaded : Result (Vec ℕ Global) Refusal → Loaded
+abbrev pub as_loaded : Result (Vec ℕ Global) CommandFault → Loaded
 as_loaded (Ok image) = Ok (vec_items image)
 as_loaded (Err refusal) = Err refusal
 
@@ -44,14 +44,18 @@ pub record AreHandedOn {W : Type 0} (gives : List ℕ → Loaded → Type 0) (pr
   pub each : AreEach gives prints paths old last greatest
   pub handed : Keeps (contents last) (contents new)
 
--- A job over several images ended so: it is done, with this greatest status of theirs. Or the output failed, or there was
--- no memory.
+-- why not all of several images are printed: the output failed, or there was no memory
+abbrev pub IsCutOff : CommandFault → Type 0
+IsCutOff faults.File = ⊤
+IsCutOff faults.NoMemory = ⊤
+IsCutOff _ = ⊥
+
+-- A job over several images ended so: it is done, with this greatest status of theirs. Or they weren't all printed.
 abbrev pub IsSeveralEnd : (ℕ → Type 0) → JobEnd → Type 0
 IsSeveralEnd Done (Ok None) = Done 0
 IsSeveralEnd Done (Ok (Some found)) = ⊥
-IsSeveralEnd Done (Err (refusals.Several greatest)) = (greatest ≢ 0) × Done greatest
-IsSeveralEnd Done (Err (refusals.Fault fault)) = ⊤
-IsSeveralEnd Done (Err _) = ⊥
+IsSeveralEnd Done (Err (faults.Several greatest)) = (greatest ≢ 0) × Done greatest
+IsSeveralEnd Done (Err fault) = IsCutOff fault
 
 module _ {H : Type 0} (rights : Rights H) (stands : H → List ℕ → Stands) (host : H) where
   -- what was read of the image at a path is of the bytes that the host says

@@ -11,26 +11,24 @@ use Rattle.command_faults.specs.declared.faults.CommandFault.{CommandFault}
 use Rattle.command_faults.specs.declared.faults.CommandFault.TheVariants as faults
 use Rattle.opened_files.specs.Ends.{JobEnd}
 use Rattle.opened_files.specs.Losses.{IsSeen}
-use Rattle.opened_files.specs.declared.refusals.Refusal.{Refusal}
-use Rattle.opened_files.specs.declared.refusals.Refusal.TheVariants as refusals
 
 -- why files that were all made aren't whole: their first fault, or that a file is cut short there
-abbrev pub refusal_found : Option Fault → Option Place → Option Refusal
+abbrev pub refusal_found : Option Fault → Option Place → Option CommandFault
 refusal_found None None = None
-refusal_found None (Some p) = Some (refusals.Short p)
-refusal_found (Some fault) cut = Some (refusals.Fault (faults.Layout fault))
+refusal_found None (Some p) = Some (faults.Short p)
+refusal_found (Some fault) cut = Some (faults.Layout fault)
 
 -- why they aren't all made and whole: that, or the fault for which they weren't made
-abbrev pub refusal_of : Result (Option Fault) CommandFault → Option Place → Option Refusal
+abbrev pub refusal_of : Result (Option Fault) CommandFault → Option Place → Option CommandFault
 refusal_of (Ok found) cut = refusal_found found cut
-refusal_of (Err fault) cut = Some (refusals.Fault fault)
+refusal_of (Err fault) cut = Some fault
 
 -- How it is reported whether the job is refused. If it isn't, that is printed, or the output failed
-abbrev pub IsExtractTold : {W : Type 0} → (W → Option (List ℕ)) → Option Refusal → W → W → JobEnd → Type 0
+abbrev pub IsExtractTold : {W : Type 0} → (W → Option (List ℕ)) → Option CommandFault → W → W → JobEnd → Type 0
 IsExtractTold contents (Some refusal) old new end = (end ≡ Err refusal) × (new ≡ old)
 IsExtractTold contents None old new end =
     ((end ≡ Ok None) × Appends (contents old) (contents new) (codes "EXTRACTED\n"))
-    ⊎ ((end ≡ Err (refusals.Fault faults.File)) × AppendsPart (contents old) (contents new) (codes "EXTRACTED\n"))
+    ⊎ ((end ≡ Err faults.File) × AppendsPart (contents old) (contents new) (codes "EXTRACTED\n"))
 
 -- The chosen files of the image were made in the folder, or not all for a fault. That was reported, with what is seen of files
 -- that are cut short; or all were made, and the folder failed as it was kept. Or there was no memory to see that, and nothing
@@ -38,11 +36,11 @@ IsExtractTold contents None old new end =
 abbrev pub IsExtractEnd : {F W : Type 0} → (F → Option (List NewFile)) → (has_failed : F → Type 0) → (W → Option (List ℕ))
     → Choice → (image : List ℕ) → F → F → W → W → JobEnd → Type 0
 IsExtractEnd files has_failed contents choice image folder left old new end =
-    ((end ≡ Err (refusals.Fault faults.NoMemory)) × (left ≡ folder) × (new ≡ old))
+    ((end ≡ Err faults.NoMemory) × (left ≡ folder) × (new ≡ old))
     ⊎ ((ended : Result (Option Fault) CommandFault) × (cut : Option Place)
     × MatchResult ended (IsExtracted files choice image folder left) (IsExtractFault files choice image folder left)
     × IsSeen image cut × (IsExtractTold contents (refusal_of ended cut) old new end
-    ⊎ (IsOk ended × has_failed left × (end ≡ Err (refusals.Fault faults.File)) × (new ≡ old))))
+    ⊎ (IsOk ended × has_failed left × (end ≡ Err faults.File) × (new ≡ old))))
 
 -- the same, if nothing is known of the folder
 abbrev pub IsExtractSaid : {W : Type 0} → (W → Option (List ℕ)) → Choice → (image : List ℕ) → W → W → JobEnd → Type 0
@@ -52,7 +50,7 @@ IsExtractSaid contents choice image old new end =
 -- a run that fills a folder ended so, and its job with it; a folder that was there is refused
 abbrev pub IsFolderEnd : JobEnd → JobEnd → Type 0
 IsFolderEnd (Ok found) end = end ≡ Ok found
-IsFolderEnd (Err refusal) end = (end ≡ Err refusal) ⊎ (end ≡ Err refusals.Exists)
+IsFolderEnd (Err refusal) end = (end ≡ Err refusal) ⊎ (end ≡ Err faults.PathExists)
 
 -- the files of an image were made in a folder that is made, or not, and its job ended so
 abbrev pub IsExtractedTo : {W : Type 0} → (W → Option (List ℕ)) → Choice → (image : List ℕ) → W → W → JobEnd → Type 0

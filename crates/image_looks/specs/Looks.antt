@@ -25,21 +25,21 @@ use Rattle.opened_files.specs.Names.{name_bytes}
 use Rattle.opened_files.specs.declared.losses.Loss.{Loss}
 use Rattle.image_looks.specs.declared.kinds.Look.{Look}
 use Rattle.image_looks.specs.declared.kinds.Look.TheVariants as looks
-use Rattle.opened_files.specs.declared.refusals.Refusal.TheVariants as refusals
+use Rattle.command_faults.specs.declared.faults.CommandFault.TheVariants as faults
 
 -- how it ended that a file was taken out: it is all there is of it, or it is cut short there
 abbrev pub taken_end : Result (Option Place) CommandFault → JobEnd
 taken_end (Ok None) = Ok None
-taken_end (Ok (Some p)) = Err (refusals.Short p)
-taken_end (Err fault) = Err (refusals.Fault fault)
+taken_end (Ok (Some p)) = Err (faults.Short p)
+taken_end (Err fault) = Err fault
 
 -- a file was taken out of an image, and this file is cut short there, or isn't; or it wasn't
 abbrev pub IsTakingEnd : {W : Type 0} → (Taken : W → W → Option Place → Type 0) → (Why : W → W → CommandFault → Type 0)
     → W → W → JobEnd → Type 0
 IsTakingEnd Taken Why old new (Ok None) = Taken old new None
-IsTakingEnd Taken Why old new (Err (refusals.Short p)) = Taken old new (Some p)
-IsTakingEnd Taken Why old new (Err (refusals.Fault fault)) = Why old new fault
-IsTakingEnd Taken Why old new _ = ⊥
+IsTakingEnd Taken Why old new (Ok (Some found)) = ⊥
+IsTakingEnd Taken Why old new (Err (faults.Short p)) = Taken old new (Some p)
+IsTakingEnd Taken Why old new (Err fault) = Why old new fault
 
 module _ {W : Type 0} (contents : W → Option (List ℕ)) where
   -- the records of the file of a name were printed, and it is cut short there, or isn't

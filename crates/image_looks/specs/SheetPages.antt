@@ -5,14 +5,14 @@ use Rattle.disk_pictures.specs.Html.{html_of}
 use Rattle.disk_pictures.specs.Sheets.{refused_tile, sheet_end, sheet_head}
 use Rattle.disk_pictures.specs.Tiles.{IsTilePrinted}
 use Rattle.image_looks.specs.EachImage.{AreEach, Loaded}
-use Rattle.opened_files.specs.Ends.{refusal_status, refusal_text}
-use Rattle.opened_files.specs.declared.refusals.Refusal.{Refusal}
+use Rattle.command_faults.specs.Faults.{command_status, command_text}
+use Rattle.command_faults.specs.declared.faults.CommandFault.{CommandFault}
 
 -- the tile of an image at this path that couldn't be read was printed: it has why
-abbrev pub IsUnreadTile : {W : Type 0} → (W → Option (List ℕ)) → List ℕ → Refusal → W → W → ℕ → Type 0
+abbrev pub IsUnreadTile : {W : Type 0} → (W → Option (List ℕ)) → List ℕ → CommandFault → W → W → ℕ → Type 0
 IsUnreadTile contents path refusal old new status =
-    Appends (contents old) (contents new) (refused_tile html_of path (html_of (refusal_text refusal)))
-    × (status ≡ refusal_status refusal)
+    Appends (contents old) (contents new) (refused_tile html_of path (html_of (command_text refusal)))
+    × (status ≡ command_status refusal)
 
 -- one tile was printed, that of the image at this path of which this was read
 abbrev pub IsTileOf : {W : Type 0} → (W → Option (List ℕ)) → List ℕ → Loaded → W → W → ℕ → Type 0

@@ -3,10 +3,11 @@ ghost use Rattle.image_looks.specs.Comparisons.{IsComparingRun};
 ghost use Rattle.image_looks.specs.LookRuns.{IsComparedOver};
 ghost use Rattle.opened_files.specs.Rights.{MayReadImage};
 
+use command_faults::CommandFault;
 use disk_layout::Fault;
 use disk_pictures::compare_images;
 use image_file::{HostFiles, Locks};
-use opened_files::{Refusal, image_at, job_end};
+use opened_files::image_at;
 use std::alloc::Global;
 use std::fs::OpenFile;
 use std::io::{Read, Write};
@@ -21,10 +22,10 @@ pub fn comparing_run<W: Write>(
     before: &[u8],
     after: &[u8],
     out: &mut W,
-) -> Result<Option<Fault>, Refusal>
+) -> Result<Option<Fault>, CommandFault>
     ensures { IsComparingRun W.contents before.now after.now out.old out.new result }
 {
-    job_end(compare_images(alloc, before, after, out))
+    compare_images(alloc, before, after, out)
 }
 
 /// Compares the images at two paths.
@@ -33,7 +34,7 @@ pub fn do_comparing<F, R, W>(
     before: &str,
     after: &str,
     out: &mut W,
-) -> Result<Option<Fault>, Refusal>
+) -> Result<Option<Fault>, CommandFault>
 where
     F: Read + Locks + OpenFile + Drop,
     R: HostFiles<File = F> + Input + AllocGlobal,

@@ -1,7 +1,7 @@
 //! Images that are read, each described by an object of JSON.
-ghost use Rattle.std.specs.Prelude.{All, IfOk, map};
+ghost use Rattle.std.specs.Prelude.{All, IfOk, map, IfErr};
 ghost use Rattle.image_looks.specs.Descriptions.{IsImageObject, IsObjectOf, IsRefusedObject};
-ghost use Rattle.image_looks.specs.EachImage.{as_loaded};
+ghost use Rattle.image_looks.specs.EachImage.{IsCutOff, as_loaded};
 ghost use Rattle.image_looks.specs.LookRuns.{AreDescribed};
 ghost use Rattle.opened_files.specs.Rights.{MayLook, MayReadImage};
 
@@ -10,18 +10,24 @@ use command_faults::CommandFault;
 use disk_layout::Fault;
 use disk_reports::{describe_image, describe_refusal};
 use image_file::{HostFiles, Locks};
-use opened_files::{Refusal, size_of};
+use opened_files::size_of;
 use std::fs::OpenFile;
 use std::io::{Read, Write};
 
 /// Prints the object of the image at a path that is refused, with what the command would print of it alone. Returns its
 /// exit status.
-fn put_refusal<R, W>(rt: &R, path: &str, refusal: Refusal, out: &mut W) -> Result<u8, CommandFault>
+fn put_refusal<R, W>(
+    rt: &R,
+    path: &str,
+    refusal: CommandFault,
+    out: &mut W,
+) -> Result<u8, CommandFault>
 where
     R: HostFiles + AllocGlobal,
     W: Write,
     requires { MayLook R.rights rt.now path.now }
     ensures ok { IfOk result (IsRefusedObject W.contents path.now refusal out.old out.new) }
+    ensures err { IfErr result IsCutOff }
 {
     let Ok(why) = format!(in rt.alloc(); "{refusal}") else {
         return Err(CommandFault::NoMemory);
@@ -40,12 +46,13 @@ where
     W: Write,
     requires { MayLook R.rights rt.now path.now }
     ensures ok { IfOk result (IsImageObject W.contents path.now image.now out.old out.new) }
+    ensures err { IfErr result IsCutOff }
 {
     match describe_image(rt.alloc(), path.as_bytes(), image, out) {
         Ok(None) => Ok(0),
         Ok(Some(_)) => Ok(1),
         Err(CommandFault::File) => Err(CommandFault::File),
-        Err(fault) => put_refusal(rt, path, Refusal::Fault(fault), out),
+        Err(fault) => put_refusal(rt, path, fault, out),
     }
 }
 
@@ -54,7 +61,7 @@ where
 fn put_object_of<R, W>(
     rt: &R,
     path: &str,
-    read: Result<Vec<u8>, Refusal>,
+    read: Result<Vec<u8>, CommandFault>,
     out: &mut W,
 ) -> Result<u8, CommandFault>
 where
@@ -62,6 +69,7 @@ where
     W: Write,
     requires { MayLook R.rights rt.now path.now }
     ensures ok { IfOk result (IsObjectOf W.contents path.now (as_loaded read) out.old out.new) }
+    ensures err { IfErr result IsCutOff }
 {
     match read {
         Ok(image) => put_object(rt, path, image.as_slice(), out),
@@ -80,7 +88,7 @@ impl<R: HostFiles + AllocGlobal, W: Write> PrintsImage<R, W> for Described {
         &self,
         rt: &R,
         path: &str,
-        read: Result<Vec<u8>, Refusal>,
+        read: Result<Vec<u8>, CommandFault>,
         out: &mut W,
     ) -> Result<u8, CommandFault> {
         put_object_of(rt, path, read, out)
@@ -92,7 +100,11 @@ impl<R: HostFiles + AllocGlobal, W: Write> PrintsImage<R, W> for Described {
 ///
 /// `Several`: an image has a fault or is refused, as the output says. `File` if the output failed, and `NoMemory`: the
 /// images after that one aren't read.
-pub fn do_describing<F, R, W>(rt: &R, paths: &[&str], out: &mut W) -> Result<Option<Fault>, Refusal>
+pub fn do_describing<F, R, W>(
+    rt: &R,
+    paths: &[&str],
+    out: &mut W,
+) -> Result<Option<Fault>, CommandFault>
 where
     F: Read + Locks + OpenFile + Drop,
     R: HostFiles<File = F> + Input + AllocGlobal,
@@ -100,8 +112,6 @@ where
     requires { All (λ path. MayReadImage R.rights rt.now path.now) paths.now }
     ensures { AreDescribed R.rights R.stands W.contents rt.now (map (λ path. path.now) paths.now) out.old out.new result }
 {
-    match print_each(rt, &Described, paths, out) {
-        Ok(greatest) => several_end(greatest, out),
-        Err(fault) => Err(Refusal::Fault(fault)),
-    }
+    let greatest = print_each(rt, &Described, paths, out)?;
+    several_end(greatest, out)
 }

@@ -1,13 +1,13 @@
 //! Several images, each read as if it were alone, in their order.
-ghost use Rattle.std.specs.Prelude.{List, ℕ, All, IfOk, map, ◌≡◌};
-ghost use Rattle.image_looks.specs.EachImage.{AreEach, IsOneFrom, Loaded, as_loaded, IsReadAt, IsSeveralEnd};
+ghost use Rattle.std.specs.Prelude.{List, ℕ, All, IfOk, map, ◌≡◌, IfErr};
+ghost use Rattle.image_looks.specs.EachImage.{IsCutOff, AreEach, IsOneFrom, Loaded, as_loaded, IsReadAt, IsSeveralEnd};
 ghost use Rattle.opened_files.specs.Rights.{MayReadImage};
 ghost use Rattle.std.specs.Io.KnownBytes.{Keeps};
 
 use command_faults::CommandFault;
 use disk_layout::Fault;
 use image_file::{HostFiles, Locks};
-use opened_files::{Refusal, image_at};
+use opened_files::image_at;
 use std::fs::OpenFile;
 use std::io::{self, Read, Write};
 
@@ -22,11 +22,12 @@ pub(crate) trait PrintsImage<R: HostFiles + AllocGlobal, W: Write> {
         &self,
         rt: &R,
         path: &str,
-        read: Result<Vec<u8>, Refusal>,
+        read: Result<Vec<u8>, CommandFault>,
         out: &mut W,
     ) -> Result<u8, CommandFault>
         requires { MayReadImage R.rights rt.now path.now }
-        ensures ok { IfOk result (prints self.now path.now (as_loaded read) out.old out.new) };
+        ensures ok { IfOk result (prints self.now path.now (as_loaded read) out.old out.new) }
+        ensures err { IfErr result IsCutOff };
 }
 
 /// Prints what is asked of the image at a path, and returns its exit status.
@@ -39,6 +40,7 @@ where
     requires { MayReadImage R.rights rt.now path.now }
     ensures ok { IfOk result
         (IsOneFrom (IsReadAt R.rights R.stands rt.now) (P.prints what.now) path.now out.old out.new) }
+    ensures err { IfErr result IsCutOff }
 {
     what.print(rt, path, image_at(rt, path), out)
 }
@@ -60,6 +62,7 @@ where
     requires { All (λ path. MayReadImage R.rights rt.now path.now) paths.now }
     ensures ok { IfOk result (AreEach (IsReadAt R.rights R.stands rt.now) (P.prints what.now)
         (map (λ path. path.now) paths.now) out.old out.new) }
+    ensures err { IfErr result IsCutOff }
 {
     let mut greatest = 0;
     for path in paths {
@@ -70,21 +73,24 @@ where
 }
 
 /// The end of a job over several images, with the greatest exit status of theirs. `Several` if that isn't 0.
-pub(crate) fn status_end(greatest: u8) -> Result<Option<Fault>, Refusal>
+pub(crate) fn status_end(greatest: u8) -> Result<Option<Fault>, CommandFault>
     ensures { IsSeveralEnd (λ n. n ≡ greatest) result }
 {
     match greatest {
         0 => Ok(None),
-        _ => Err(Refusal::Several(greatest)),
+        _ => Err(CommandFault::Several(greatest)),
     }
 }
 
 /// The same once the output has handed on what it held back. `File` if it failed.
-pub(crate) fn several_end<W: Write>(greatest: u8, out: &mut W) -> Result<Option<Fault>, Refusal>
+pub(crate) fn several_end<W: Write>(
+    greatest: u8,
+    out: &mut W,
+) -> Result<Option<Fault>, CommandFault>
     ensures { IsSeveralEnd (λ n. (n ≡ greatest) × Keeps (W.contents out.old) (W.contents out.new)) result }
 {
     match out.flush() {
-        Err(_) => Err(Refusal::Fault(CommandFault::File)),
+        Err(_) => Err(CommandFault::File),
         Ok(()) => status_end(greatest),
     }
 }

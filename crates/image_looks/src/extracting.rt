@@ -12,21 +12,21 @@ use d64_image::Place;
 use disk_layout::Fault;
 use image_file::{EndedFile, HostFiles, Locks};
 use keeper_commands::{Choice, extract_image};
-use opened_files::{Refusal, cut_in, image_at, run_end, told};
+use opened_files::{cut_in, image_at, run_end};
 use shop_commands::put_whole;
 use std::alloc::Global;
 use std::fs::OpenFile;
 use std::io::{self, Read, Write};
 
 /// Why files that were all made aren't whole: their first fault, or that a file is cut short there.
-fn found_refusal(found: Option<Fault>, cut: Option<Place>) -> Option<Refusal>
+fn found_refusal(found: Option<Fault>, cut: Option<Place>) -> Option<CommandFault>
     ensures { result ≡ refusal_found found cut }
 {
     if let Some(fault) = found {
-        return Some(Refusal::Fault(CommandFault::Layout(fault)));
+        return Some(CommandFault::Layout(fault));
     }
     match cut {
-        Some(place) => Some(Refusal::Short(place)),
+        Some(place) => Some(CommandFault::Short(place)),
         None => None,
     }
 }
@@ -36,17 +36,20 @@ fn found_refusal(found: Option<Fault>, cut: Option<Place>) -> Option<Refusal>
 fn extract_refusal(
     ended: Result<Option<Fault>, CommandFault>,
     cut: Option<Place>,
-) -> Option<Refusal>
+) -> Option<CommandFault>
     ensures { result ≡ refusal_of ended cut }
 {
     match ended {
         Ok(found) => found_refusal(found, cut),
-        Err(fault) => Some(Refusal::Fault(fault)),
+        Err(fault) => Some(fault),
     }
 }
 
 /// Prints `EXTRACTED`, unless the job is refused. Returns how it ended.
-fn tell_extracted<W: Write>(refused: Option<Refusal>, out: &mut W) -> Result<Option<Fault>, Refusal>
+fn tell_extracted<W: Write>(
+    refused: Option<CommandFault>,
+    out: &mut W,
+) -> Result<Option<Fault>, CommandFault>
     ensures { IsExtractTold W.contents refused out.old out.new result }
 {
     if let Some(refusal) = refused {
@@ -83,7 +86,7 @@ pub fn extract_run<N: KeptFolder, W: Write>(
     image: &[u8],
     folder: &mut N,
     out: &mut W,
-) -> Result<Option<Fault>, Refusal>
+) -> Result<Option<Fault>, CommandFault>
     ensures run { IsExtractEnd N.files N.HasFailed W.contents choice image.now folder.old folder.new out.old out.new result }
     ensures kept { OnOk result (N.IsKept folder.new) }
 {
@@ -91,19 +94,19 @@ pub fn extract_run<N: KeptFolder, W: Write>(
     let ended = extract_image(alloc, choice, image, folder);
     match keep_made(&ended, folder) {
         Ok(()) => tell_extracted(extract_refusal(ended, cut), out),
-        Err(fault) => Err(Refusal::Fault(fault)),
+        Err(fault) => Err(fault),
     }
 }
 
 /// The end of a job that fills a folder. If it isn't done, and something stood at the folder's path, that is why.
 fn folder_end(
-    ended: Result<Option<Fault>, Refusal>,
+    ended: Result<Option<Fault>, CommandFault>,
     has_stood: bool,
-) -> Result<Option<Fault>, Refusal>
+) -> Result<Option<Fault>, CommandFault>
     ensures { IsFolderEnd ended result }
 {
     match ended {
-        Err(_) if has_stood => Err(Refusal::Exists),
+        Err(_) if has_stood => Err(CommandFault::PathExists),
         ended => ended,
     }
 }
@@ -116,7 +119,7 @@ fn extract_to<F, R, W>(
     path: &str,
     folder: &str,
     out: &mut W,
-) -> Result<Option<Fault>, Refusal>
+) -> Result<Option<Fault>, CommandFault>
 where
     F: EndedFile + Read + Locks + OpenFile + Drop,
     R: HostFiles<File = F> + Input + AllocGlobal,
@@ -155,11 +158,11 @@ fn slashless(alloc: Global, path: &str) -> io::Result<Option<&str>>
 }
 
 /// The same, or why a job isn't begun that needs it: `NoMemory`.
-fn front_of(alloc: Global, path: &str) -> Result<Option<&str>, Refusal>
+fn front_of(alloc: Global, path: &str) -> Result<Option<&str>, CommandFault>
     ensures ok { IfOk result (λ front. IfSome front (λ front. path.now ≡ front.now ++ codes "/")) }
     ensures err { IfErr result IsUnbegun }
 {
-    told(slashless(alloc, path))
+    Ok(slashless(alloc, path)?)
 }
 
 /// The same of a folder whose path may end with a slash.
@@ -169,7 +172,7 @@ pub fn do_extracting<F, R, W>(
     path: &str,
     folder: &str,
     out: &mut W,
-) -> Result<Option<Fault>, Refusal>
+) -> Result<Option<Fault>, CommandFault>
 where
     F: EndedFile + Read + Locks + OpenFile + Drop,
     R: HostFiles<File = F> + Input + AllocGlobal,

@@ -15,7 +15,7 @@ use disk_pictures::{free_image, map_image, picture_image, poster_image, sector_i
 use disk_reports::{check_image, list_faults, list_image};
 use image_file::{HostFiles, Locks};
 use keeper_commands::{Candidates, RecordForm, bytes_image, records_image, unclosed_records_image};
-use opened_files::{Loss, Refusal, image_at, job_end, run_end, see_log_away};
+use opened_files::{Loss, image_at, run_end, see_log_away};
 use shop_commands::show_image;
 use std::alloc::Global;
 use std::fs::OpenFile;
@@ -37,13 +37,13 @@ fn faults_image<W: Write>(
 }
 
 /// How it ended that a file was taken out: it is all there is of it, or it is cut short there.
-fn taken_end(ended: Result<Option<Place>, CommandFault>) -> Result<Option<Fault>, Refusal>
+fn taken_end(ended: Result<Option<Place>, CommandFault>) -> Result<Option<Fault>, CommandFault>
     ensures { result ≡ end_of ended }
 {
     match ended {
         Ok(None) => Ok(None),
-        Ok(Some(place)) => Err(Refusal::Short(place)),
-        Err(fault) => Err(Refusal::Fault(fault)),
+        Ok(Some(place)) => Err(CommandFault::Short(place)),
+        Err(fault) => Err(fault),
     }
 }
 
@@ -53,7 +53,7 @@ fn print_shop<W: Write>(
     image: &[u8],
     loss: Loss,
     out: &mut W,
-) -> Result<Option<Fault>, Refusal>
+) -> Result<Option<Fault>, CommandFault>
     ensures { IsShowEnd W.contents loss image.now out.old out.new result }
 {
     see_log_away(image, loss)?;
@@ -90,17 +90,17 @@ pub fn look<W: Write>(
     what: &Look,
     image: &[u8],
     out: &mut W,
-) -> Result<Option<Fault>, Refusal>
+) -> Result<Option<Fault>, CommandFault>
     ensures { IsLook W.contents what.now image.now out.old out.new result }
 {
     match *what {
         Look::List(form) => run_end(list_image(alloc, image, form, out)),
-        Look::Check => job_end(check_image(alloc, image, out)),
-        Look::Faults => job_end(faults_image(alloc, image, out)),
+        Look::Check => check_image(alloc, image, out),
+        Look::Faults => faults_image(alloc, image, out),
         Look::Show(loss) => print_shop(alloc, image, loss, out),
-        Look::Map => job_end(map_image(alloc, image, out)),
-        Look::Picture => job_end(picture_image(alloc, image, out)),
-        Look::Poster => job_end(poster_image(alloc, image, out)),
+        Look::Map => map_image(alloc, image, out),
+        Look::Picture => picture_image(alloc, image, out),
+        Look::Poster => poster_image(alloc, image, out),
         Look::Free => run_end(free_image(alloc, image, out)),
         Look::Sector(place) => run_end(sector_image(alloc, image, place, out)),
         Look::Records {
@@ -122,7 +122,7 @@ pub fn do_look<F, R, W>(
     what: &Look,
     path: &str,
     out: &mut W,
-) -> Result<Option<Fault>, Refusal>
+) -> Result<Option<Fault>, CommandFault>
 where
     F: Read + Locks + OpenFile + Drop,
     R: HostFiles<File = F> + Input + AllocGlobal,

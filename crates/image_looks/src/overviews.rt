@@ -2,7 +2,7 @@
 ghost use Rattle.std.specs.Prelude.{◌≡◌, IfErr, IfOk, OnOk, vec_items, All, map};
 ghost use Rattle.std.specs.Io.KnownBytes.{Appends};
 ghost use Rattle.command_faults.specs.declared.faults.CommandFault.TheVariants as faults;
-ghost use Rattle.image_looks.specs.EachImage.{as_loaded};
+ghost use Rattle.image_looks.specs.EachImage.{IsCutOff, as_loaded};
 ghost use Rattle.image_looks.specs.LookRuns.{AreOverviewed};
 ghost use Rattle.image_looks.specs.Overviews.{IsOneOfSeveral, IsOverviewOf, IsToldAs};
 ghost use Rattle.line_text.specs.Named.{named};
@@ -15,7 +15,7 @@ use command_faults::CommandFault;
 use disk_layout::Fault;
 use image_file::{HostFiles, Locks, ShownPath};
 use line_text::put_named;
-use opened_files::{Refusal, end};
+use opened_files::end;
 use std::alloc::Global;
 use std::fs::OpenFile;
 use std::io::{Read, Write};
@@ -39,7 +39,7 @@ fn put_text<W: Write>(name: &[u8], text: &[u8], out: &mut W) -> Result<(), Comma
 fn tell_named<W: Write>(
     name: &[u8],
     mut text: Vec<u8>,
-    ended: Result<Option<Fault>, Refusal>,
+    ended: Result<Option<Fault>, CommandFault>,
     out: &mut W,
 ) -> Result<u8, CommandFault>
     ensures ok { IfOk result (IsToldAs W.contents name.now (vec_items text) ended out.old out.new) }
@@ -66,6 +66,7 @@ pub fn overview_run<W: Write>(
     out: &mut W,
 ) -> Result<u8, CommandFault>
     ensures ok { IfOk result (IsOneOfSeveral W.contents what.now name.now image.now out.old out.new) }
+    ensures err { IfErr result IsCutOff }
 {
     let mut text = match Vec::with_capacity(alloc, ROOM) {
         Ok(text) => text,
@@ -81,10 +82,11 @@ fn overview_of<W: Write>(
     alloc: Global,
     what: &Look,
     path: &str,
-    read: Result<Vec<u8>, Refusal>,
+    read: Result<Vec<u8>, CommandFault>,
     out: &mut W,
 ) -> Result<u8, CommandFault>
     ensures ok { IfOk result (IsOverviewOf W.contents what.now path.now (as_loaded read) out.old out.new) }
+    ensures err { IfErr result IsCutOff }
 {
     let Ok(name) = format!(in alloc; "{}", ShownPath(path)) else {
         return Err(CommandFault::NoMemory);
@@ -106,7 +108,7 @@ impl<R: HostFiles + AllocGlobal, W: Write> PrintsImage<R, W> for Named<'_> {
         &self,
         rt: &R,
         path: &str,
-        read: Result<Vec<u8>, Refusal>,
+        read: Result<Vec<u8>, CommandFault>,
         out: &mut W,
     ) -> Result<u8, CommandFault> {
         overview_of(rt.alloc(), self.0, path, read, out)
@@ -123,7 +125,7 @@ pub fn do_several<F, R, W>(
     what: &Look,
     paths: &[&str],
     out: &mut W,
-) -> Result<Option<Fault>, Refusal>
+) -> Result<Option<Fault>, CommandFault>
 where
     F: Read + Locks + OpenFile + Drop,
     R: HostFiles<File = F> + Input + AllocGlobal,
@@ -132,8 +134,6 @@ where
     ensures { AreOverviewed R.rights R.stands W.contents rt.now what.now (map (λ path. path.now) paths.now)
         out.old out.new result }
 {
-    match print_each(rt, &Named(what), paths, out) {
-        Ok(greatest) => several_end(greatest, out),
-        Err(fault) => Err(Refusal::Fault(fault)),
-    }
+    let greatest = print_each(rt, &Named(what), paths, out)?;
+    several_end(greatest, out)
 }

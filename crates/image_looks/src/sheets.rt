@@ -1,6 +1,6 @@
 //! A contact sheet of images, each read as if it were alone.
-ghost use Rattle.std.specs.Prelude.{All, IfOk, map};
-ghost use Rattle.image_looks.specs.EachImage.{as_loaded, IsReadAt};
+ghost use Rattle.std.specs.Prelude.{All, IfOk, map, IfErr};
+ghost use Rattle.image_looks.specs.EachImage.{IsCutOff, as_loaded, IsReadAt};
 ghost use Rattle.image_looks.specs.SheetPages.{IsSheetPrinted, IsTileOf, IsUnreadTile};
 ghost use Rattle.image_looks.specs.LookRuns.{AreDrawnOnSheet};
 ghost use Rattle.opened_files.specs.Rights.{MayReadImage};
@@ -10,7 +10,6 @@ use command_faults::CommandFault;
 use disk_layout::Fault;
 use disk_pictures::{sheet_begin, sheet_finish, sheet_refusal, sheet_tile};
 use image_file::{HostFiles, Locks};
-use opened_files::Refusal;
 use std::alloc::Global;
 use std::fs::OpenFile;
 use std::io::{Read, Write};
@@ -20,10 +19,11 @@ use std::io::{Read, Write};
 fn put_unread<W: Write>(
     alloc: Global,
     path: &str,
-    refusal: Refusal,
+    refusal: CommandFault,
     out: &mut W,
 ) -> Result<u8, CommandFault>
     ensures ok { IfOk result (IsUnreadTile W.contents path.now refusal out.old out.new) }
+    ensures err { IfErr result IsCutOff }
 {
     let Ok(told) = format!(in alloc; "{refusal}") else {
         return Err(CommandFault::NoMemory);
@@ -39,10 +39,11 @@ fn put_unread<W: Write>(
 fn put_tile_of<W: Write>(
     alloc: Global,
     path: &str,
-    read: Result<Vec<u8>, Refusal>,
+    read: Result<Vec<u8>, CommandFault>,
     out: &mut W,
 ) -> Result<u8, CommandFault>
     ensures ok { IfOk result (IsTileOf W.contents path.now (as_loaded read) out.old out.new) }
+    ensures err { IfErr result IsCutOff }
 {
     match read {
         Ok(image) => sheet_tile(alloc, path, image.as_slice(), out),
@@ -61,7 +62,7 @@ impl<R: HostFiles + AllocGlobal, W: Write> PrintsImage<R, W> for Tiled {
         &self,
         rt: &R,
         path: &str,
-        read: Result<Vec<u8>, Refusal>,
+        read: Result<Vec<u8>, CommandFault>,
         out: &mut W,
     ) -> Result<u8, CommandFault> {
         put_tile_of(rt.alloc(), path, read, out)
@@ -77,6 +78,7 @@ where
     requires { All (λ path. MayReadImage R.rights rt.now path.now) paths.now }
     ensures ok { IfOk result (IsSheetPrinted (IsReadAt R.rights R.stands rt.now) W.contents
         (map (λ path. path.now) paths.now) out.old out.new) }
+    ensures err { IfErr result IsCutOff }
 {
     sheet_begin(out, paths.len())?;
     let greatest = print_each(rt, &Tiled, paths, out)?;
@@ -88,7 +90,7 @@ where
 /// it is read, and one image is in memory at a time.
 ///
 /// `Several`: an image has a fault or is refused, as its tile says. `File` if the output failed, and `NoMemory`.
-pub fn do_sheet<F, R, W>(rt: &R, paths: &[&str], out: &mut W) -> Result<Option<Fault>, Refusal>
+pub fn do_sheet<F, R, W>(rt: &R, paths: &[&str], out: &mut W) -> Result<Option<Fault>, CommandFault>
 where
     F: Read + Locks + OpenFile + Drop,
     R: HostFiles<File = F> + Input + AllocGlobal,
@@ -96,8 +98,6 @@ where
     requires { All (λ path. MayReadImage R.rights rt.now path.now) paths.now }
     ensures { AreDrawnOnSheet R.rights R.stands W.contents rt.now (map (λ path. path.now) paths.now) out.old out.new result }
 {
-    match put_sheet(rt, paths, out) {
-        Ok(greatest) => status_end(greatest),
-        Err(fault) => Err(Refusal::Fault(fault)),
-    }
+    let greatest = put_sheet(rt, paths, out)?;
+    status_end(greatest)
 }

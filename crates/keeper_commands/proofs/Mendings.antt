@@ -78,22 +78,7 @@ pub by-tell : {D : Type 0} (S : History D) (a b : D) (P : CommandFault → Type 
     → (fault : CommandFault) → TellsKeep {T = Unit} S a b (Err fault) → P fault
 by-tell S a b P file device faults.File told = file told
 by-tell S a b P file device faults.Device told = device told
-by-tell S a b P file device faults.ImageSize told = absurd told
-by-tell S a b P file device faults.NoMemory told = absurd told
-by-tell S a b P file device (faults.Layout fault) told = absurd told
-by-tell S a b P file device faults.NoFile told = absurd told
-by-tell S a b P file device faults.FileExists told = absurd told
-by-tell S a b P file device faults.DiskFull told = absurd told
-by-tell S a b P file device faults.Locked told = absurd told
-by-tell S a b P file device faults.NoStock told = absurd told
-by-tell S a b P file device faults.NoRequests told = absurd told
-by-tell S a b P file device (faults.BadCard item) told = absurd told
-by-tell S a b P file device (faults.BadRequestCard till) told = absurd told
-by-tell S a b P file device faults.TwoIntents told = absurd told
-by-tell S a b P file device (faults.ScriptLine line) told = absurd told
-by-tell S a b P file device (faults.RecordsLine line) told = absurd told
-by-tell S a b P file device faults.Geos told = absurd told
-by-tell S a b P file device faults.Format told = absurd told
+by-tell S a b P file device _ told = absurd told
 
 -- what a call tells behind others that met no failure
 pub tells-after : {D T : Type 0} (S : History D) (a b c : D) (r : Result T CommandFault) → S.failures b ≡ S.failures a

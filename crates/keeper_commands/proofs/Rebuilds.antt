@@ -54,9 +54,7 @@ module _ {D : Type 0} (S : History D) (image : List ℕ) (a : D) where
     left w (faults.Unclosed p) (same, holds) = (size, plain, holds, same, refl)
     left w (faults.BadSide p) (same, holds) = (size, plain, holds, same, refl)
     left w (faults.BadLength p) (same, holds) = (size, plain, holds, same, refl)
-    left w (faults.CountWrong p) (same, holds) = absurd holds
-    left w (faults.MapWrong p) (same, holds) = absurd holds
-    left w (faults.Device p) (same, holds) = absurd holds
+    left w _ (same, holds) = absurd holds
 
     pub unrebuilt : {W : Type 0} (w : W) (fault : Fault) → RefusesSides S a b (Err fault)
         → IsRebuildFault S image a b w w (repair_fault fault)

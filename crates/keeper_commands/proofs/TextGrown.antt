@@ -24,7 +24,7 @@ use Rattle.rel_records.specs.declared.rel_file.RelFile.{RelFile}
 use Rattle.rel_records.specs.growth.Growth.{IsFull, growth_writes, records_had}
 use Rattle.line_text.specs.scripts.Lines.{lines}
 use Rattle.keeper_commands.proofs.Reached.{not-too-large}
-use Rattle.keeper_commands.specs.Faults.{keep_fault}
+use Rattle.command_faults.specs.Faults.{record_fault}
 use Rattle.keeper_commands.specs.Refusals.{IsLeft}
 use Rattle.keeper_commands.specs.Stores.{AreLinesOf, IsFirstBad, NewRecord, TellsLast}
 use Rattle.keeper_commands.specs.Stores.{greatest, last_ones}
@@ -32,7 +32,7 @@ use Rattle.keeper_commands.specs.Storing.{IsStoreFault, IsStoreRun, IsStoring}
 use Rattle.command_faults.specs.declared.faults.CommandFault.TheVariants as faults
 
 -- a call on a relative file never fails as an output does
-pub no-output : (fault : RelFault) → keep_fault fault ≢ faults.File
+pub no-output : (fault : RelFault) → record_fault fault ≢ faults.File
 no-output rel.NotFound = λ e. cc
 no-output rel.Device = λ e. cc
 no-output rel.Exists = λ e. cc
@@ -61,7 +61,7 @@ module _ {D W : Type 0} (S : History D) (image name text : List ℕ) (a b : D) (
   no-other e x y told = ⊎_elim x y told
 
   pub find-refused : (fault : RelFault) → FindsFile S a b name (Err fault)
-      → IsStoreFault S image name text a b o o (keep_fault fault)
+      → IsStoreFault S image name text a b o o (record_fault fault)
   find-refused rel.NotFound found = not-found found
   find-refused rel.Device found = (found.failures, inl (left b tt (reads_no_write S a b 702 found.reads)))
   find-refused rel.Exists found = absurd (no-other rel.Exists (λ e. cc) (λ e. cc) found.told)
@@ -159,7 +159,7 @@ module _ {D W : Type 0} (S : History D) (image name text : List ℕ) (a b : D) (
 
       -- the device failed while the file grew, or there is no room
       pub grow-refused : (e : RelFault) → Grows S b c v w (greatest xs) (Err e)
-          → IsStoreFault S image name text a c o o (keep_fault e)
+          → IsStoreFault S image name text a c o o (record_fault e)
       grow-refused rel.Full grows = no-room grows
       grow-refused rel.Device grows =
           (failed_later S a b c found.failures grows.failures, inr (run-over c (growing grows) (growing-whole grows)))

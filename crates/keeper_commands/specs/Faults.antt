@@ -4,17 +4,8 @@ use Rattle.d64_image.specs.Images.{Image}
 use Rattle.d64_image.specs.declared.place.Place.{Place}
 use Rattle.damaged_files.specs.cut.Told.{IsToldOfDisk}
 use Rattle.disk_layout.specs.declared.faults.Fault.{Fault}
-use Rattle.rel_records.specs.declared.faults.RelFault.{RelFault}
-use Rattle.rel_records.specs.declared.faults.RelFault.TheVariants.{Exists, Full, NotFound}
 use Rattle.command_faults.specs.declared.faults.CommandFault.{CommandFault}
 use Rattle.command_faults.specs.declared.faults.CommandFault.TheVariants as faults
-
--- what is reported if a call on a relative file isn't done for this fault
-abbrev pub keep_fault : RelFault → CommandFault
-keep_fault NotFound = faults.NoFile
-keep_fault Exists = faults.FileExists
-keep_fault Full = faults.DiskFull
-keep_fault fault = faults.Device
 
 -- how the printing of a file ends that is the used entry of this number, and has this fault, or none: with the place where
 -- it is cut short, if it is, or with its fault

@@ -5,7 +5,6 @@
 mod byte_printing;
 mod chains;
 mod column_lines;
-mod faults;
 mod finding;
 mod forms;
 mod judging;

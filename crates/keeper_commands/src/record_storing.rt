@@ -3,7 +3,6 @@ ghost use Rattle.std.specs.Prelude.{◌≡◌, IfErr, OnOk};
 ghost use Rattle.d64_image.specs.Memory.{sectors_in};
 ghost use Rattle.keeper_commands.specs.Storing.{IsStoreDone, IsStoreFault, IsStorePart};
 
-use crate::faults::refusal;
 use crate::judging::judge;
 use crate::last_lines::LastLines;
 use crate::loading::check_image;
@@ -48,14 +47,9 @@ pub fn store_image<D: Sectors, W: Write>(
 {
     check_image(alloc, image)?;
     let mut last = LastLines::none(alloc)?;
-    let mut file = match find(disk, name) {
-        Ok(file) => file,
-        Err(fault) => return Err(refusal(fault)),
-    };
+    let mut file = find(disk, name)?;
     let most = judge(text, &file, &mut last)?;
-    if let Err(fault) = grow_to(disk, &mut file, most) {
-        return Err(refusal(fault));
-    }
+    grow_to(disk, &mut file, most)?;
     store_lines(disk, &mut file, text, &last, out)?;
     flush(out)
 }

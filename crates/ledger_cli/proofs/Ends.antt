@@ -3,7 +3,7 @@ use Rattle.std.proofs.Common.{Err, List, Ok, Option, Result, refl, subst, sym, �
 use Rattle.std.proofs.Math.Seq.{take-length}
 use Rattle.std.specs.Prelude.{◌≡◌, IfErr, IsOk, OnErr, OnOk, length}
 use Rattle.std.specs.Io.KnownBytes.{Appends}
-use Rattle.host_session.specs.declared.events.sinks.NotTaken.{NotTaken}
+use Rattle.line_text.specs.declared.handing.NotTaken.{NotTaken}
 use Rattle.line_text.specs.Handed.{AppendsPart}
 use Rattle.opened_files.specs.Ends.{JobEnd, refusal_line}
 use Rattle.ledger_cli.specs.Runs.{IsEndTold}

@@ -6,7 +6,6 @@ use Rattle.ledger_cli.specs.Runs.{IsOverFile}
 use Rattle.ledger_cli.specs.Streams.{IsBegun, WhyUnbegun, stream_file}
 use Rattle.command_faults.specs.declared.faults.CommandFault.{CommandFault}
 use Rattle.opened_files.specs.Ends.{JobEnd}
-use Rattle.opened_files.specs.declared.refusals.Refusal.TheVariants as refusals
 
 module _ {F W : Type 0} (image : List ℕ) (file after : Option F) (old new : W) (end : JobEnd)
     (P : DeviceAsFile (Mirror F) → DeviceAsFile (Mirror F) → Type 0) where
@@ -17,6 +16,6 @@ module _ {F W : Type 0} (image : List ℕ) (file after : Option F) (old new : W)
       inr (record { before = before; left = left; begun = begun.0; is_file = begun.1; is_left = is; run = run })
 
   -- it wasn't begun
-  pub unbegun : (fault : CommandFault) → end ≡ Err (refusals.Fault fault) → (after ≡ file) × WhyUnbegun image file fault
+  pub unbegun : (fault : CommandFault) → end ≡ Err fault → (after ≡ file) × WhyUnbegun image file fault
       → new ≡ old → IsOverFile image file after old new end P
   unbegun fault is why silent = inl (record { fault = fault; is = is; why = why.1; same = why.0; silent = silent })

@@ -9,7 +9,7 @@ use Rattle.host_session.specs.shop.Shop.{IsShop, Shop}
 use Rattle.shop_commands.specs.Plays.{IsFileFault, IsPlayEnd, IsPlayedOver, IsUntouched}
 use Rattle.command_faults.specs.declared.faults.CommandFault.{CommandFault}
 use Rattle.command_faults.specs.declared.faults.CommandFault.TheVariants as faults
-use Rattle.opened_files.specs.Ends.{Ended}
+use Rattle.opened_files.specs.Ends.{JobEnd}
 use Rattle.shop_jobs.specs.Runs.{IsPlayRun}
 
 -- a run of a script on a shop, once what it told is handed on
@@ -41,21 +41,9 @@ module _ {F T : Type 0} (K : Keeps F) (o : Output T) (image script : List ℕ) (
   fault_reached (faults.ScriptLine line) x = untouched x.2
   fault_reached faults.File x = over_err faults.File x.1
   fault_reached faults.Device x = ⊎_elim over_ok (λ y. over_err y.0 y.1) x.1
-  fault_reached (faults.Layout f) x = untouched x.2
-  fault_reached faults.NoStock x = untouched x.2
-  fault_reached faults.NoRequests x = untouched x.2
-  fault_reached (faults.BadCard r) x = untouched x.2
-  fault_reached (faults.BadRequestCard t) x = untouched x.2
-  fault_reached faults.TwoIntents x = untouched x.2
-  fault_reached faults.NoFile x = untouched x.2
-  fault_reached faults.FileExists x = untouched x.2
-  fault_reached faults.DiskFull x = untouched x.2
-  fault_reached faults.Locked x = untouched x.2
-  fault_reached (faults.RecordsLine line) x = untouched x.2
-  fault_reached faults.Geos x = untouched x.2
-  fault_reached faults.Format x = untouched x.2
+  fault_reached _ x = untouched x.2
 
   -- however the play ended
-  pub played_reached : (ended : Ended) → IsPlayRun K o image script file after old new ended → K.reached file after
+  pub played_reached : (ended : JobEnd) → IsPlayRun K o image script file after old new ended → K.reached file after
   played_reached (Ok printed) x = over_ok x.done.1.1
   played_reached (Err fault) x = fault_reached fault x.fault

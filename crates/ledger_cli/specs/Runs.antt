@@ -10,7 +10,7 @@ use Rattle.line_text.specs.Handed.{AppendsPart}
 use Rattle.command_faults.specs.declared.faults.CommandFault.{CommandFault}
 use Rattle.command_faults.specs.declared.faults.CommandFault.TheVariants as faults
 use Rattle.image_looks.specs.Comparisons.{IsComparingRun}
-use Rattle.opened_files.specs.Ends.{EndsAs, JobEnd, as_job, as_run, end_status, refusal_line}
+use Rattle.opened_files.specs.Ends.{EndsAs, JobEnd, as_run, end_status, refusal_line}
 use Rattle.image_edits.specs.Edits.{IsEdited, IsUnedited}
 use Rattle.opened_files.specs.Names.{name_bytes}
 use Rattle.image_edits.specs.NewDisks.{IsNewImage}
@@ -19,12 +19,11 @@ use Rattle.image_looks.specs.Looks.{IsLook}
 use Rattle.shop_jobs.specs.Runs.{IsDryRun, IsPlayRun}
 use Rattle.ledger_jobs.specs.declared.jobs.Job.{Job}
 use Rattle.ledger_jobs.specs.declared.jobs.Job.TheVariants as jobs
-use Rattle.opened_files.specs.declared.refusals.Refusal.TheVariants as refusals
 
 -- A job that writes an image wasn't begun: the file and the output are as they were.
 pub record IsUnbegun {F W : Type 0} (image : List ℕ) (file after : Option F) (old new : W) (end : JobEnd) : Type 0 where
   pub fault : CommandFault
-  pub is : end ≡ Err (refusals.Fault fault)
+  pub is : end ≡ Err fault
   pub why : WhyUnbegun image file fault
   pub same : after ≡ file
   pub silent : new ≡ old
@@ -47,29 +46,28 @@ IsOverFile image file after old new end P = IsUnbegun image file after old new e
 module _ {F : Type 0} (position : F → Option ℕ) (bytes contents : F → Option (List ℕ)) {W : Type 0} where
   -- the making of an image over the file ended so; without one it isn't made
   abbrev pub IsFormatted : (W → Option (List ℕ)) → ℕ → Option F → Option F → W → W → JobEnd → Type 0
-  IsFormatted told tills None after old new end = (after ≡ None) × (new ≡ old) × (end ≡ Err (refusals.Fault faults.File))
+  IsFormatted told tills None after old new end = (after ≡ None) × (new ≡ old) × (end ≡ Err faults.File)
   IsFormatted told tills (Some file) after old new end = (left : F) × (after ≡ Some left)
       × EndsAs as_run end
       (IsImageMade position bytes contents told (AreFreshBytes tills) file left old new)
 
   -- the making of the image of an empty disk did
   abbrev pub IsNewMade : (W → Option (List ℕ)) → (name id : List ℕ) → Option F → Option F → W → W → JobEnd → Type 0
-  IsNewMade told name id None after old new end = (after ≡ None) × (new ≡ old) × (end ≡ Err (refusals.Fault faults.File))
+  IsNewMade told name id None after old new end = (after ≡ None) × (new ≡ old) × (end ≡ Err faults.File)
   IsNewMade told name id (Some file) after old new end = (left : F) × (after ≡ Some left)
       × EndsAs as_run end
       (IsImageMade position bytes contents told (IsNewImage name id) file left old new)
 
   -- the copy of the image to the file ended so; without a file it isn't made
   abbrev pub IsCopyJob : (W → Option (List ℕ)) → List ℕ → Option F → Option F → W → W → JobEnd → Type 0
-  IsCopyJob told image None after old new end = (after ≡ None) × (new ≡ old) × (end ≡ Err (refusals.Fault faults.File))
+  IsCopyJob told image None after old new end = (after ≡ None) × (new ≡ old) × (end ≡ Err faults.File)
   IsCopyJob told image (Some file) after old new end = (left : F) × (after ≡ Some left)
       × EndsAs as_run end (IsImageCopied position bytes contents told image file left old new)
 
   -- the play of a script did
   abbrev pub IsPlayed : (W → Option (List ℕ)) → (image script : List ℕ) → Option F → Option F → W → W → JobEnd → Type 0
   IsPlayed told image script file after old new end = IsOverFile image file after old new end
-      (λ f left. EndsAs as_job end
-      (IsPlayRun (stream position bytes contents) (written told) image script f left old new)
+      (λ f left. IsPlayRun (stream position bytes contents) (written told) image script f left old new end
       × HandsSectors position bytes contents image f left)
 
   -- what comes of each job: its run over the bytes that it reads, and over the file that it writes
@@ -88,24 +86,24 @@ module _ {F : Type 0} (position : F → Option ℕ) (bytes contents : F → Opti
   IsJobRun told (jobs.PlayLogged path text loss) image script file after old new end =
       IsPlayed told image script file after old new end
   IsJobRun told (jobs.Serve path loss) image script file after old new end =
-      (after ≡ file) × (new ≡ old) × (end ≡ Err (refusals.Fault faults.File))
+      (after ≡ file) × (new ≡ old) × (end ≡ Err faults.File)
   IsJobRun told (jobs.Copy path copy) image script file after old new end = IsCopyJob told image file after old new end
   IsJobRun told (jobs.Salvage log copy) image script file after old new end =
-      (after ≡ file) × (new ≡ old) × (end ≡ Err (refusals.Fault faults.File))
+      (after ≡ file) × (new ≡ old) × (end ≡ Err faults.File)
   IsJobRun told (jobs.Change path effect edit) image script file after old new end = IsChangeJob position bytes contents told effect
       (IsEdited edit script image) (IsUnedited edit script image) file after old new end
   IsJobRun told (jobs.Trim path) image script file after old new end =
-      (after ≡ file) × (new ≡ old) × (end ≡ Err (refusals.Fault faults.File))
+      (after ≡ file) × (new ≡ old) × (end ≡ Err faults.File)
   IsJobRun told (jobs.Compare before later) image script file after old new end =
       (after ≡ file) × IsComparingRun told image script old new end
   IsJobRun told (jobs.Several what paths) image script file after old new end =
-      (after ≡ file) × (new ≡ old) × (end ≡ Err (refusals.Fault faults.File))
+      (after ≡ file) × (new ≡ old) × (end ≡ Err faults.File)
   IsJobRun told (jobs.Sheet paths) image script file after old new end =
-      (after ≡ file) × (new ≡ old) × (end ≡ Err (refusals.Fault faults.File))
+      (after ≡ file) × (new ≡ old) × (end ≡ Err faults.File)
   IsJobRun told (jobs.Describe paths) image script file after old new end =
-      (after ≡ file) × (new ≡ old) × (end ≡ Err (refusals.Fault faults.File))
+      (after ≡ file) × (new ≡ old) × (end ≡ Err faults.File)
   IsJobRun told (jobs.Extract choice path folder) image script file after old new end =
-      (after ≡ file) × (new ≡ old) × (end ≡ Err (refusals.Fault faults.File))
+      (after ≡ file) × (new ≡ old) × (end ≡ Err faults.File)
 
 -- what is reported of a job's end: nothing if it is done; otherwise its line, or a first part of that
 abbrev pub IsEndTold : {E : Type 0} → (E → Option (List ℕ)) → E → E → JobEnd → Type 0

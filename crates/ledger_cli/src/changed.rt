@@ -6,16 +6,15 @@ use crate::changing::Ended;
 use crate::making::write_over;
 use command_faults::CommandFault;
 use disk_changes::{Change, change};
-use folder_changes::{Stop, show_change};
+use folder_changes::show_change;
 use image_edits::{Effect, change_end};
-use opened_files::Refusal;
 use shop_commands::put_whole;
 use std::alloc::Global;
 use std::io::{Seek, Write};
 
 /// Changes the image, writes what comes of it over what the file holds, and prints the change's text. Returns how many
 /// sectors stay taken though no file owns them. A refusal leaves file and output as they were. `Device` if the file failed,
-/// which has a prefix of the writes then and isn't a sound disk's; `Output` if the output failed, and the file has the
+/// which has a prefix of the writes then and isn't a sound disk's; `File` if the output failed, and the file has the
 /// changed image.
 fn write_changed<F: Write + Seek, W: Write>(
     alloc: Global,
@@ -23,18 +22,18 @@ fn write_changed<F: Write + Seek, W: Write>(
     what: &Change<'_>,
     file: &mut F,
     out: &mut W,
-) -> Result<u16, Stop>
+) -> Result<u16, CommandFault>
     requires fit { IsFit what.now }
     ensures { IsChangeWritten F.stream_position F.stream_bytes F.contents W.contents (IsChanged what.now image.now)
         (IsRefused what.now image.now) file.old file.new out.old out.new result }
 {
     let made = change(alloc, what, image)?;
     if write_over(file, made.disk.bytes()).is_err() {
-        return Err(Stop::Device);
+        return Err(CommandFault::Device);
     }
     match put_whole(out, made.text.as_slice()) {
         Ok(()) => Ok(made.left),
-        Err(_) => Err(Stop::Output),
+        Err(_) => Err(CommandFault::File),
     }
 }
 
@@ -51,7 +50,7 @@ fn change_made<F: Write + Seek + Drop, W: Write>(
         (IsRefused what.now image.now) file result.0 out.old out.new result.1 }
 {
     let Some(mut file) = file else {
-        return (None, Err(Refusal::Fault(CommandFault::File)));
+        return (None, Err(CommandFault::File));
     };
     let ended = write_changed(alloc, image, what, &mut file, out);
     (Some(file), change_end(ended))

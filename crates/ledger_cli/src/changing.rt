@@ -8,12 +8,12 @@ use crate::playing::play_written;
 use crate::stream::{begin, file_of};
 use command_faults::CommandFault;
 use disk_layout::Fault;
-use opened_files::{Name, Refusal, job_end, run_end};
+use opened_files::{Name, run_end};
 use std::alloc::Global;
 use std::io::{Seek, Write};
 
 /// How a job ended.
-pub(crate) type Ended = Result<Option<Fault>, Refusal>;
+pub(crate) type Ended = Result<Option<Fault>, CommandFault>;
 
 /// Makes the file the image of an empty shop.
 pub(crate) fn format<F: Write + Seek + Drop, W: Write>(
@@ -28,7 +28,7 @@ pub(crate) fn format<F: Write + Seek + Drop, W: Write>(
         out.old out.new result.1 }
 {
     let Some(mut file) = file else {
-        return (None, Err(Refusal::Fault(CommandFault::File)));
+        return (None, Err(CommandFault::File));
     };
     let ended = make_image(alloc, tills, &mut file, out);
     (Some(file), run_end(ended))
@@ -47,7 +47,7 @@ pub(crate) fn begin_disk<F: Write + Seek + Drop, W: Write>(
         out.old out.new result.1 }
 {
     let Some(mut file) = file else {
-        return (None, Err(Refusal::Fault(CommandFault::File)));
+        return (None, Err(CommandFault::File));
     };
     let ended = make_disk(alloc, name.as_bytes(), id, &mut file, out);
     (Some(file), run_end(ended))
@@ -63,7 +63,7 @@ pub(crate) fn copy<F: Write + Seek + Drop, W: Write>(
         out.old out.new result.1 }
 {
     let Some(mut file) = file else {
-        return (None, Err(Refusal::Fault(CommandFault::File)));
+        return (None, Err(CommandFault::File));
     };
     let ended = copy_image(image, &mut file, out);
     (Some(file), run_end(ended))
@@ -83,8 +83,8 @@ pub(crate) fn play<F: Write + Seek + Drop, W: Write>(
     match begin(alloc, image, file) {
         Ok(stream) => {
             let (stream, ended) = play_written(alloc, image, script, stream, out);
-            (file_of(stream), job_end(ended))
+            (file_of(stream), ended)
         }
-        Err((fault, file)) => (file, Err(Refusal::Fault(fault))),
+        Err((fault, file)) => (file, Err(fault)),
     }
 }

@@ -1,7 +1,7 @@
 //! The whole program, over a runtime.
 ghost use Rattle.std.specs.Prelude.{◌≡◌, ◌≢◌, ◌⊎◌, Err, if◌then◌else◌};
 ghost use Rattle.command_faults.specs.declared.faults.CommandFault.TheVariants.{File};
-ghost use Rattle.opened_files.specs.declared.refusals.Refusal.TheVariants as refusals;
+ghost use Rattle.command_faults.specs.declared.faults.CommandFault.TheVariants as faults;
 ghost use Rattle.ledger_jobs.specs.Jobs.{IsFit};
 ghost use Rattle.ledger_cli.specs.declared.runner.Audience.TheVariants.{Person, Program, Waiting};
 
@@ -13,7 +13,7 @@ use disk_layout::Fault;
 use image_edits::do_trim;
 use image_file::{EndedFile, Failure, Failures, Locks, NotedRuntime, Subject};
 use ledger_jobs::{Job, announce, do_job, explain, files_of, tell_verdict};
-use opened_files::{Refusal, end};
+use opened_files::end;
 use std::alloc::{AllocError, Global};
 use std::env;
 use std::fs::OpenFile;
@@ -63,7 +63,7 @@ impl Audience {
 
 /// Reports a failure of the system, and returns its exit status.
 fn refuse<E: Write>(err: &mut E, error: &io::Error) -> u8 {
-    end(Err(Refusal::Fault(CommandFault::of_io(error))), err).status
+    end(Err(CommandFault::of_io(error)), err).status
 }
 
 /// Prints what the words may be. What `clap` refuses it explains itself.
@@ -103,7 +103,7 @@ fn refuse_words<R: Print + Eprint, E: Write>(rt: &R, fault: &JobFault, err: &mut
     let ended = match fault {
         // If memory ran out, there may be no text.
         JobFault::Words(_) if status == CommandFault::NoMemory.status() => {
-            return end(Err(Refusal::Fault(CommandFault::NoMemory)), err).status;
+            return end(Err(CommandFault::NoMemory), err).status;
         }
         JobFault::Words(error) => error.print(rt),
         _ => writeln!(err, "{fault}"),
@@ -124,7 +124,7 @@ fn do_watched<F, R, W, E>(
     told: Audience,
     out: &mut W,
     err: &mut E,
-) -> Result<Option<Fault>, Refusal>
+) -> Result<Option<Fault>, CommandFault>
 where
     F: EndedFile + Read + Locks + OpenFile + Drop,
     R: Files<File = F> + Input + AllocGlobal,
@@ -151,7 +151,7 @@ fn do_noted<'a, F, R, E>(
     told: Audience,
     failures: &Failures<'a>,
     err: &mut E,
-) -> Result<Option<Fault>, Refusal>
+) -> Result<Option<Fault>, CommandFault>
 where
     F: EndedFile + Read + Locks + OpenFile + Drop,
     R: Files<File = F> + Input + Print + AllocGlobal,
@@ -162,24 +162,24 @@ where
     let noted = NotedRuntime::new(rt, files.as_slice(), failures);
     match BufWriter::with_capacity(rt.alloc(), OUTPUT_ROOM, io::writer(&noted)) {
         Ok(mut out) => do_watched(&noted, job, told, &mut out, err),
-        Err(_) => Err(Refusal::Fault(CommandFault::NoMemory)),
+        Err(_) => Err(CommandFault::NoMemory),
     }
 }
 
 /// The end of a job that ended so, and of which this call failed first. `NotReady` in place of `File` if standard input is set
 /// not to wait, and had nothing more yet.
 fn awaited(
-    ended: Result<Option<Fault>, Refusal>,
+    ended: Result<Option<Fault>, CommandFault>,
     cause: Option<Failure<'_>>,
-) -> Result<Option<Fault>, Refusal>
-    ensures { (result ≡ ended) ⊎ ((ended ≡ Err (refusals.Fault File)) × (result ≡ Err refusals.NotReady)) }
+) -> Result<Option<Fault>, CommandFault>
+    ensures { (result ≡ ended) ⊎ ((ended ≡ Err File) × (result ≡ Err faults.NotReady)) }
 {
     let Some(Failure { subject, error, .. }) = cause else {
         return ended;
     };
     let waits = subject != Subject::Input || error.kind() != ErrorKind::WouldBlock;
     match ended {
-        Err(Refusal::Fault(CommandFault::File)) if !waits => Err(Refusal::NotReady),
+        Err(CommandFault::File) if !waits => Err(CommandFault::NotReady),
         ended => ended,
     }
 }

@@ -8,7 +8,7 @@ use crate::editing::edited;
 use command_faults::CommandFault;
 use image_looks::{comparing_run, look};
 use ledger_jobs::Job;
-use opened_files::{Refusal, end};
+use opened_files::end;
 use shop_jobs::dry_run;
 use std::alloc::Global;
 use std::io::{Seek, Write};
@@ -46,7 +46,7 @@ fn obey<F: Write + Seek + Drop, W: Write>(
         | Job::Sheet { .. }
         | Job::Describe { .. }
         | Job::Trim { .. }
-        | Job::Extract { .. } => (file, Err(Refusal::Fault(CommandFault::File))),
+        | Job::Extract { .. } => (file, Err(CommandFault::File)),
     }
 }
 

@@ -1,7 +1,7 @@
 //! What the program does before it reads its words.
 use command_faults::CommandFault;
 use ledger_jobs::ClosedStreams;
-use opened_files::{Refusal, end};
+use opened_files::end;
 use std::io::Write;
 use std::os::fd::AsRawFd;
 use std::rt::Files;
@@ -16,6 +16,6 @@ where
 {
     match ClosedStreams::hold(rt) {
         Ok(held) => Ok(held),
-        Err(error) => Err(end(Err(Refusal::Fault(CommandFault::of_io(&error))), err).status),
+        Err(error) => Err(end(Err(CommandFault::of_io(&error)), err).status),
     }
 }

@@ -14,7 +14,6 @@ use Rattle.opened_files.specs.Names.{name_bytes}
 use Rattle.shop_jobs.specs.Replies.{IsShopAt, IsLoggedService}
 use Rattle.ledger_jobs.specs.declared.jobs.Job.{Job}
 use Rattle.ledger_jobs.specs.declared.jobs.Job.TheVariants as jobs
-use Rattle.opened_files.specs.declared.refusals.Refusal.TheVariants as refusals
 use Rattle.image_looks.specs.LookRuns.{IsLookedAt, IsComparedOver, IsExtractedFrom, AreDrawnOnSheet, AreDescribed, AreOverviewed}
 use Rattle.image_edits.specs.NewDisks.{IsNewDiskEnd}
 use Rattle.shop_jobs.specs.NewShops.{IsNewShopEnd}
@@ -52,4 +51,4 @@ module _ {H F W : Type 0} (rights : Rights H) (stands : H → List ℕ → Stand
   IsJobOver (jobs.PlayLogged image script loss) old new end = IsPlayedOverLog rights stands contents host image.now script.now old new end
   IsJobOver (jobs.Serve image loss) old new end = IsLoggedService contents (IsShopAt stands host image.now) old new end
   -- `do_trim` does that job
-  IsJobOver (jobs.Trim image) old new end = (new ≡ old) × (end ≡ Err (refusals.Fault faults.File))
+  IsJobOver (jobs.Trim image) old new end = (new ≡ old) × (end ≡ Err faults.File)

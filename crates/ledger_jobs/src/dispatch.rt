@@ -10,7 +10,6 @@ use folder_changes::HostImages;
 use image_edits::{do_copying, do_edit, do_new, do_salvaging};
 use image_file::{EndedFile, HostFiles, Locks};
 use image_looks::{do_comparing, do_describing, do_extracting, do_look, do_several, do_sheet};
-use opened_files::Refusal;
 use shop_jobs::{
     do_dry, do_format, do_format_new, do_logged_playing, do_logged_serving, do_playing,
 };
@@ -33,7 +32,7 @@ use std::io::{Read, Write};
 /// `change_image`, `show_change`, `extract_run` and `comparing_run`.
 /// `Trim` ends with `File`, since it reports on standard error: call `do_trim`. What is wrong with one of several images is
 /// printed; only a failed output ends the job before the last of them.
-pub fn do_job<F, R, W>(rt: &R, job: &Job<'_>, out: &mut W) -> Result<Option<Fault>, Refusal>
+pub fn do_job<F, R, W>(rt: &R, job: &Job<'_>, out: &mut W) -> Result<Option<Fault>, CommandFault>
 where
     F: EndedFile + Read + Locks + OpenFile + Drop,
     R: HostFiles<File = F> + HostImages + Input + AllocGlobal,
@@ -76,7 +75,7 @@ where
             ref edit,
             effect,
         } => do_edit(rt, image, edit, effect, out),
-        Job::Trim { .. } => Err(Refusal::Fault(CommandFault::File)),
+        Job::Trim { .. } => Err(CommandFault::File),
         Job::Compare { before, after } => do_comparing(rt, before, after, out),
         Job::Sheet { ref images } => do_sheet(rt, images.as_slice(), out),
         Job::Describe { ref images } => do_describing(rt, images.as_slice(), out),

@@ -9,8 +9,9 @@ use crate::jobs::Job;
 use crate::near_names::tell_name;
 use crate::refusal_subjects::{About, subject_of};
 use crate::size_lines::{missized_of, tell_size};
+use command_faults::CommandFault;
 use image_file::{Failure, HostFiles, Locks};
-use opened_files::{Refusal, size_of};
+use opened_files::size_of;
 use std::fs::OpenFile;
 use std::io::{Read, Write};
 
@@ -60,7 +61,7 @@ fn tell_made<R: HostFiles, E: Write>(rt: &R, job: &Job<'_>, err: &mut E)
 pub fn explain<F, R, E>(
     rt: &R,
     job: &Job<'_>,
-    refusal: Refusal,
+    refusal: CommandFault,
     cause: Option<Failure<'_>>,
     err: &mut E,
 )

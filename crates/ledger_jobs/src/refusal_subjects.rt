@@ -4,7 +4,6 @@ use crate::jobs::Job;
 use command_faults::CommandFault;
 use d64_image::Place;
 use disk_layout::{Fault, map_place};
-use opened_files::Refusal;
 
 /// What a line for a person is about.
 pub(crate) enum About {
@@ -127,31 +126,24 @@ fn about_fault(fault: CommandFault) -> About {
         CommandFault::Format => About::Image(FORMAT),
         CommandFault::Device => About::Device,
         CommandFault::NoMemory => About::Image(NO_MEMORY),
-    }
-}
-
-/// What is said of a log that gives this job no image.
-fn said_of_log(job: &Job<'_>) -> &'static str {
-    match job {
-        Job::Salvage { .. } => NO_BASE,
-        _ => FOREIGN_LOG,
+        CommandFault::NotReady => About::Files,
+        CommandFault::InUse => About::Image("another program has it; end that one first"),
+        CommandFault::Kept(_) => About::Image(KEPT),
+        CommandFault::PathExists => About::Made,
+        CommandFault::Log => About::Image(FOREIGN_LOG),
+        CommandFault::LogAway => About::Image(LOG_AWAY),
+        CommandFault::TwoNames => About::Image(SECOND_NAME),
+        CommandFault::Short(_) => About::Image(CUT_SHORT),
+        CommandFault::ShopFile => About::Image(SHOP_FILE),
+        CommandFault::Trimmed => About::Image(JUDGED),
+        CommandFault::Several(_) => About::Nothing,
     }
 }
 
 /// What a refusal of this job is about.
-pub(crate) fn subject_of(job: &Job<'_>, refusal: Refusal) -> About {
-    match refusal {
-        Refusal::Fault(fault) => about_fault(fault),
-        Refusal::NotReady => About::Files,
-        Refusal::InUse => About::Image("another program has it; end that one first"),
-        Refusal::Kept(_) => About::Image(KEPT),
-        Refusal::Exists => About::Made,
-        Refusal::Log => About::Image(said_of_log(job)),
-        Refusal::LogAway => About::Image(LOG_AWAY),
-        Refusal::TwoNames => About::Image(SECOND_NAME),
-        Refusal::Short(_) => About::Image(CUT_SHORT),
-        Refusal::ShopFile => About::Image(SHOP_FILE),
-        Refusal::Trimmed => About::Image(JUDGED),
-        Refusal::Several(_) => About::Nothing,
+pub(crate) fn subject_of(job: &Job<'_>, refusal: CommandFault) -> About {
+    match (job, refusal) {
+        (Job::Salvage { .. }, CommandFault::Log) => About::Image(NO_BASE),
+        (_, fault) => about_fault(fault),
     }
 }

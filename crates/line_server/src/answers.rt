@@ -4,7 +4,8 @@ ghost use Rattle.host_session.specs.events.Telling.{IsTold};
 ghost use Rattle.line_server.specs.Answering.{Answering, answered, of_output};
 
 use d64_image::Sectors;
-use host_session::{NotTaken, ReplySink};
+use host_session::ReplySink;
+use line_text::NotTaken;
 use request_cards::Reply;
 
 /// An output of answers. Every output that replies can be passed to is one, and says only which replies it was passed.

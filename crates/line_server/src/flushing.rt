@@ -5,7 +5,8 @@ ghost use Rattle.line_server.specs.Flushing.{lent};
 
 use crate::answers::Answers;
 use d64_image::Sectors;
-use host_session::{NotTaken, ReplySink};
+use host_session::ReplySink;
+use line_text::NotTaken;
 use request_cards::Reply;
 
 /// An output to which what is held back is handed on after each reply.

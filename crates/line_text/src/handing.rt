@@ -5,14 +5,14 @@ ghost use Rattle.line_text.specs.Handed.{AppendsPart};
 
 use std::io::{ErrorKind, Write};
 
-/// A writer failed, or took no byte. It has a prefix of the bytes.
+/// Bytes, or what else was to be passed on, weren't taken, or only in part.
 #[derive(Clone, Copy, Debug, PartialEq, Eq)]
-pub struct Unfinished;
+pub struct NotTaken;
 
 /// Passes all of these bytes to the writer, in one call if it takes them. If it takes only a part, the rest follows. At an
 /// error the writer failed or took no byte, and it has a prefix of the bytes.
 #[inline(always)]
-pub fn hand_whole<W: Write>(out: &mut W, bytes: &[u8]) -> Result<(), Unfinished>
+pub fn hand_whole<W: Write>(out: &mut W, bytes: &[u8]) -> Result<(), NotTaken>
     ensures ok { OnOk result (Appends (W.contents out.old) (W.contents out.new) bytes.now) }
     ensures err { OnErr result (AppendsPart (W.contents out.old) (W.contents out.new) bytes.now) }
 {
@@ -22,14 +22,14 @@ pub fn hand_whole<W: Write>(out: &mut W, bytes: &[u8]) -> Result<(), Unfinished>
             return Ok(());
         }
         match out.write(&bytes[written..]) {
-            Ok(0) => return Err(Unfinished),
+            Ok(0) => return Err(NotTaken),
             Ok(more) => written += more,
             Err(error) => {
                 if error.kind() != ErrorKind::Interrupted {
-                    return Err(Unfinished);
+                    return Err(NotTaken);
                 }
             }
         }
     }
-    Err(Unfinished)
+    Err(NotTaken)
 }

@@ -34,7 +34,7 @@ pub use columns::positions::{MOST_PIECES, Positions};
 pub use columns::reading::{Column, push_columns};
 pub use columns::writing::write_fields;
 pub use digits::{number, number_before_comma};
-pub use handing::{Unfinished, hand_whole};
+pub use handing::{NotTaken, hand_whole};
 pub use naming::put_named;
 pub use petscii::characters::{CharacterSet, character};
 pub use petscii::file_names::{Ending, FileName, NAME_ROOM, file_name};

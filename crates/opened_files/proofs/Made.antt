@@ -1,5 +1,5 @@
 -- An image that was made at a path, and how its job ends, from what came of each step.
-use Rattle.std.proofs.Common.{◌≡◌, [], ℕ, List, Option, Result, Ok, Err, Some, ap, inl, inr, refl, subst, sym}
+use Rattle.std.proofs.Common.{◌≡◌, [], ℕ, List, Option, Result, Ok, Err, Some, inl, inr, refl, subst, sym}
 use Rattle.std.specs.Prelude.{IfErr, IfOk, OnOk}
 use Rattle.std.specs.Io.KnownBytes.{Appends}
 use Rattle.command_faults.specs.declared.faults.CommandFault.{CommandFault}
@@ -12,8 +12,6 @@ use Rattle.line_text.specs.Handed.{AppendsPart}
 use Rattle.opened_files.specs.Ends.{JobEnd, as_run}
 use Rattle.opened_files.specs.Makings.{IsMadeAt, IsNewEnd}
 use Rattle.opened_files.specs.Rights.{aside_of}
-use Rattle.opened_files.specs.declared.refusals.Refusal.{Refusal}
-use Rattle.opened_files.specs.declared.refusals.Refusal.TheVariants as refusals
 
 -- what holds of the value of a call, if that is Ok
 pub at-ok : {T E : Type 0} (P : T → Type 0) (result : Result T E) (it : T) → IfOk result P → result ≡ Ok it → P it
@@ -42,9 +40,9 @@ module _ {W : Type 0} (contents : W → Option (List ℕ)) (Made : Type 0) (text
       → IsNewEnd contents Made text old new end
   new-end (Ok _) ended made said part = subst (IsNewEnd contents Made text old new) (sym ended) (made, said)
   new-end (Err fault) ended made said part = subst (IsNewEnd contents Made text old new) (sym ended)
-      (inr (ap refusals.Fault part.0, made, part.1))
+      (inr (part.0, made, part.1))
 
 -- it wasn't made
 pub unmade : {W : Type 0} (contents : W → Option (List ℕ)) (Made : Type 0) (text : List ℕ) (out : W) (end : JobEnd)
-    (refusal : Refusal) → end ≡ Err refusal → IsNewEnd contents Made text out out end
+    (refusal : CommandFault) → end ≡ Err refusal → IsNewEnd contents Made text out out end
 unmade contents Made text out end refusal ended = subst (IsNewEnd contents Made text out out) (sym ended) (inl refl)

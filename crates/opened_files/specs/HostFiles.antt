@@ -5,8 +5,7 @@ use Rattle.image_file.specs.paths.Rights.{Rights}
 use Rattle.image_file.specs.paths.Standing.{Holds, IsMissing, Stands}
 use Rattle.opened_files.specs.Ends.{JobEnd}
 use Rattle.opened_files.specs.Rights.{standard_input}
-use Rattle.opened_files.specs.declared.refusals.Refusal.{Refusal}
-use Rattle.opened_files.specs.declared.refusals.Refusal.TheVariants as refusals
+use Rattle.command_faults.specs.declared.faults.CommandFault.{CommandFault}
 use Rattle.shop_log.specs.life.LogRights.{WhereItLeads, log_of}
 
 module _ {H : Type 0} (stands : H → List ℕ → Stands) (host : H) where
@@ -32,24 +31,24 @@ module _ {H : Type 0} (rights : Rights H) (stands : H → List ℕ → Stands) (
   OfImage path P = path ≢ standard_input → OfImageFile path P
 
 -- a file wasn't opened, locked or read whole
-abbrev pub IsUnread : Refusal → Type 0
-IsUnread refusals.InUse = ⊤
-IsUnread refusals.NotReady = ⊤
-IsUnread (refusals.Fault faults.File) = ⊤
-IsUnread (refusals.Fault faults.NoMemory) = ⊤
+abbrev pub IsUnread : CommandFault → Type 0
+IsUnread faults.InUse = ⊤
+IsUnread faults.NotReady = ⊤
+IsUnread faults.File = ⊤
+IsUnread faults.NoMemory = ⊤
 IsUnread _ = ⊥
 
 -- or it has a second name
-abbrev pub IsUntaken : Refusal → Type 0
-IsUntaken refusal = IsUnread refusal ⊎ (refusal ≡ refusals.TwoNames)
+abbrev pub IsUntaken : CommandFault → Type 0
+IsUntaken refusal = IsUnread refusal ⊎ (refusal ≡ faults.TwoNames)
 
 -- or it is an image's, and has another length
-abbrev pub IsUnopened : Refusal → Type 0
-IsUnopened refusal = IsUntaken refusal ⊎ (refusal ≡ refusals.Fault faults.ImageSize)
+abbrev pub IsUnopened : CommandFault → Type 0
+IsUnopened refusal = IsUntaken refusal ⊎ (refusal ≡ faults.ImageSize)
 
 -- or what it held couldn't be synced, or a log beside it gives no image
-abbrev pub IsUnbegun : Refusal → Type 0
-IsUnbegun refusal = IsUntaken refusal ⊎ ((refusal ≡ refusals.Fault faults.Device) ⊎ (refusal ≡ refusals.Log))
+abbrev pub IsUnbegun : CommandFault → Type 0
+IsUnbegun refusal = IsUntaken refusal ⊎ ((refusal ≡ faults.Device) ⊎ (refusal ≡ faults.Log))
 
 -- the run over the bytes of a job's files ended so, and the job with it; or the run wasn't begun, and nothing was printed
 abbrev pub RunEnds : {W : Type 0} → W → W → JobEnd → Type 0 → Type 0

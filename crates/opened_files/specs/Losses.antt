@@ -10,8 +10,6 @@ use Rattle.damaged_files.specs.cut.Told.{IsCutShort, IsToldOfImage}
 use Rattle.command_faults.specs.declared.faults.CommandFault.TheVariants as faults
 use Rattle.opened_files.specs.Ends.{JobEnd, as_run}
 use Rattle.opened_files.specs.HostFiles.{RunEnds}
-use Rattle.opened_files.specs.declared.refusals.Refusal.{Refusal}
-use Rattle.opened_files.specs.declared.refusals.Refusal.TheVariants as refusals
 use Rattle.shop_log.specs.life.Tags.{SaysLogAway}
 
 -- what is seen of an image, if it has the size of a disk
@@ -21,22 +19,22 @@ IsSeen image None = length image ≡ 174848 → IsToldOfImage image None None
 
 -- Why a job isn't begun that accepts no loss: a file of the image is cut short, and its chain ends there; or there was
 -- no memory to see.
-abbrev pub IsLossFault : (image : List ℕ) → Refusal → Type 0
-IsLossFault image refusal = ((p : Place) × (refusal ≡ refusals.Short p) × IsCutShort image p)
-    ⊎ (refusal ≡ refusals.Fault faults.NoMemory)
+abbrev pub IsLossFault : (image : List ℕ) → CommandFault → Type 0
+IsLossFault image refusal = ((p : Place) × (refusal ≡ faults.Short p) × IsCutShort image p)
+    ⊎ (refusal ≡ faults.NoMemory)
 
 -- no log has the rest of the image, or what it has may be lost
 abbrev pub IsNear : Loss → (image : List ℕ) → Type 0
 IsNear loss image = (loss ≡ losses.Accepted) ⊎ (¬ (SaysLogAway image))
 
 -- a job is refused since the log of its image is away: the image says so, and that loss isn't accepted
-abbrev pub IsAwayFault : Loss → (Says : Type 0) → Refusal → Type 0
-IsAwayFault loss Says refusal = (refusal ≡ refusals.LogAway) × (loss ≡ losses.Refused) × Says
+abbrev pub IsAwayFault : Loss → (Says : Type 0) → CommandFault → Type 0
+IsAwayFault loss Says refusal = (refusal ≡ faults.LogAway) × (loss ≡ losses.Refused) × Says
 
 -- the same of an image that has no tag any more if that loss is accepted
-abbrev pub IsTagFault : Loss → (image : List ℕ) → Refusal → Type 0
+abbrev pub IsTagFault : Loss → (image : List ℕ) → CommandFault → Type 0
 IsTagFault loss image refusal = IsAwayFault loss (SaysLogAway image) refusal
-    ⊎ ((refusal ≡ refusals.Fault faults.Device) × (loss ≡ losses.Accepted) × SaysLogAway image)
+    ⊎ ((refusal ≡ faults.Device) × (loss ≡ losses.Accepted) × SaysLogAway image)
 
 -- a job ended so for that, and nothing was printed
 abbrev pub IsAwayEnd : {W : Type 0} → Loss → (Says : Type 0) → W → W → JobEnd → Type 0
@@ -51,7 +49,7 @@ abbrev pub MayBeLost : (image : List ℕ) → Loss → Type 0
 MayBeLost image loss = (loss ≡ losses.Accepted) ⊎ ((p : Place) → ¬ (IsCutShort image p))
 
 -- whether a job may change the image: a refusal, or none
-abbrev pub IsJudged : (image : List ℕ) → Loss → Option Refusal → Type 0
+abbrev pub IsJudged : (image : List ℕ) → Loss → Option CommandFault → Type 0
 IsJudged image loss None = MayBeLost image loss
 IsJudged image loss (Some refusal) = (loss ≡ losses.Refused) × IsLossFault image refusal
 
@@ -59,7 +57,7 @@ IsJudged image loss (Some refusal) = (loss ≡ losses.Refused) × IsLossFault im
 -- run over the image ended so.
 abbrev pub IsGuarded : (image : List ℕ) → Loss → (Untouched : Type 0) → (IsRun : JobEnd → Type 0) → JobEnd → Type 0
 IsGuarded image loss Untouched IsRun end =
-    ((refusal : Refusal) × (end ≡ Err refusal) × (loss ≡ losses.Refused) × IsLossFault image refusal × Untouched)
+    ((refusal : CommandFault) × (end ≡ Err refusal) × (loss ≡ losses.Refused) × IsLossFault image refusal × Untouched)
     ⊎ (MayBeLost image loss × IsRun end)
 
 -- a run that prints no fault and ended so is reported as this end

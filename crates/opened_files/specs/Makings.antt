@@ -8,7 +8,6 @@ use Rattle.image_file.specs.paths.Traces.{IsWrittenAt, Traces}
 use Rattle.line_text.specs.Handed.{AppendsPart}
 use Rattle.opened_files.specs.Ends.{IsEndOver, JobEnd}
 use Rattle.opened_files.specs.Rights.{aside_of}
-use Rattle.opened_files.specs.declared.refusals.Refusal.TheVariants as refusals
 
 -- what a run over a file that is made printed, whose text this is
 abbrev pub IsMakingTold : {W : Type 0} → (W → Option (List ℕ)) → (text : List ℕ) → W → W → Result Unit CommandFault → Type 0
@@ -33,4 +32,4 @@ abbrev pub IsNewEnd : {W : Type 0} → (W → Option (List ℕ)) → (Made : Typ
 IsNewEnd contents Made text old new (Ok None) = Made × Appends (contents old) (contents new) text
 IsNewEnd contents Made text old new (Ok (Some fault)) = ⊥
 IsNewEnd contents Made text old new (Err refusal) = (new ≡ old)
-    ⊎ ((refusal ≡ refusals.Fault faults.File) × Made × AppendsPart (contents old) (contents new) text)
+    ⊎ ((refusal ≡ faults.File) × Made × AppendsPart (contents old) (contents new) text)

@@ -4,15 +4,15 @@ ghost use Rattle.std.specs.Io.KnownBytes.{Appends};
 ghost use Rattle.line_text.specs.Handed.{AppendsPart};
 ghost use Rattle.opened_files.specs.Ends.{end_status, refusal_line};
 
-use crate::refusals::Refusal;
 use arrayvec::ArrayVec;
+use command_faults::CommandFault;
 use disk_layout::Fault;
-use host_session::{NotTaken, write_whole};
+use line_text::{NotTaken, hand_whole};
 use std::io::Write;
 
 /// Prints a refusal in one line; nothing if the output has reported it. Its error is that standard error failed, and then
 /// has a first part of the line. This can't be reported.
-pub fn tell<E: Write>(err: &mut E, refusal: Refusal) -> Result<(), NotTaken>
+pub fn tell<E: Write>(err: &mut E, refusal: CommandFault) -> Result<(), NotTaken>
     ensures told { OnOk result (Appends (E.contents err.old) (E.contents err.new) (refusal_line refusal)) }
     ensures part { OnErr result (AppendsPart (E.contents err.old) (E.contents err.new) (refusal_line refusal)) }
 {
@@ -24,7 +24,7 @@ pub fn tell<E: Write>(err: &mut E, refusal: Refusal) -> Result<(), NotTaken>
     if writeln!(line, "{refusal}").is_err() {
         return Err(NotTaken);
     }
-    write_whole(err, line.as_slice())
+    hand_whole(err, line.as_slice())
 }
 
 /// How a job ended, as the program reports it.
@@ -41,7 +41,7 @@ pub struct Ending {
 /// is 1 also if a check reported a fault, on the output. With status 3 it is `FILE` if a file couldn't be opened or read,
 /// the image wasn't made, or the output failed. It is `DEVICE` if the file of `play` failed, `IN USE` if another program
 /// has the image, or `NO MEMORY`. If standard error failed, it has a first part of the line, and `told` is an error.
-pub fn end<E: Write>(ended: Result<Option<Fault>, Refusal>, err: &mut E) -> Ending
+pub fn end<E: Write>(ended: Result<Option<Fault>, CommandFault>, err: &mut E) -> Ending
     ensures status { result.status ≡ end_status ended }
     ensures quiet { IsOk ended → (err.new ≡ err.old) × IsOk result.told }
     ensures told { IfErr ended (λ refusal. OnOk result.told

@@ -7,8 +7,6 @@ ghost use Rattle.image_file.specs.paths.Rights.{Look, May, MayWrite};
 
 use crate::asides::Aside;
 use crate::image_logs::see_one_place;
-use crate::outcomes::told;
-use crate::refusals::Refusal;
 use command_faults::CommandFault;
 use image_file::{
     EndedFile, HostFiles, Identity, Locks, OpensFile, read_script, regular, regular_at,
@@ -49,12 +47,12 @@ pub(crate) fn script_at<R: HostFiles + Input + AllocGlobal>(
 pub fn script_to_play<R: HostFiles + Input + AllocGlobal>(
     rt: &R,
     path: &str,
-) -> Result<Vec<u8>, Refusal>
+) -> Result<Vec<u8>, CommandFault>
     requires { MayReadText R.rights rt.now path.now }
     ensures read { OfText R.stands rt.now path.now (λ all. IfOk result (λ script. vec_items script ≡ all)) }
     ensures err { IfErr result IsUnread }
 {
-    told(script_at(rt, path))
+    Ok(script_at(rt, path)?)
 }
 
 /// Whether a regular file stands at a path. An error if another thing does.
@@ -78,7 +76,7 @@ pub struct AtPath<'a, R: HostFiles> {
     aside: Option<Aside<'a, R>>,
     // the log of what is replaced
     log: Option<Identity>,
-    refused: Option<Refusal>,
+    refused: Option<CommandFault>,
     // it may be made
     ghost makes: { MayMakeImage R.rights rt.now path.now } by { Prim.hlevel props },
     // or written over
@@ -101,12 +99,12 @@ impl<'a, R: HostFiles> AtPath<'a, R> {
     }
 
     /// Why it isn't written: it has two names, it wasn't locked, or there was no memory to open it.
-    pub fn refused(&self) -> Option<Refusal> {
+    pub fn refused(&self) -> Option<CommandFault> {
         self.refused
     }
 
     /// The error, which comes of this refusal.
-    fn refuse(&mut self, refusal: Refusal, error: io::Error) -> io::Error {
+    fn refuse(&mut self, refusal: CommandFault, error: io::Error) -> io::Error {
         self.refused = Some(refusal);
         error
     }
@@ -148,7 +146,7 @@ where
         // another thing may stand there by now
         regular(OpenFile::metadata(file))?;
         if let Err(error) = file.lock_alone() {
-            return Err(self.refuse(Refusal::of_lock(&error), io::Error::from(error)));
+            return Err(self.refuse(CommandFault::of_lock(&error), io::Error::from(error)));
         }
         // one that was made has one name, and nothing is mounted there
         if self.aside.is_some() {
@@ -191,7 +189,7 @@ where
     fn open(&mut self) -> io::Result<F> {
         match self.locked() {
             Err(error) if error.kind() == io::ErrorKind::OutOfMemory => {
-                Err(self.refuse(Refusal::Fault(CommandFault::NoMemory), error))
+                Err(self.refuse(CommandFault::NoMemory, error))
             }
             opened => opened,
         }

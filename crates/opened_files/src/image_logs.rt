@@ -9,8 +9,6 @@ ghost use Rattle.image_file.specs.paths.Standing.{AreOf, IsMissing};
 
 use crate::locks::{lock_exclusive, lock_shared};
 use crate::losses::Loss;
-use crate::outcomes::told;
-use crate::refusals::Refusal;
 use command_faults::CommandFault;
 use d64_image::IMAGE_BYTES;
 use image_file::{EndedFile, HostFiles, Locks, opened_to_change, opened_to_read};
@@ -22,57 +20,57 @@ use std::io::{self, ErrorKind};
 use std::os::unix::fs::MetadataExt;
 
 /// What is reported for this fault of a log.
-pub fn log_refusal(fault: &LogFault) -> Refusal
+pub fn log_refusal(fault: &LogFault) -> CommandFault
     ensures { result ≡ refusal_of fault.now }
 {
     match fault {
-        LogFault::Unfit(_) => Refusal::Log,
-        LogFault::File(error) => Refusal::Fault(CommandFault::of_io(error)),
+        LogFault::Unfit(_) => CommandFault::Log,
+        LogFault::File(error) => CommandFault::of_io(error),
     }
 }
 
 /// Whether a file has as many bytes as an image.
-pub(crate) fn is_sized<F: OpenFile>(file: &F) -> Result<bool, Refusal>
+pub(crate) fn is_sized<F: OpenFile>(file: &F) -> Result<bool, CommandFault>
     ensures { IfErr result IsUnread }
 {
-    let found = told(OpenFile::metadata(file))?;
+    let found = OpenFile::metadata(file)?;
     Ok(found.len() == IMAGE_BYTES as u64)
 }
 
 /// Refuses a file that hasn't as many bytes as an image: `ImageSize`.
-pub fn see_size<F: OpenFile>(file: &F) -> Result<(), Refusal>
+pub fn see_size<F: OpenFile>(file: &F) -> Result<(), CommandFault>
     ensures { IfErr result IsUnopened }
 {
     if is_sized(file)? {
         return Ok(());
     }
-    Err(Refusal::Fault(CommandFault::ImageSize))
+    Err(CommandFault::ImageSize)
 }
 
 /// Refuses a file that has a second name, by which it would have another log: `TwoNames`.
-fn see_one_name<F: OpenFile>(file: &F) -> Result<(), Refusal>
+fn see_one_name<F: OpenFile>(file: &F) -> Result<(), CommandFault>
     ensures { IfErr result IsUntaken }
 {
-    let found = told(OpenFile::metadata(file))?;
+    let found = OpenFile::metadata(file)?;
     if found.nlink() > 1 {
-        return Err(Refusal::TwoNames);
+        return Err(CommandFault::TwoNames);
     }
     Ok(())
 }
 
 /// Refuses the file at a path if it is mounted there by itself: a log beside it wouldn't be beside it elsewhere. `TwoNames`.
-fn see_unmounted<R: HostFiles + AllocGlobal>(rt: &R, path: &str) -> Result<(), Refusal>
+fn see_unmounted<R: HostFiles + AllocGlobal>(rt: &R, path: &str) -> Result<(), CommandFault>
     requires { May R.rights rt.now Look path.now }
     ensures { IfErr result IsUntaken }
 {
-    if told(rt.is_mounted(rt.alloc(), path))? {
-        return Err(Refusal::TwoNames);
+    if rt.is_mounted(rt.alloc(), path)? {
+        return Err(CommandFault::TwoNames);
     }
     Ok(())
 }
 
 /// Refuses the file at a path, open here, if it has a second name, or is mounted by itself: `TwoNames`.
-pub(crate) fn see_one_place<F, R>(rt: &R, path: &str, file: &F) -> Result<(), Refusal>
+pub(crate) fn see_one_place<F, R>(rt: &R, path: &str, file: &F) -> Result<(), CommandFault>
 where
     F: OpenFile + Drop,
     R: HostFiles<File = F> + AllocGlobal,
@@ -85,7 +83,7 @@ where
 
 /// Refuses a symbolic link to nowhere in the place of a log: `Log`. The image's file is locked, so that no log gets the name
 /// between the two looks.
-pub fn see_no_lost_log<R: HostFiles>(rt: &R, names: &LogNames) -> Result<(), Refusal>
+pub fn see_no_lost_log<R: HostFiles>(rt: &R, names: &LogNames) -> Result<(), CommandFault>
     requires { MayReadLogOf R.rights rt.now (string_bytes names.now.image) }
     ensures { IfErr result IsUnbegun }
 {
@@ -93,8 +91,8 @@ pub fn see_no_lost_log<R: HostFiles>(rt: &R, names: &LogNames) -> Result<(), Ref
         Err(error) if error.kind() == io::ErrorKind::NotFound => {}
         _ => return Ok(()),
     }
-    if told(is_there(rt, names.log()))? {
-        return Err(Refusal::Log);
+    if is_there(rt, names.log())? {
+        return Err(CommandFault::Log);
     }
     Ok(())
 }
@@ -109,7 +107,7 @@ pub(crate) fn is_there<R: HostFiles>(rt: &R, path: &str) -> io::Result<bool>
 
 /// The regular file at a path, opened to be changed, which this program has alone. `InUse` if another program has it;
 /// `TwoNames` if it has a second name, or is mounted by itself.
-pub fn opened_alone<F, R>(rt: &R, path: &str) -> Result<F, Refusal>
+pub fn opened_alone<F, R>(rt: &R, path: &str) -> Result<F, CommandFault>
 where
     F: Locks + OpenFile + Drop,
     R: HostFiles<File = F> + AllocGlobal,
@@ -119,14 +117,14 @@ where
     ensures bytes { IfOk result (λ image. AreOf R.stands rt.now path.now (F.unread image)) }
     ensures err { IfErr result IsUntaken }
 {
-    let mut file = told(opened_to_change(rt, path))?;
+    let mut file = opened_to_change(rt, path)?;
     lock_exclusive(&mut file)?;
     see_one_place(rt, path, &file)?;
     Ok(file)
 }
 
 /// The regular file at a path, opened to be read, which nobody writes while it is read. `InUse`: nothing was read.
-pub fn opened_shared<F, R>(rt: &R, path: &str) -> Result<F, Refusal>
+pub fn opened_shared<F, R>(rt: &R, path: &str) -> Result<F, CommandFault>
 where
     F: Locks + Drop,
     R: HostFiles<File = F>,
@@ -135,14 +133,14 @@ where
     ensures bytes { IfOk result (λ file. AreOf R.stands rt.now path.now (F.unread file)) }
     ensures err { IfErr result IsUnread }
 {
-    let mut file = told(opened_to_read(rt, path))?;
+    let mut file = opened_to_read(rt, path)?;
     lock_shared(&mut file)?;
     Ok(file)
 }
 
 /// Lands the log that stands beside the image at a path, which this program has alone. `Log` if it gives no image: nothing
 /// was changed.
-fn land_beside<F, R>(rt: &R, names: &LogNames, path: &str) -> Result<(), Refusal>
+fn land_beside<F, R>(rt: &R, names: &LogNames, path: &str) -> Result<(), CommandFault>
 where
     F: EndedFile + OpenFile + Drop,
     R: HostFiles<File = F> + AllocGlobal,
@@ -151,8 +149,8 @@ where
     ensures { IfErr result IsUnbegun }
 {
     see_no_lost_log(rt, names)?;
-    let image = told(opened_to_change(rt, path))?;
-    let mut folder = told(ImageFolder::new(rt, names, image))?;
+    let image = opened_to_change(rt, path)?;
+    let mut folder = ImageFolder::new(rt, names, image)?;
     match land_in(rt.alloc(), &mut folder) {
         Ok(_) => Ok(()),
         Err(fault) => Err(log_refusal(&fault)),
@@ -162,7 +160,7 @@ where
 /// Ensures that no log stands beside the image at a path, whose file this program has alone. A log that stands there is
 /// landed, and its removal is synced. A program that came before may have been killed after it removed the log. A file of
 /// another size is no image, and its log is left alone. If a loss is accepted, the image isn't tagged then.
-fn settle_log<F, R>(rt: &R, path: &str, image: &F, loss: Loss) -> Result<(), Refusal>
+fn settle_log<F, R>(rt: &R, path: &str, image: &F, loss: Loss) -> Result<(), CommandFault>
 where
     F: EndedFile + Locks + OpenFile + Drop,
     R: HostFiles<File = F> + AllocGlobal,
@@ -173,12 +171,12 @@ where
     if !is_sized(image)? {
         return Ok(());
     }
-    let names = told(LogNames::of(rt, rt.alloc(), path))?;
+    let names = LogNames::of(rt, rt.alloc(), path)?;
     accept_loss(rt, &names, path, loss)?;
-    if told(is_there(rt, names.log()))? {
+    if is_there(rt, names.log())? {
         return land_beside(rt, &names, path);
     }
-    told(sync_names(rt, &names))
+    Ok(sync_names(rt, &names)?)
 }
 
 /// Whether a log stands beside an image.
@@ -199,30 +197,30 @@ pub fn accept_loss<R: HostFiles>(
     names: &LogNames,
     path: &str,
     loss: Loss,
-) -> Result<(), Refusal>
+) -> Result<(), CommandFault>
 where
     R::File: EndedFile,
     requires image { MayWrite R.rights rt.now path.now }
     requires log { May R.rights rt.now Look (log_of (string_bytes names.now.image)) }
     ensures { IfErr result IsUnbegun }
 {
-    if loss == Loss::Refused || told(has_log(rt, names))? {
+    if loss == Loss::Refused || has_log(rt, names)? {
         return Ok(());
     }
-    let mut image = told(opened_to_change(rt, path))?;
+    let mut image = opened_to_change(rt, path)?;
     if !is_sized(&image)? {
         return Ok(());
     }
     match untag_file(&mut image) {
         Ok(()) => Ok(()),
-        Err(_) => Err(Refusal::Fault(CommandFault::Device)),
+        Err(_) => Err(CommandFault::Device),
     }
 }
 
 /// The image's file at a path, which this program has alone and which is going to be written: a log that stood beside it
 /// was landed, and none is there. `Log` if the log gives no image: nothing was changed. A file of another size is no
 /// image, and its log is left alone. If a loss is accepted, the image isn't tagged then.
-pub fn opened_and_landed<F, R>(rt: &R, path: &str, loss: Loss) -> Result<F, Refusal>
+pub fn opened_and_landed<F, R>(rt: &R, path: &str, loss: Loss) -> Result<F, CommandFault>
 where
     F: EndedFile + Locks + OpenFile + Drop,
     R: HostFiles<File = F> + AllocGlobal,
@@ -248,7 +246,11 @@ fn is_overlong(fault: &LogFault) -> bool {
 /// The sectors that the log beside the image at a path gives. None if there is no log, or the image has another size.
 /// `Log` if the log gives none, or is a link to nowhere; `TwoNames` if it gives them, and the image has a second name, or is
 /// mounted by itself. The image's file is locked for reading: so none is begun while it is read.
-pub fn logged_image<F, R>(rt: &R, path: &str, image: &F) -> Result<Option<Vec<[u8; 256]>>, Refusal>
+pub fn logged_image<F, R>(
+    rt: &R,
+    path: &str,
+    image: &F,
+) -> Result<Option<Vec<[u8; 256]>>, CommandFault>
 where
     F: OpenFile + Drop,
     R: HostFiles<File = F> + AllocGlobal,
@@ -259,8 +261,8 @@ where
     if !is_sized(image)? {
         return Ok(None);
     }
-    let names = told(LogNames::of(rt, rt.alloc(), path))?;
-    let again = told(opened_to_read(rt, path))?;
+    let names = LogNames::of(rt, rt.alloc(), path)?;
+    let again = opened_to_read(rt, path)?;
     let mut view = ImageView::new(rt, &names, again);
     match view_in(rt.alloc(), &mut view) {
         Ok(None) => {

@@ -11,7 +11,6 @@ mod names;
 mod new_images;
 mod outcomes;
 mod readings;
-mod refusals;
 
 pub use asides::Aside;
 pub use endings::{Ending, end, tell};
@@ -24,6 +23,5 @@ pub use locks::{read_owned, read_shared, read_synced};
 pub use losses::{Loss, cut_in, loss_refusal, see_log_away, see_untagged};
 pub use names::Name;
 pub use new_images::make_image;
-pub use outcomes::{job_end, over_end, run_end, told};
+pub use outcomes::{over_end, run_end};
 pub use readings::{image_at, image_of_file};
-pub use refusals::Refusal;

@@ -3,7 +3,6 @@ ghost use Rattle.std.specs.Prelude.{◌≡◌, IfErr, IfOk, IfSome, OnOk, take, 
 ghost use Rattle.image_file.specs.Durable.{AllStays};
 ghost use Rattle.opened_files.specs.HostFiles.{IsUnbegun, IsUnread};
 
-use crate::refusals::Refusal;
 use command_faults::CommandFault;
 use disk_layout::Fault;
 use image_file::Locks;
@@ -11,7 +10,7 @@ use std::alloc::Global;
 use std::io;
 
 /// Locks an image's file for this program alone. `InUse`: nothing was read or changed.
-pub(crate) fn lock_exclusive<F: Locks>(file: &mut F) -> Result<(), Refusal>
+pub(crate) fn lock_exclusive<F: Locks>(file: &mut F) -> Result<(), CommandFault>
     ensures owned { OnOk result (F.IsOwned file.new) }
     ensures shared { OnOk result (F.IsShared file.new) }
     ensures untouched { F.held file.new ≡ F.held file.old }
@@ -21,12 +20,12 @@ pub(crate) fn lock_exclusive<F: Locks>(file: &mut F) -> Result<(), Refusal>
 {
     match file.lock_alone() {
         Ok(()) => Ok(()),
-        Err(error) => Err(Refusal::of_lock(&error)),
+        Err(error) => Err(CommandFault::of_lock(&error)),
     }
 }
 
 /// Locks an image's file so that nobody writes it while it is read. `InUse`: nothing was read.
-pub(crate) fn lock_shared<F: Locks>(file: &mut F) -> Result<(), Refusal>
+pub(crate) fn lock_shared<F: Locks>(file: &mut F) -> Result<(), CommandFault>
     ensures shared { OnOk result (F.IsShared file.new) }
     ensures untouched { F.held file.new ≡ F.held file.old }
     ensures unread { F.unread file.new ≡ F.unread file.old }
@@ -34,7 +33,7 @@ pub(crate) fn lock_shared<F: Locks>(file: &mut F) -> Result<(), Refusal>
 {
     match file.lock_shared() {
         Ok(()) => Ok(()),
-        Err(error) => Err(Refusal::of_lock(&error)),
+        Err(error) => Err(CommandFault::of_lock(&error)),
     }
 }
 
@@ -49,7 +48,7 @@ pub fn read_shared<F: Locks>(alloc: Global, file: &mut F) -> io::Result<Vec<u8>>
 }
 
 /// The bytes of an image that this program has alone.
-pub fn read_owned<F: Locks>(alloc: Global, file: &mut F) -> Result<Vec<u8>, Refusal>
+pub fn read_owned<F: Locks>(alloc: Global, file: &mut F) -> Result<Vec<u8>, CommandFault>
     requires owned { F.IsOwned file.old }
     requires shared { F.IsShared file.old }
     ensures bytes { IfOk result (λ bytes. IfSome (F.held file.new) (λ all. vec_items bytes ≡ take 174849 all)) }
@@ -61,13 +60,13 @@ pub fn read_owned<F: Locks>(alloc: Global, file: &mut F) -> Result<Vec<u8>, Refu
 {
     match file.image(alloc) {
         Ok(bytes) => Ok(bytes),
-        Err(error) => Err(Refusal::Fault(CommandFault::of_io(&error))),
+        Err(error) => Err(CommandFault::of_io(&error)),
     }
 }
 
 /// The same of an image that is to be changed. What its file holds is synced first: an earlier program's writes may still
 /// be on their way. `Device` if that failed.
-pub fn read_synced<F: Locks>(alloc: Global, file: &mut F) -> Result<Vec<u8>, Refusal>
+pub fn read_synced<F: Locks>(alloc: Global, file: &mut F) -> Result<Vec<u8>, CommandFault>
     requires owned { F.IsOwned file.old }
     requires shared { F.IsShared file.old }
     ensures read { IfOk result (λ bytes. IfSome (F.unread file.old) (λ all. vec_items bytes ≡ take 174849 all)) }
@@ -77,6 +76,6 @@ pub fn read_synced<F: Locks>(alloc: Global, file: &mut F) -> Result<Vec<u8>, Ref
 {
     match file.sync() {
         Ok(()) => read_owned(alloc, file),
-        Err(_) => Err(Refusal::Fault(CommandFault::Device)),
+        Err(_) => Err(CommandFault::Device),
     }
 }

@@ -9,8 +9,6 @@ ghost use Rattle.shop_log.specs.life.LogRights.{MayForget, log_of};
 use crate::asides::Aside;
 use crate::image_logs::is_there;
 use crate::locks::lock_exclusive;
-use crate::outcomes::told;
-use crate::refusals::Refusal;
 use command_faults::CommandFault;
 use image_file::{EndedFile, HostFiles, Locks, private_mode, regular, replace_image};
 use shop_log::{LogNames, forget_log};
@@ -18,21 +16,21 @@ use std::fs::{Metadata, OpenFile};
 use std::io;
 
 /// What came of a call that makes a file or gives it its name. `Exists` if another file stood there.
-fn told_new<T>(made: io::Result<T>) -> Result<T, Refusal>
+fn told_new<T>(made: io::Result<T>) -> Result<T, CommandFault>
     ensures { IfOk result (λ it. made ≡ Ok it) }
 {
     match made {
-        Err(error) if error.kind() == io::ErrorKind::AlreadyExists => Err(Refusal::Exists),
-        made => told(made),
+        Err(error) if error.kind() == io::ErrorKind::AlreadyExists => Err(CommandFault::PathExists),
+        made => Ok(made?),
     }
 }
 
 /// Refuses a path beside which a log stands: that may be all that is left of a shop. `Exists`.
-fn see_no_log<R: HostFiles>(rt: &R, names: &LogNames) -> Result<(), Refusal>
+fn see_no_log<R: HostFiles>(rt: &R, names: &LogNames) -> Result<(), CommandFault>
     requires { May R.rights rt.now Look (log_of (string_bytes names.now.image)) }
 {
-    if told(is_there(rt, names.log()))? {
-        return Err(Refusal::Exists);
+    if is_there(rt, names.log())? {
+        return Err(CommandFault::PathExists);
     }
     Ok(())
 }
@@ -54,7 +52,7 @@ where
 }
 
 /// Takes a file that was made for this program alone. A log in the making of an image that stood there is removed.
-fn take<F, R>(rt: &R, names: &LogNames, file: &mut F) -> Result<(), Refusal>
+fn take<F, R>(rt: &R, names: &LogNames, file: &mut F) -> Result<(), CommandFault>
 where
     F: EndedFile + Locks + OpenFile,
     R: HostFiles<File = F>,
@@ -62,9 +60,9 @@ where
     ensures { F.EndedFile.remains.held file.new ≡ F.EndedFile.remains.held file.old }
 {
     // another thing may stand there by now
-    told(regular(OpenFile::metadata(file)))?;
+    regular(OpenFile::metadata(file))?;
     lock_exclusive(file)?;
-    told(forget_log(rt, names, None))
+    Ok(forget_log(rt, names, None)?)
 }
 
 /// Writes an image into a file that was made, and gives that its path.
@@ -73,7 +71,7 @@ fn fill<F, R>(
     names: &LogNames,
     file: &mut F,
     image: &[u8],
-) -> Result<(), Refusal>
+) -> Result<(), CommandFault>
 where
     F: EndedFile + Locks + OpenFile,
     R: HostFiles<File = F>,
@@ -87,7 +85,7 @@ where
     take(aside.rt, names, file)?;
     match replace_image(file, image) {
         Ok(()) => told_new(aside.give_path()),
-        Err(_) => Err(Refusal::Fault(CommandFault::File)),
+        Err(_) => Err(CommandFault::File),
     }
 }
 
@@ -101,7 +99,7 @@ pub fn make_image<F, R>(
     path: &str,
     like: Option<Metadata>,
     image: &[u8],
-) -> Result<(), Refusal>
+) -> Result<(), CommandFault>
 where
     F: EndedFile + Locks + OpenFile + Drop,
     R: HostFiles<File = F> + AllocGlobal,
@@ -110,7 +108,7 @@ where
     ensures { OnOk result (IsMadeAt F.EndedFile.remains R.traces rt.now path.now image.now) }
 {
     // before the file is made, since memory may be refused
-    let names = told(LogNames::of(rt, rt.alloc(), path))?;
+    let names = LogNames::of(rt, rt.alloc(), path)?;
     see_no_log(rt, &names)?;
     let aside = told_new(Aside::free(rt, path))?;
     let mut file = told_new(made_file(&aside, like))?;

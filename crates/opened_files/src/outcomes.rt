@@ -1,39 +1,17 @@
-//! What came of a call of the system or of a run, as the end of a job.
+//! What came of a run, as the end of a job.
 ghost use Rattle.std.specs.Prelude.{◌≡◌};
-ghost use Rattle.opened_files.specs.Ends.{IsEndOver, as_job, as_run, told_of};
+ghost use Rattle.opened_files.specs.Ends.{IsEndOver, as_run};
 
-use crate::refusals::Refusal;
 use command_faults::CommandFault;
 use disk_layout::Fault;
-use std::io::{self};
-
-/// What came of the system's part of a job, as it is reported.
-pub fn told<T>(taken: io::Result<T>) -> Result<T, Refusal>
-    ensures { result ≡ told_of taken }
-{
-    match taken {
-        Ok(it) => Ok(it),
-        Err(error) => Err(Refusal::of_io(&error)),
-    }
-}
-
-/// What came of a run, as a job's end.
-pub fn job_end(ended: Result<Option<Fault>, CommandFault>) -> Result<Option<Fault>, Refusal>
-    ensures { result ≡ as_job ended }
-{
-    match ended {
-        Ok(printed) => Ok(printed),
-        Err(fault) => Err(Refusal::Fault(fault)),
-    }
-}
 
 /// What came of a run that prints no fault, as a job's end.
-pub fn run_end(ended: Result<(), CommandFault>) -> Result<Option<Fault>, Refusal>
+pub fn run_end(ended: Result<(), CommandFault>) -> Result<Option<Fault>, CommandFault>
     ensures { result ≡ as_run ended }
 {
     match ended {
         Ok(()) => Ok(None),
-        Err(fault) => Err(Refusal::Fault(fault)),
+        Err(fault) => Err(fault),
     }
 }
 
@@ -41,8 +19,8 @@ pub fn run_end(ended: Result<(), CommandFault>) -> Result<Option<Fault>, Refusal
 /// that.
 pub fn over_end(
     ended: Result<(), CommandFault>,
-    refused: Option<Refusal>,
-) -> Result<Option<Fault>, Refusal>
+    refused: Option<CommandFault>,
+) -> Result<Option<Fault>, CommandFault>
     ensures { IsEndOver ended result }
 {
     match (ended, refused) {

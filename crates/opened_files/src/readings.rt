@@ -6,15 +6,14 @@ ghost use Rattle.opened_files.specs.Rights.{MayReadFile, MayReadImage};
 use crate::files::STANDARD_INPUT;
 use crate::image_logs::{logged_image, opened_shared};
 use crate::locks::read_shared;
-use crate::outcomes::told;
-use crate::refusals::Refusal;
+use command_faults::CommandFault;
 use image_file::{HostFiles, Locks, read_image};
 use std::fs::OpenFile;
 use std::io::Read;
 
 /// The bytes of the image at a path as its shop is now: of its log, if one stands beside it. Nobody begins to write the
 /// image while it is read.
-pub fn image_of_file<F, R>(rt: &R, path: &str) -> Result<Vec<u8>, Refusal>
+pub fn image_of_file<F, R>(rt: &R, path: &str) -> Result<Vec<u8>, CommandFault>
 where
     F: Locks + OpenFile + Drop,
     R: HostFiles<File = F> + AllocGlobal,
@@ -25,13 +24,13 @@ where
 {
     let mut file = opened_shared(rt, path)?;
     match logged_image(rt, path, &file)? {
-        Some(image) => told(read_image(rt.alloc(), image.as_slice().as_flattened())),
-        None => told(read_shared(rt.alloc(), &mut file)),
+        Some(image) => Ok(read_image(rt.alloc(), image.as_slice().as_flattened())?),
+        None => Ok(read_shared(rt.alloc(), &mut file)?),
     }
 }
 
 /// The bytes of the image at a path, as its shop is now, or of standard input.
-pub fn image_at<F, R>(rt: &R, path: &str) -> Result<Vec<u8>, Refusal>
+pub fn image_at<F, R>(rt: &R, path: &str) -> Result<Vec<u8>, CommandFault>
 where
     F: Locks + OpenFile + Drop,
     R: HostFiles<File = F> + Input + AllocGlobal,
@@ -41,7 +40,7 @@ where
     ensures err { IfErr result IsUnbegun }
 {
     if path == STANDARD_INPUT {
-        return told(read_image(rt.alloc(), rt.reader()));
+        return Ok(read_image(rt.alloc(), rt.reader())?);
     }
     image_of_file(rt, path)
 }

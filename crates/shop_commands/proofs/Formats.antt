@@ -83,22 +83,7 @@ not_written {F} {W} into contents tills file new_file out result fault told is =
         → IsFormatted into contents tills file new_file out out (Err f)
     so faults.File part = inl (part, refl)
     so faults.NoMemory same = (same, refl)
-    so faults.ImageSize never = absurd never
-    so (faults.Layout why) never = absurd never
-    so faults.NoFile never = absurd never
-    so faults.FileExists never = absurd never
-    so faults.DiskFull never = absurd never
-    so faults.Locked never = absurd never
-    so faults.NoStock never = absurd never
-    so faults.NoRequests never = absurd never
-    so (faults.BadCard item) never = absurd never
-    so (faults.BadRequestCard till) never = absurd never
-    so faults.TwoIntents never = absurd never
-    so (faults.ScriptLine line) never = absurd never
-    so (faults.RecordsLine line) never = absurd never
-    so faults.Geos never = absurd never
-    so faults.Format never = absurd never
-    so faults.Device never = absurd never
+    so _ never = absurd never
 
 -- it was, and that was said, or a part of it
 pub formatted : {F W : Type 0} (into : Remains F) (contents : W → Option (List ℕ)) (tills : ℕ)

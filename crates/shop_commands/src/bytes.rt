@@ -5,7 +5,7 @@ ghost use Rattle.line_text.specs.Handed.{AppendsPart};
 ghost use Rattle.command_faults.specs.declared.faults.CommandFault.TheVariants as faults;
 
 use command_faults::{CommandFault, flush};
-use host_session::write_whole;
+use line_text::hand_whole;
 use std::io::Write;
 
 /// Passes all of these bytes to the writer, and flushes it. `File` if it failed; then it has the first of these bytes, or
@@ -15,7 +15,7 @@ pub fn put_whole<W: Write>(out: &mut W, bytes: &[u8]) -> Result<(), CommandFault
     ensures err { IfErr result (λ fault.
         (fault ≡ faults.File) × AppendsPart (W.contents out.old) (W.contents out.new) bytes.now) }
 {
-    match write_whole(out, bytes) {
+    match hand_whole(out, bytes) {
         Ok(()) => flush(out),
         Err(_) => Err(CommandFault::File),
     }

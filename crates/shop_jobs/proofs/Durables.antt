@@ -15,7 +15,7 @@ use Rattle.command_faults.specs.declared.faults.CommandFault.{CommandFault}
 use Rattle.command_faults.specs.declared.faults.CommandFault.TheVariants as faults
 use Rattle.image_file.specs.declared.sectors.ImageFile.{ImageFile}
 use Rattle.shop_jobs.specs.DurableRuns.{IsDurableRun, IsFinished}
-use Rattle.opened_files.specs.Ends.{Ended}
+use Rattle.opened_files.specs.Ends.{JobEnd}
 
 -- what stays at the end is what was looked at
 image_left : {F : Type 0} (held lasting : F → Option (List ℕ)) (W : Whole held) (sized : Bool) (f g : F) → held g ≡ held f
@@ -27,7 +27,7 @@ image_left held lasting W true f g same stays c e =
 image_left held lasting W false f g same stays c e = none_kept e
 
 module _ {F : Type 0} {G : Ghosts F} (image : List ℕ) (file after : F)
-    (first left last : ImageFile F G) (end ended : Ended) (IsRun : ImageFile F G → ImageFile F G → Ended → Type 0) where
+    (first left last : ImageFile F G) (end ended : JobEnd) (IsRun : ImageFile F G → ImageFile F G → JobEnd → Type 0) where
   -- whatever the run was, its file was taken up, brought to the disk and handed back
   pub durable_run : IsTakenUp image file first → after ≡ placed_file last → IsRun first left end
       → IsFinished end left last ended → IsDurableRun image file after ended IsRun
@@ -55,31 +55,18 @@ module _ {F T : Type 0} (K : Keeps F) (o : Output T) (image script : List ℕ) (
   nothing_done : (fault : CommandFault) → IsFileFault K o image script file after old new fault → fault ≢ faults.File
       → fault ≢ faults.Device → IsUntouched file after old new
   nothing_done faults.ImageSize is _ _ = is.1
-  nothing_done (faults.Layout f) is _ _ = is.2
-  nothing_done faults.NoStock is _ _ = is.2
-  nothing_done faults.NoRequests is _ _ = is.2
-  nothing_done (faults.BadCard item) is _ _ = is.2
-  nothing_done (faults.BadRequestCard till) is _ _ = is.2
-  nothing_done faults.TwoIntents is _ _ = is.2
-  nothing_done (faults.ScriptLine line) is _ _ = is.2
-  nothing_done faults.File is other _ = absurd (other refl)
   nothing_done faults.NoMemory is _ _ = is.1
+  nothing_done faults.File is other _ = absurd (other refl)
   nothing_done faults.Device is _ other = absurd (other refl)
-  nothing_done faults.NoFile is _ _ = is.2
-  nothing_done faults.FileExists is _ _ = is.2
-  nothing_done faults.DiskFull is _ _ = is.2
-  nothing_done faults.Locked is _ _ = is.2
-  nothing_done (faults.RecordsLine line) is _ _ = is.2
-  nothing_done faults.Geos is _ _ = is.2
-  nothing_done faults.Format is _ _ = is.2
+  nothing_done _ is _ _ = is.2
 
-  pub undone : (end : Ended) → IfErr end (IsFileFault K o image script file after old new)
+  pub undone : (end : JobEnd) → IfErr end (IsFileFault K o image script file after old new)
       → IfErr end (λ fault. fault ≢ faults.File → fault ≢ faults.Device → IsUntouched file after old new)
   undone (Ok x) is = tt
   undone (Err fault) is = nothing_done fault is
 
 -- what a run that did nothing left is what was handed in
-module _ {F : Type 0} {G : Ghosts F} (file after : F) (first left last : ImageFile F G) (end ended : Ended)
+module _ {F : Type 0} {G : Ghosts F} (file after : F) (first left last : ImageFile F G) (end ended : JobEnd)
     (is_file : placed_file first ≡ file) (is_last : after ≡ placed_file last)
     (told : (ended ≡ end) ⊎ (ended ≡ Err faults.Device))
     (alone : IfErr end (λ fault. fault ≢ faults.File → last ≡ left)) where
@@ -87,7 +74,7 @@ module _ {F : Type 0} {G : Ghosts F} (file after : F) (first left last : ImageFi
   handed_back same left_alone = is_last ∙ ap placed_file (left_alone ∙ same) ∙ is_file
 
   module _ (Was Is : Type 0) (carry : last ≡ left → Was → Is) where
-    at_end : (e : Ended) → IfErr e (λ fault. fault ≢ faults.File → last ≡ left)
+    at_end : (e : JobEnd) → IfErr e (λ fault. fault ≢ faults.File → last ≡ left)
         → IfErr e (λ fault. fault ≢ faults.File → fault ≢ faults.Device → Was)
         → IfErr e (λ fault. fault ≢ faults.File → fault ≢ faults.Device → Is)
     at_end (Ok x) left_alone was = tt

@@ -14,45 +14,50 @@ use Rattle.request_cards.specs.declared.reply.Reply.{Reply}
 use Rattle.line_text.specs.scripts.Lines.{first_reset, lines}
 use Rattle.image_file.specs.ImageFile.{placed}
 use Rattle.image_file.specs.paths.Standing.{Stands}
-use Rattle.shop_commands.specs.Plays.{IsUntouched}
+use Rattle.host_session.specs.declared.faults.OpenFault.{OpenFault}
+use Rattle.host_session.specs.declared.faults.OpenFault.TheVariants as openings
+use Rattle.shop_commands.specs.Faults.{opening_fault}
+use Rattle.shop_commands.specs.Plays.{IsFileFault, IsUntouched}
 use Rattle.image_file.specs.declared.durability.WritesAt.{Ghosts}
 use Rattle.image_file.specs.declared.sectors.ImageFile.{ImageFile}
 use Rattle.shop_jobs.proofs.ServiceTold.{given-back, lent-lines, some-lines}
 use Rattle.shop_jobs.proofs.ToldSome.{run-some}
 use Rattle.shop_jobs.specs.ServiceEnds.{IsQuietEnd}
 use Rattle.shop_jobs.specs.DurableRuns.{IsDurableRun}
-use Rattle.opened_files.specs.Ends.{Ended, JobEnd, as_job}
+use Rattle.opened_files.specs.Ends.{JobEnd}
 use Rattle.shop_jobs.specs.Replies.{IsShopAt}
 use Rattle.opened_files.specs.HostFiles.{OfWritten}
 use Rattle.shop_jobs.specs.LoggedPlays.{IsLoggedPlayEnd}
 use Rattle.shop_jobs.specs.Replies.{AreAnswered, AreAnsweredBy, AreReplyLines, IsLoggedService, IsPlainPlayed}
 use Rattle.shop_jobs.specs.Replies.{IsShopOf, lines_to}
 use Rattle.shop_jobs.specs.Runs.{IsPlayRun}
-use Rattle.opened_files.specs.declared.refusals.Refusal.TheVariants as refusals
 use Rattle.shop_jobs.specs.declared.reply_lines.ReplyLines.{ReplyLines}
 
--- a job whose run ended so
-ended-ok : (ended : Ended) → IsOk (as_job ended) → IsOk ended
-ended-ok (Ok found) ok = refl
-ended-ok (Err fault) ok = ok
+-- no opening fails because a log is away
+not-away : (opening : OpenFault) → opening_fault opening ≡ faults.LogAway → ⊥
+not-away (openings.Layout fault) is = cc
+not-away openings.NoStock is = cc
+not-away openings.NoRequests is = cc
+not-away (openings.BadCard item) is = cc
+not-away (openings.BadRequestCard till) is = cc
+not-away openings.TwoIntents is = cc
+not-away openings.Device is = cc
 
 module _ {F W : Type 0} (contents : W → Option (List ℕ)) (file after : F) (before behind : ReplyLines W) (old new : W)
     (begun : before.out.now ≡ old) (back : before.out.ghost_name ≡ behind.out.ghost_name → new ≡ behind.out.now) where
   -- one that isn't done printed nothing
-  pub play-quiet : (ended : Ended) (end : JobEnd) → end ≡ as_job ended
-      → IfErr ended (λ fault. fault ≢ faults.File → fault ≢ faults.Device → IsUntouched file after before behind)
+  pub play-quiet : (end : JobEnd)
+      → IfErr end (λ fault. fault ≢ faults.File → fault ≢ faults.Device → IsUntouched file after before behind)
       → IsQuietEnd old new end
-  play-quiet (Ok printed) end told same = subst (λ e. IsQuietEnd old new e) (sym told) tt
-  play-quiet (Err fault) end told same =
-      subst (λ e. IsQuietEnd old new e) (sym told)
-      (λ other another. lent-lines contents before behind old new begun back (same
-      (λ is. other (ap (λ f. refusals.Fault f) is)) (λ is. another (ap (λ f. refusals.Fault f) is))).1)
+  play-quiet (Ok printed) same = tt
+  play-quiet (Err fault) same =
+      λ other another. lent-lines contents before behind old new begun back (same other another).1
 
   module _ {G : Ghosts F} (image script : List ℕ) where
-    abbrev Run : ImageFile F G → ImageFile F G → Ended → Type 0
+    abbrev Run : ImageFile F G → ImageFile F G → JobEnd → Type 0
     Run start left end = IsPlayRun placed (lines_to contents) image script start left before behind end
 
-    run-plain : HasNoReset (lines script) → (start left : ImageFile F G) (end : Ended) → Run start left end → IsOk end
+    run-plain : HasNoReset (lines script) → (start left : ImageFile F G) (end : JobEnd) → Run start left end → IsOk end
         → (s : Shop) × IsShopOf image s × AreAnsweredBy contents s (lines script) old new
     run-plain none start left (Ok found) run ok =
         let taken = run.done.1.1 in
@@ -67,27 +72,41 @@ module _ {F W : Type 0} (contents : W → Option (List ℕ)) (file after : F) (b
     run-plain none start left (Err fault) run ok = cc
 
     -- one that is done, of a script without resets, printed the replies of the image's shop to all lines
-    plain-ended : (ended : Ended) (end : JobEnd) → end ≡ as_job ended
-        → IsDurableRun {G = G} image file after ended Run → IsPlainPlayed contents (IsShopOf image) script old new end
-    plain-ended ended (Err refusal) told x none = tt
-    plain-ended ended (Ok found) told x none =
+    plain-ended : (ended : JobEnd) → IsDurableRun {G = G} image file after ended Run
+        → IsPlainPlayed contents (IsShopOf image) script old new ended
+    plain-ended (Err refusal) x none = tt
+    plain-ended (Ok found) x none =
         run-plain none x.first x.left x.end x.run
-        (⊎_elim (λ same. subst (λ (e : Ended). IsOk e) same (ended-ok ended (subst (λ (e : JobEnd). IsOk e) told refl)))
-        (λ device. absurd (false≢true (subst (λ (e : Ended). IsOk e) device
-        (ended-ok ended (subst (λ (e : JobEnd). IsOk e) told refl))))) x.finished.told)
+        (⊎_elim (λ same. subst (λ (e : JobEnd). IsOk e) same refl)
+        (λ device. absurd (false≢true (subst (λ (e : JobEnd). IsOk e) device refl))) x.finished.told)
 
-    pub play-plain : (ended : Ended) (end : JobEnd) (all : List ℕ) → script ≡ all
-        → end ≡ as_job ended → IsDurableRun {G = G} image file after ended Run
-        → IsPlainPlayed contents (IsShopOf image) all old new end
-    play-plain ended end all is told x =
-        subst (λ (bytes : List ℕ). IsPlainPlayed contents (IsShopOf image) bytes old new end) is (plain-ended ended end told x)
+    pub play-plain : (ended : JobEnd) (all : List ℕ) → script ≡ all → IsDurableRun {G = G} image file after ended Run
+        → IsPlainPlayed contents (IsShopOf image) all old new ended
+    play-plain ended all is x =
+        subst (λ (bytes : List ℕ). IsPlainPlayed contents (IsShopOf image) bytes old new ended) is (plain-ended ended x)
 
     -- however it ended, lines of replies were printed
-    pub play-lines : (ended : Ended) → IsDurableRun {G = G} image file after ended Run
+    pub play-lines : (ended : JobEnd) → IsDurableRun {G = G} image file after ended Run
         → AreReplyLines contents old new
     play-lines ended x =
         some-lines contents before behind old new begun back
         (run-some placed (lines_to contents) image script x.first x.left before behind x.end x.run)
+
+module _ {F W : Type 0} {G : Ghosts F} (contents : W → Option (List ℕ)) (image script : List ℕ) (file after : F)
+    (before behind : ReplyLines W) where
+  abbrev Plays : ImageFile F G → ImageFile F G → JobEnd → Type 0
+  Plays start left end = IsPlayRun placed (lines_to contents) image script start left before behind end
+
+  -- no play ends because a log is away
+  run-other : (start left : ImageFile F G) (end : JobEnd) → Plays start left end → end ≢ Err faults.LogAway
+  run-other start left end run is =
+      let Why : JobEnd → Type 0 = λ e. IfErr e (IsFileFault placed (lines_to contents) image script start left before behind) in
+      let why = subst Why is run.fault in
+      not-away why.1.opening why.1.is
+
+  pub play-other : (ended : JobEnd) → IsDurableRun {G = G} image file after ended Plays → ended ≢ Err faults.LogAway
+  play-other ended x is =
+      ⊎_elim (λ same. run-other x.first x.left x.end x.run (sym same ∙ is)) (λ device. cc) x.finished.told
 
 -- the shop of the bytes that were read of an image is that of those that the host says
 pub shop-at : {H : Type 0} (stands : H → List ℕ → Stands) (host : H) (path items slice : List ℕ)

@@ -14,7 +14,7 @@ use Rattle.host_session.specs.runs.Chains.{over_instants}
 use Rattle.host_session.specs.runs.ScriptRuns.{IsScriptRun}
 use Rattle.request_cards.specs.declared.reply.Reply.{Reply}
 use Rattle.shop_commands.specs.Plays.{IsFileFault, IsPlayEnd, IsPlayedOver}
-use Rattle.opened_files.specs.Ends.{Ended}
+use Rattle.opened_files.specs.Ends.{JobEnd}
 use Rattle.shop_jobs.specs.Replies.{IsToldSome}
 use Rattle.shop_jobs.specs.Runs.{IsPlayRun}
 use Rattle.shop_jobs.specs.WatchedFiles.{IsBrokenOff, media_for}
@@ -65,6 +65,6 @@ module _ {F T : Type 0} (K : Keeps F) (o : Output T) (image text : List ℕ) (fi
   fault-some faults.Device (failed, inr (fault, x)) = over-some (λ left. Err (fault, left)) x
   fault-some _ x = inl x.2.1
 
-  pub run-some : (ended : Ended) → IsPlayRun K o image text file after old new ended → IsToldSome o old new
+  pub run-some : (ended : JobEnd) → IsPlayRun K o image text file after old new ended → IsToldSome o old new
   run-some (Ok found) run = over-some (λ left. Ok left) run.done.1.1
   run-some (Err fault) run = fault-some fault run.fault

@@ -7,10 +7,10 @@ use Rattle.image_file.specs.ImageFile.{IsTakenUp, KeepsOn, placed, placed_file}
 use Rattle.image_file.specs.declared.durability.WritesAt.{Ghosts}
 use Rattle.command_faults.specs.declared.faults.CommandFault.TheVariants as faults
 use Rattle.image_file.specs.declared.sectors.ImageFile.{ImageFile}
-use Rattle.opened_files.specs.Ends.{Ended}
+use Rattle.opened_files.specs.Ends.{JobEnd}
 
 -- A run that ended as `end` left such a file. Then the rest of what was written was synced, and `ended` is reported.
-pub record IsFinished {F : Type 0} {G : Ghosts F} (end : Ended) (left last : ImageFile F G) (ended : Ended) : Type 0 where
+pub record IsFinished {F : Type 0} {G : Ghosts F} (end : JobEnd) (left last : ImageFile F G) (ended : JobEnd) : Type 0 where
   -- What is reported is how the run ended, or `Device` for a sync that failed. A run that was refused is reported as it
   -- ended.
   pub told : (ended ≡ end) ⊎ (ended ≡ Err faults.Device)
@@ -30,14 +30,14 @@ pub record IsFinished {F : Type 0} {G : Ghosts F} (end : Ended) (left last : Ima
 
 -- A run over the image of a file that was passed in, and which was left as `after`, ended so.
 pub record IsDurableRun {F : Type 0} {G : Ghosts F} (image : List ℕ) (file after : F)
-    (ended : Ended) (IsRun : ImageFile F G → ImageFile F G → Ended → Type 0) : Type 0 where
+    (ended : JobEnd) (IsRun : ImageFile F G → ImageFile F G → JobEnd → Type 0) : Type 0 where
   -- the file with its sectors at their places, as the run took it up, as it left it, and at the end
   pub first : ImageFile F G
   pub left : ImageFile F G
   pub last : ImageFile F G
   pub taken : IsTakenUp image file first
   -- how the run itself ended
-  pub end : Ended
+  pub end : JobEnd
   pub run : IsRun first left end
   pub finished : IsFinished end left last ended
   pub is_after : placed_file last ≡ after

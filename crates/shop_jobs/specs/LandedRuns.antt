@@ -2,8 +2,7 @@
 use Rattle.std.specs.Prelude.{◌≡◌, Bool, if◌then◌else◌, Option, Some, None, Ok, Err, ◌≢◌, ◌⊎◌, IfSome, IsOk, IsSome}
 use Rattle.command_faults.specs.declared.faults.CommandFault.TheVariants as faults
 use Rattle.shop_log.specs.declared.life.landing.LogFault.{LogFault}
-use Rattle.opened_files.specs.declared.refusals.Refusal.{Refusal}
-use Rattle.opened_files.specs.declared.refusals.Refusal.TheVariants as refusals
+use Rattle.command_faults.specs.declared.faults.CommandFault.{CommandFault}
 use Rattle.d64_image.specs.Images.{Image}
 use Rattle.host_session.specs.shop.Shop.{IsSettled, Shop}
 use Rattle.shop_log.specs.life.Bringing.{RestsAlone}
@@ -15,24 +14,24 @@ use Rattle.opened_files.specs.Ends.{JobEnd, log_refusal}
 
 -- it ended well, or only its input or output failed
 abbrev pub IsServedOut : JobEnd → Type 0
-IsServedOut end = IsOk end ⊎ (end ≡ Err (refusals.Fault faults.File))
+IsServedOut end = IsOk end ⊎ (end ≡ Err faults.File)
 
 -- A service ended so over a log in a folder, and this end is reported.
 pub record IsLandedEnd {F D : Type 0} {G : Ghosts F} (h : FolderHistory D) (log : LiveLog F D G) (ended : JobEnd)
     (folder : Option D) (end : JobEnd) : Type 0 where
   -- the log of one that ended with `Device` is left where it is
-  pub left : ended ≡ Err (refusals.Fault faults.Device) → (end ≡ ended) × (folder ≡ None)
+  pub left : ended ≡ Err faults.Device → (end ≡ ended) × (folder ≡ None)
   -- otherwise it is landed: if the end is reported as good, or as one of the input or the output, IMAGE has what the log
   -- stood for, and there is no log
-  pub tried : ended ≢ Err (refusals.Fault faults.Device) → IsSome folder
+  pub tried : ended ≢ Err faults.Device → IsSome folder
   pub landed : (image : Image) → (of_live h).stands_for log image → IsServedOut end
       → IfSome folder (λ d. RestsAlone h d image)
   -- what is reported is how it ended, or that the log couldn't be landed
-  pub told : (end ≡ ended) ⊎ ((end ≡ Err (refusals.Fault faults.Device)) ⊎ (end ≡ Err (refusals.Fault faults.NoMemory)))
+  pub told : (end ≡ ended) ⊎ ((end ≡ Err faults.Device) ⊎ (end ≡ Err faults.NoMemory))
 
 -- the end of a service that ended so, and whose image's file has gone or hasn't
 abbrev pub watched_end : (gone : Bool) → JobEnd → JobEnd
-watched_end gone ended = if gone then Err (refusals.Fault faults.Device) else ended
+watched_end gone ended = if gone then Err faults.Device else ended
 
 -- Something was done over a log in a folder, and left the log with this end. Then the log was landed, as after a service
 -- with this end; or as after one with `Device`, if the image's file had gone.
@@ -49,12 +48,12 @@ HasLanded h s None = ⊥
 HasLanded h s (Some folder) = (image : Image) × IsSettled image s × RestsAlone h folder image
 
 -- what is reported of a log that can't be landed for this reason
-abbrev pub landing_fault : Refusal → Refusal
-landing_fault (refusals.Fault faults.NoMemory) = refusals.Fault faults.NoMemory
-landing_fault _ = refusals.Fault faults.Device
+abbrev pub landing_fault : CommandFault → CommandFault
+landing_fault faults.NoMemory = faults.NoMemory
+landing_fault _ = faults.Device
 
 -- how a service ends that ended so, and whose log can't be landed for this fault
 abbrev pub unlanded : JobEnd → LogFault → JobEnd
 unlanded (Ok _) fault = Err (landing_fault (log_refusal fault))
-unlanded (Err (refusals.Fault faults.File)) fault = Err (landing_fault (log_refusal fault))
+unlanded (Err faults.File) fault = Err (landing_fault (log_refusal fault))
 unlanded (Err refusal) fault = Err refusal

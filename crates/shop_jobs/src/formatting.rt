@@ -14,7 +14,7 @@ use command_faults::CommandFault;
 use d64_image::IMAGE_BYTES;
 use disk_layout::Fault;
 use image_file::{EndedFile, HostFiles, Locks, OverwrittenFile};
-use opened_files::{AtPath, Refusal, opened_alone, over_end, run_end, see_size, size_of, told};
+use opened_files::{AtPath, opened_alone, over_end, run_end, see_size, size_of};
 use shop_commands::{format_image, fresh_disk, put_whole};
 use shop_log::{
     ImageFolder, LogFile, LogFolder, LogNames, LogRoom, find_log, image_room, sectors_of, supersede,
@@ -80,7 +80,7 @@ pub fn format_folder<F: LogFile, D: LogFolder<F>, W: Write>(
 
 /// The image's file at a path, which this program has alone, and the names of its log. `ImageSize` if it has another size;
 /// `File` also if something else than a log stands in the place of its log.
-fn image_to_replace<F, R>(rt: &R, path: &str) -> Result<(LogNames, F), Refusal>
+fn image_to_replace<F, R>(rt: &R, path: &str) -> Result<(LogNames, F), CommandFault>
 where
     F: Locks + OpenFile + Drop,
     R: HostFiles<File = F> + AllocGlobal,
@@ -89,8 +89,8 @@ where
 {
     let file = opened_alone(rt, path)?;
     see_size(&file)?;
-    let names = told(LogNames::of(rt, rt.alloc(), path))?;
-    told(find_log(rt, &names))?;
+    let names = LogNames::of(rt, rt.alloc(), path)?;
+    find_log(rt, &names)?;
     Ok((names, file))
 }
 
@@ -100,7 +100,7 @@ fn replace_shop<F, R, W>(
     path: &str,
     tills: u8,
     out: &mut W,
-) -> Result<Option<Fault>, Refusal>
+) -> Result<Option<Fault>, CommandFault>
 where
     F: EndedFile + Locks + OpenFile + Drop,
     R: HostFiles<File = F> + AllocGlobal,
@@ -111,13 +111,18 @@ where
     ensures { IsMakingEnd W.contents (codes "FORMATTED\n") out.old out.new result }
 {
     let (names, file) = image_to_replace(rt, path)?;
-    let mut folder = told(ImageFolder::new(rt, &names, file))?;
+    let mut folder = ImageFolder::new(rt, &names, file)?;
     run_end(format_folder(rt.alloc(), &mut folder, tills, out))
 }
 
 /// Makes the image at a path, where nothing stands, or over a file that is no image. The log of what is replaced stays until
 /// the image is whole.
-fn make_shop<F, R, W>(rt: &R, path: &str, tills: u8, out: &mut W) -> Result<Option<Fault>, Refusal>
+fn make_shop<F, R, W>(
+    rt: &R,
+    path: &str,
+    tills: u8,
+    out: &mut W,
+) -> Result<Option<Fault>, CommandFault>
 where
     F: EndedFile + Locks + OpenFile + Drop,
     R: HostFiles<File = F> + AllocGlobal,
@@ -139,7 +144,7 @@ pub fn do_format<F, R, W>(
     path: &str,
     tills: u8,
     out: &mut W,
-) -> Result<Option<Fault>, Refusal>
+) -> Result<Option<Fault>, CommandFault>
 where
     F: EndedFile + Locks + OpenFile + Drop,
     R: HostFiles<File = F> + AllocGlobal,

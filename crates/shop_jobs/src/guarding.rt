@@ -3,9 +3,10 @@ ghost use Rattle.opened_files.specs.Losses.{IsEndOfRun, IsGuarded};
 ghost use Rattle.shop_jobs.specs.LoggedRuns.{IsLoggedRun, IsUnlogged};
 
 use crate::logged_runs::serve_logged;
+use command_faults::CommandFault;
 use disk_layout::Fault;
 use line_server::{BatchSource, Reports};
-use opened_files::{Loss, Refusal, loss_refusal, run_end};
+use opened_files::{Loss, loss_refusal, run_end};
 use shop_log::ImageLog;
 use std::alloc::Global;
 
@@ -18,7 +19,7 @@ pub fn serve_logged_guarded<L: ImageLog, R: BatchSource, T: Reports<L>>(
     loss: Loss,
     input: &mut R,
     out: &mut T,
-) -> Result<Option<Fault>, Refusal>
+) -> Result<Option<Fault>, CommandFault>
     ensures { IsGuarded image.now loss (IsUnlogged log.old log.new input.old input.new out.old out.new)
         (IsEndOfRun (IsLoggedRun L.history R.input T.output image.now log.old log.new input.old input.new
         out.old out.new)) result }

@@ -3,9 +3,10 @@ ghost use Rattle.std.specs.Prelude.{◌≤◌};
 ghost use Rattle.opened_files.specs.Rights.{MayMakeImage};
 ghost use Rattle.shop_jobs.specs.NewShops.{IsNewShopEnd};
 
+use command_faults::CommandFault;
 use disk_layout::Fault;
 use image_file::{EndedFile, HostFiles, Locks};
-use opened_files::{Refusal, make_image, run_end};
+use opened_files::{make_image, run_end};
 use shop_commands::{fresh_disk, put_whole};
 use std::fs::OpenFile;
 use std::io::Write;
@@ -18,7 +19,7 @@ pub fn do_format_new<F, R, W>(
     path: &str,
     tills: u8,
     out: &mut W,
-) -> Result<Option<Fault>, Refusal>
+) -> Result<Option<Fault>, CommandFault>
 where
     F: EndedFile + Locks + OpenFile + Drop,
     R: HostFiles<File = F> + AllocGlobal,
@@ -28,10 +29,7 @@ where
     requires few { tills ≤ 64 }
     ensures { IsNewShopEnd R.traces F.EndedFile.remains W.contents rt.now path.now tills out.old out.new result }
 {
-    let disk = match fresh_disk(rt.alloc(), tills) {
-        Ok(disk) => disk,
-        Err(fault) => return Err(Refusal::Fault(fault)),
-    };
+    let disk = fresh_disk(rt.alloc(), tills)?;
     make_image(rt, path, None, disk.bytes())?;
     run_end(put_whole(out, b"FORMATTED\n"))
 }

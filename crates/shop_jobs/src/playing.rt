@@ -6,11 +6,10 @@ ghost use Rattle.opened_files.specs.Rights.{MayChangeImage, MayReadText};
 use crate::durable_runs::play_durably;
 use crate::reply_lines::ReplyLines;
 use crate::shop_runs::dry_run;
+use command_faults::CommandFault;
 use disk_layout::Fault;
 use image_file::{EndedFile, HostFiles, Locks};
-use opened_files::{
-    Loss, Refusal, job_end, opened_and_landed, read_owned, script_to_play, see_untagged,
-};
+use opened_files::{Loss, opened_and_landed, read_owned, script_to_play, see_untagged};
 use std::fs::OpenFile;
 use std::io::Write;
 
@@ -22,7 +21,7 @@ pub fn do_playing<F, R, W>(
     script: &str,
     loss: Loss,
     out: &mut W,
-) -> Result<Option<Fault>, Refusal>
+) -> Result<Option<Fault>, CommandFault>
 where
     F: EndedFile + Locks + OpenFile + Drop,
     R: HostFiles<File = F> + Input + AllocGlobal,
@@ -44,11 +43,11 @@ where
         file,
         &mut printer,
     );
-    job_end(ended)
+    ended
 }
 
 /// Prints the replies to the script at a path.
-pub fn do_dry<R, W>(rt: &R, path: &str, out: &mut W) -> Result<Option<Fault>, Refusal>
+pub fn do_dry<R, W>(rt: &R, path: &str, out: &mut W) -> Result<Option<Fault>, CommandFault>
 where
     R: HostFiles + Input + AllocGlobal,
     W: Write,

@@ -24,7 +24,7 @@ use disk_layout::Fault;
 use image_file::{EndedFile, HostFiles, Locks, Stays};
 use line_server::Reports;
 use line_text::first_reset_line;
-use opened_files::{Loss, Refusal, opened_alone, run_end, script_to_play, see_size, told};
+use opened_files::{Loss, opened_alone, run_end, script_to_play, see_size};
 use shop_log::{LiveLog, LogFile, LogFolder, LogNames};
 use std::alloc::Global;
 use std::fs::OpenFile;
@@ -39,7 +39,7 @@ fn play_begun<L, D, N, T>(
     log: LiveLog<L, D>,
     name: &N,
     out: &mut T,
-) -> (Option<D>, Result<Option<Fault>, Refusal>)
+) -> (Option<D>, Result<Option<Fault>, CommandFault>)
 where
     L: LogFile,
     D: LogFolder<L> + Drop,
@@ -67,7 +67,7 @@ fn play_printed<L, D, N, W>(
     log: LiveLog<L, D>,
     name: &N,
     out: &mut W,
-) -> Result<Option<Fault>, Refusal>
+) -> Result<Option<Fault>, CommandFault>
 where
     L: LogFile,
     D: LogFolder<L> + Drop,
@@ -85,7 +85,7 @@ where
 
 /// The bytes of the script at a path, which is to be played on the image in this file. `ImageSize` if the file hasn't as
 /// many bytes as an image; `BadLine` if a line begins with `@`: the first such line.
-fn plain_script<F, R>(rt: &R, path: &str, image: &F) -> Result<Vec<u8>, Refusal>
+fn plain_script<F, R>(rt: &R, path: &str, image: &F) -> Result<Vec<u8>, CommandFault>
 where
     F: OpenFile,
     R: HostFiles + Input + AllocGlobal,
@@ -99,7 +99,7 @@ where
     see_size(image)?;
     match first_reset_line(script.as_slice()) {
         None => Ok(script),
-        Some(line) => Err(Refusal::Fault(CommandFault::ScriptLine(line))),
+        Some(line) => Err(CommandFault::ScriptLine(line)),
     }
 }
 
@@ -112,7 +112,7 @@ fn play_beside<F, R, W>(
     script: &[u8],
     loss: Loss,
     out: &mut W,
-) -> Result<Option<Fault>, Refusal>
+) -> Result<Option<Fault>, CommandFault>
 where
     F: EndedFile + Locks + OpenFile + Drop,
     R: HostFiles<File = F> + AllocGlobal,
@@ -129,7 +129,7 @@ where
 {
     let alloc = rt.alloc();
     let name = name_of(rt, path, &image)?;
-    let names = told(LogNames::of(rt, alloc, path))?;
+    let names = LogNames::of(rt, alloc, path)?;
     let (bytes, log) = begun_beside(rt, path, &names, &mut image, loss, Loss::Accepted)?;
     let ended = play_printed(alloc, bytes.as_slice(), script, log, &name, out);
     cleared_end(rt, path, &image, &names, ended)
@@ -146,7 +146,7 @@ pub fn do_logged_playing<F, R, W>(
     script: &str,
     loss: Loss,
     out: &mut W,
-) -> Result<Option<Fault>, Refusal>
+) -> Result<Option<Fault>, CommandFault>
 where
     F: EndedFile + Locks + OpenFile + Drop,
     R: HostFiles<File = F> + Input + AllocGlobal,

@@ -6,7 +6,8 @@ ghost use Rattle.line_text.specs.Handed.{AppendsPart};
 ghost use Rattle.shop_jobs.specs.Replies.{lines_to};
 
 use d64_image::Sectors;
-use host_session::{NotTaken, ReplySink, write_whole};
+use host_session::ReplySink;
+use line_text::{NotTaken, hand_whole};
 use request_cards::Reply;
 use std::io::Write;
 
@@ -34,7 +35,7 @@ fn put_reply<W: Write>(out: &mut W, reply: &Reply) -> Result<(), NotTaken>
 {
     let mut room = [b'\n'; 44];
     let start = reply.write(&mut room, 43);
-    write_whole(out, &room[start..])
+    hand_whole(out, &room[start..])
 }
 
 impl<'a, D: Sectors, W: Write> ReplySink<D> for ReplyLines<'a, W> {

@@ -25,8 +25,8 @@ use host_session::ReplySink;
 use image_file::{EndedFile, HostFiles, Locks, Stays, opened_to_change};
 use line_server::BatchSource;
 use opened_files::{
-    Loss, Refusal, accept_loss, log_refusal, loss_refusal, opened_alone, read_shared,
-    see_no_lost_log, see_size, see_untagged, told,
+    Loss, accept_loss, log_refusal, loss_refusal, opened_alone, read_shared, see_no_lost_log,
+    see_size, see_untagged,
 };
 use shop_log::{
     ImageFolder, LiveLog, LogFault, LogFile, LogFolder, LogNames, LogRoom, SystemLog, TouchedDisk,
@@ -41,7 +41,7 @@ fn folder_of<'a, F, R>(
     rt: &'a R,
     names: &'a LogNames,
     path: &str,
-) -> Result<ImageFolder<'a, R>, Refusal>
+) -> Result<ImageFolder<'a, R>, CommandFault>
 where
     F: EndedFile + OpenFile + Drop,
     R: HostFiles<File = F> + AllocGlobal,
@@ -49,8 +49,8 @@ where
     requires log { MayKeepLogOf R.rights rt.now (string_bytes names.now.image) }
 {
     see_no_lost_log(rt, names)?;
-    let image = told(opened_to_change(rt, path))?;
-    Ok(told(ImageFolder::new(rt, names, image))?.tagging())
+    let image = opened_to_change(rt, path)?;
+    Ok(ImageFolder::new(rt, names, image)?.tagging())
 }
 
 /// The sectors of the shop that a folder gives, which the image has from then on. `Log` if its log gives none: nothing
@@ -58,7 +58,7 @@ where
 fn shop_of<L: LogFile, D: LogFolder<L>, R: AllocGlobal>(
     rt: &R,
     folder: &mut D,
-) -> Result<Vec<[u8; 256]>, Refusal>
+) -> Result<Vec<[u8; 256]>, CommandFault>
     ensures { IfOk result (λ shop. length shop.items ≡ 683) }
 {
     match land_in(rt.alloc(), folder) {
@@ -68,26 +68,24 @@ fn shop_of<L: LogFile, D: LogFolder<L>, R: AllocGlobal>(
 }
 
 /// What is reported of a log that can't be landed for this reason: `NoMemory` if memory was refused, otherwise `Device`.
-fn landing_refusal(refusal: &Refusal) -> Refusal
-    ensures { result ≡ landing_fault refusal.now }
+fn landing_refusal(refusal: CommandFault) -> CommandFault
+    ensures { result ≡ landing_fault refusal }
 {
     match refusal {
-        Refusal::Fault(CommandFault::NoMemory) => Refusal::Fault(CommandFault::NoMemory),
-        _ => Refusal::Fault(CommandFault::Device),
+        CommandFault::NoMemory => CommandFault::NoMemory,
+        _ => CommandFault::Device,
     }
 }
 
 /// How a service ends that ended so, and whose log can't be landed for this fault: a refusal stays what it is.
 fn unlanded(
-    ended: Result<Option<Fault>, Refusal>,
+    ended: Result<Option<Fault>, CommandFault>,
     fault: &LogFault,
-) -> Result<Option<Fault>, Refusal>
+) -> Result<Option<Fault>, CommandFault>
     ensures { result ≡ unlanded_end ended fault.now }
 {
     match ended {
-        Ok(_) | Err(Refusal::Fault(CommandFault::File)) => Err(landing_refusal(&log_refusal(
-            fault,
-        ))),
+        Ok(_) | Err(CommandFault::File) => Err(landing_refusal(log_refusal(fault))),
         Err(refusal) => Err(refusal),
     }
 }
@@ -96,11 +94,11 @@ fn unlanded(
 /// it is, and the next service or change lands it. `NoMemory` or `Device` if it couldn't be landed.
 pub(crate) fn landed_end<L: LogFile, D: LogFolder<L> + Drop>(
     log: LiveLog<L, D>,
-    ended: Result<Option<Fault>, Refusal>,
-) -> (Option<D>, Result<Option<Fault>, Refusal>)
+    ended: Result<Option<Fault>, CommandFault>,
+) -> (Option<D>, Result<Option<Fault>, CommandFault>)
     ensures { IsLandedEnd D.history log ended result.0 result.1 }
 {
-    if let Err(Refusal::Fault(CommandFault::Device)) = ended {
+    if let Err(CommandFault::Device) = ended {
         return (None, ended);
     }
     let (folder, landed) = log.end();
@@ -120,7 +118,7 @@ fn serve_begun<L, D, N, I, T>(
     loss: Loss,
     input: &mut I,
     answers: &mut WhileThere<'_, N, T>,
-) -> (Option<D>, Result<Option<Fault>, Refusal>)
+) -> (Option<D>, Result<Option<Fault>, CommandFault>)
 where
     L: LogFile,
     D: LogFolder<L> + Drop,
@@ -147,7 +145,7 @@ fn serve_watched<L, D, N, I, T>(
     input: &mut I,
     name: N,
     out: &mut T,
-) -> Result<Option<Fault>, Refusal>
+) -> Result<Option<Fault>, CommandFault>
 where
     L: LogFile,
     D: LogFolder<L> + Drop,
@@ -173,7 +171,7 @@ fn serve_printed<L, D, N, I, W>(
     input: &mut I,
     name: N,
     out: &mut W,
-) -> Result<Option<Fault>, Refusal>
+) -> Result<Option<Fault>, CommandFault>
 where
     L: LogFile,
     D: LogFolder<L> + Drop,
@@ -194,8 +192,8 @@ pub(crate) fn cleared_end<F: OpenFile, R: HostFiles<File = F>, T>(
     path: &str,
     image: &F,
     names: &LogNames,
-    ended: Result<T, Refusal>,
-) -> Result<T, Refusal>
+    ended: Result<T, CommandFault>,
+) -> Result<T, CommandFault>
     requires image { May R.rights rt.now Look path.now }
     requires log { MayForget R.rights rt.now (string_bytes names.now.image) }
     ensures { result ≡ ended }
@@ -214,16 +212,16 @@ fn landed_bytes<F: Locks>(
     image: &mut F,
     shop: &[[u8; 256]],
     away: Loss,
-) -> Result<Vec<u8>, Refusal>
+) -> Result<Vec<u8>, CommandFault>
     requires shared { F.IsShared image.old }
     ensures shop { IfOk result (λ bytes. vec_items bytes ≡ flat_map (λ sector. sector) shop.now) }
     ensures read { IfOk result (λ bytes. IfSome (F.unread image.old) (λ all. vec_items bytes ≡ take 174849 all)) }
     ensures whole { IfOk result (λ bytes. ¬ (SaysLogAway (vec_items bytes))) }
 {
-    let bytes = told(read_shared(alloc, image))?;
+    let bytes = read_shared(alloc, image)?;
     see_untagged(bytes.as_slice(), away)?;
     if bytes.as_slice() != shop.as_flattened() {
-        return Err(Refusal::Fault(CommandFault::Device));
+        return Err(CommandFault::Device);
     }
     Ok(bytes)
 }
@@ -238,7 +236,7 @@ pub(crate) fn begun_beside<'a, F, R>(
     image: &mut F,
     away: Loss,
     cut: Loss,
-) -> Result<(Vec<u8>, LiveLog<SystemLog<'a, R>, ImageFolder<'a, R>>), Refusal>
+) -> Result<(Vec<u8>, LiveLog<SystemLog<'a, R>, ImageFolder<'a, R>>), CommandFault>
 where
     F: EndedFile + Locks + OpenFile + Drop,
     R: HostFiles<File = F> + AllocGlobal,
@@ -253,18 +251,20 @@ where
     accept_loss(rt, names, path, away)?;
     let mut folder = folder_of(rt, names, path)?;
     let shop = shop_of(rt, &mut folder)?;
-    let room = told(LogRoom::new(alloc).map_err(From::from))?;
+    let Ok(room) = LogRoom::new(alloc) else {
+        return Err(CommandFault::NoMemory);
+    };
     let bytes = landed_bytes(alloc, image, shop.as_slice(), away)?;
     if let Some(refusal) = loss_refusal(alloc, bytes.as_slice(), cut) {
         return Err(refusal);
     }
     let log = match LiveLog::begin(alloc, folder, room, shop) {
         Ok(log) => log,
-        Err((error, _)) => return cleared_end(rt, path, image, names, told(Err(error))),
+        Err((error, _)) => return cleared_end(rt, path, image, names, Err(error.into())),
     };
     match image.lock_shared() {
         Ok(()) => Ok((bytes, log)),
-        Err(error) => Err(Refusal::of_lock(&error)),
+        Err(error) => Err(CommandFault::of_lock(&error)),
     }
 }
 
@@ -277,7 +277,7 @@ pub fn do_logged_serving<F, R, W>(
     path: &str,
     loss: Loss,
     out: &mut W,
-) -> Result<Option<Fault>, Refusal>
+) -> Result<Option<Fault>, CommandFault>
 where
     F: EndedFile + Locks + OpenFile + Drop,
     R: HostFiles<File = F> + Input + AllocGlobal,
@@ -289,9 +289,9 @@ where
     let mut image = opened_alone(rt, path)?;
     see_size(&image)?;
     // A bare reader of standard input reads a byte a call.
-    let mut input = told(BufReader::new(alloc, rt.reader()))?;
+    let mut input = BufReader::new(alloc, rt.reader())?;
     let name = name_of(rt, path, &image)?;
-    let names = told(LogNames::of(rt, alloc, path))?;
+    let names = LogNames::of(rt, alloc, path)?;
     let (bytes, log) = begun_beside(rt, path, &names, &mut image, loss, loss)?;
     let ended = serve_printed(alloc, bytes.as_slice(), log, loss, &mut input, name, out);
     cleared_end(rt, path, &image, &names, ended)

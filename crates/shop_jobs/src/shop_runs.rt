@@ -8,19 +8,18 @@ use command_faults::CommandFault;
 use d64_image::{KeptMirror, SectorFile};
 use disk_layout::Fault;
 use host_session::ReplySink;
-use opened_files::Refusal;
 use shop_commands::{DryFault, dry, play_file};
 use std::alloc::Global;
 use std::io::Write;
 
 /// The end of a run without a disk.
-fn dry_ended(end: Result<(), DryFault>) -> Result<Option<Fault>, Refusal>
+fn dry_ended(end: Result<(), DryFault>) -> Result<Option<Fault>, CommandFault>
     ensures { result ≡ dry_end end }
 {
     match end {
         Ok(()) => Ok(None),
-        Err(DryFault::BadLine(line)) => Err(Refusal::Fault(CommandFault::ScriptLine(line))),
-        Err(DryFault::Output) => Err(Refusal::Fault(CommandFault::File)),
+        Err(DryFault::BadLine(line)) => Err(CommandFault::ScriptLine(line)),
+        Err(DryFault::Output) => Err(CommandFault::File),
     }
 }
 
@@ -28,7 +27,7 @@ fn dry_ended(end: Result<(), DryFault>) -> Result<Option<Fault>, Refusal>
 /// printed. `File` if the output failed.
 // Out of line: its frame is large, and a frame touches each page of it.
 #[inline(never)]
-pub fn dry_run<W: Write>(script: &[u8], out: &mut W) -> Result<Option<Fault>, Refusal>
+pub fn dry_run<W: Write>(script: &[u8], out: &mut W) -> Result<Option<Fault>, CommandFault>
     ensures { IsDryRun W.contents script.now out.old out.new result }
 {
     dry_ended(dry(script, out))

@@ -2,15 +2,14 @@
 ghost use Rattle.std.specs.Prelude.{◌≡◌, if◌then◌else◌, Err, true};
 ghost use Rattle.command_faults.specs.declared.faults.CommandFault.TheVariants as faults;
 ghost use Rattle.shop_jobs.specs.WatchedFiles.{media_for as media, while_there};
-ghost use Rattle.opened_files.specs.declared.refusals.Refusal.TheVariants as refusals;
 ghost use Rattle.image_file.specs.paths.Rights.{Look, May};
 
 use command_faults::CommandFault;
 use d64_image::Sectors;
 use disk_layout::Fault;
-use host_session::{NotTaken, ReplySink};
+use host_session::ReplySink;
 use image_file::{FileName, HostFiles, Stays};
-use opened_files::{Refusal, told};
+use line_text::NotTaken;
 use request_cards::{Reply, Word};
 use std::fs::OpenFile;
 
@@ -19,12 +18,12 @@ pub(crate) fn name_of<'a, F: OpenFile, R: HostFiles<File = F>>(
     rt: &'a R,
     path: &'a str,
     file: &F,
-) -> Result<FileName<'a, R>, Refusal>
+) -> Result<FileName<'a, R>, CommandFault>
     requires { May R.rights rt.now Look path.now }
 {
-    let name = told(FileName::of(rt, path, file))?;
+    let name = FileName::of(rt, path, file)?;
     if !name.is_there() {
-        return Err(Refusal::Fault(CommandFault::Device));
+        return Err(CommandFault::Device);
     }
     Ok(name)
 }
@@ -102,13 +101,13 @@ impl<'a, D: Sectors, N: Stays, T: ReplySink<D>> ReplySink<D> for WhileThere<'a, 
 
 /// The end of a service that ended so: `Device` if the file had gone.
 pub(crate) fn served_end(
-    ended: Result<Option<Fault>, Refusal>,
+    ended: Result<Option<Fault>, CommandFault>,
     gone: bool,
-) -> Result<Option<Fault>, Refusal>
-    ensures { result ≡ (if gone then Err (refusals.Fault faults.Device) else ended) }
+) -> Result<Option<Fault>, CommandFault>
+    ensures { result ≡ (if gone then Err faults.Device else ended) }
 {
     if gone {
-        return Err(Refusal::Fault(CommandFault::Device));
+        return Err(CommandFault::Device);
     }
     ended
 }

@@ -16,7 +16,7 @@ use Rattle.image_file.specs.declared.durability.WritesAt.{Ghosts}
 use Rattle.command_faults.specs.declared.faults.CommandFault.TheVariants as faults
 use Rattle.image_file.specs.declared.sectors.ImageFile.{ImageFile}
 use Rattle.shop_jobs.specs.DurableRuns.{IsDurableRun}
-use Rattle.opened_files.specs.Ends.{Ended}
+use Rattle.opened_files.specs.Ends.{JobEnd}
 
 -- of an image's file what is looked at is what is held
 seen_whole : {F : Type 0} (W : Lasting F) (sized : Bool) → sized ≡ true → (P : Lasting F → Type 0)
@@ -25,8 +25,8 @@ seen_whole W true all P = (λ x. x, λ x. x)
 seen_whole W false all P = absurd (false≢true all)
 
 -- done, all that the file holds stays
-pub all_there : {F : Type 0} {G : Ghosts F} {image : List ℕ} {file after : F} {ended : Ended}
-    {IsRun : ImageFile F G → ImageFile F G → Ended → Type 0} → IsDurableRun {G = G} image file after ended IsRun
+pub all_there : {F : Type 0} {G : Ghosts F} {image : List ℕ} {file after : F} {ended : JobEnd}
+    {IsRun : ImageFile F G → ImageFile F G → JobEnd → Type 0} → IsDurableRun {G = G} image file after ended IsRun
     → OnOk ended (AllStays G.held G.lasting after)
 all_there {F} {G} {image} {file} {after} {ended} run =
     subst (λ f. OnOk ended (AllStays G.held G.lasting f)) run.is_after run.finished.there
@@ -35,8 +35,8 @@ some_of : (n : ℕ) → (n ≡ 0 → ⊥) → 1 ≤ n
 some_of zero never = absurd (never refl)
 some_of (suc n) never = omega arith
 
-module _ {F : Type 0} {G : Ghosts F} (image : List ℕ) (file after : F) (ended : Ended)
-    (IsRun : ImageFile F G → ImageFile F G → Ended → Type 0) (size : length image ≡ 174848)
+module _ {F : Type 0} {G : Ghosts F} (image : List ℕ) (file after : F) (ended : JobEnd)
+    (IsRun : ImageFile F G → ImageFile F G → JobEnd → Type 0) (size : length image ≡ 174848)
     (known : G.whole.lasting.bytes file ≡ Some image) (run : IsDurableRun {G = G} image file after ended IsRun) where
   abbrev L : Lasting F
   L = G.whole.lasting

@@ -17,26 +17,26 @@ use Rattle.image_file.specs.declared.durability.WritesAt.{Ghosts}
 use Rattle.command_faults.specs.declared.faults.CommandFault.TheVariants as faults
 use Rattle.image_file.specs.declared.sectors.ImageFile.{ImageFile}
 use Rattle.shop_jobs.specs.DurableRuns.{IsDurableRun}
-use Rattle.opened_files.specs.Ends.{Ended}
+use Rattle.opened_files.specs.Ends.{JobEnd}
 use Rattle.shop_jobs.specs.Runs.{IsPlayRun}
 use Rattle.test_files.proofs.Begun.{IsSome}
 use Rattle.test_files.proofs.Durably.{at_ok, each_kept, first_kept, kept_last, told_failed}
 use Rattle.test_files.proofs.Played.{of_play}
 
 module _ {F T : Type 0} {G : Ghosts F} (o : Output T) (image script : List ℕ) (file after : F)
-    (ended : Ended) (old new : T) (size : length image ≡ 174848)
+    (ended : JobEnd) (old new : T) (size : length image ≡ 174848)
     (known : G.whole.lasting.bytes file ≡ Some image)
     (run : IsDurableRun {G = G} image file after ended
     (λ first left end. IsPlayRun placed o image script first left old new end)) where
   abbrev L : Lasting F
   L = G.whole.lasting
 
-  abbrev Ran : ImageFile F G → ImageFile F G → Ended → Type 0
+  abbrev Ran : ImageFile F G → ImageFile F G → JobEnd → Type 0
   Ran first left end = IsPlayRun placed o image script first left old new end
 
   -- the device is told of where the file failed
   pub play_failed : ended ≡ Err faults.Device → G.has_failed after ≡ true
-  play_failed e = told_failed image file after ended Ran size known run (λ is. (subst (λ (end : Ended). IfErr end
+  play_failed e = told_failed image file after ended Ran size known run (λ is. (subst (λ (end : JobEnd). IfErr end
       (IsFileFault placed o image script run.first run.left old new)) is run.run.fault).0) e
 
   module _ (s : Shop) (is : IsShop (sectors_in image) s) where
@@ -51,7 +51,7 @@ module _ {F T : Type 0} {G : Ghosts F} (o : Output T) (image script : List ℕ) 
         each_kept image file after ended Ran size known run kept_only.reached kept_only all sized stayed
 
     played : (v : Option Fault) → ended ≡ Ok v → IsPlayedFile placed o image script run.first run.left old new
-    played v e = (subst (λ (end : Ended). IfOk end (λ printed. (printed ≡ None)
+    played v e = (subst (λ (end : JobEnd). IfOk end (λ printed. (printed ≡ None)
         × IsPlayedFile placed o image script run.first run.left old new))
         (at_ok image file after ended Ran size known run v e) run.run.done).1
 

@@ -12,7 +12,7 @@ use Rattle.line_text.specs.scripts.Lines.{lines}
 use Rattle.shop_commands.specs.Plays.{IsFileFault, IsPlayEnd, IsPlayedOver}
 use Rattle.command_faults.specs.declared.faults.CommandFault.{CommandFault}
 use Rattle.command_faults.specs.declared.faults.CommandFault.TheVariants as faults
-use Rattle.opened_files.specs.Ends.{Ended}
+use Rattle.opened_files.specs.Ends.{JobEnd}
 use Rattle.shop_jobs.specs.Runs.{IsPlayRun}
 use Rattle.test_files.proofs.Begun.{IsSome, of_none, of_run}
 
@@ -52,21 +52,9 @@ module _ {F T : Type 0} (K : Keeps F) (o : Output T) (image script : List ℕ) (
   of_fault (faults.ScriptLine line) e = same e.2.0
   of_fault faults.File e = of_part faults.File e.1
   of_fault faults.Device e = ⊎_elim (λ x. of_whole x) (λ x. of_part x.0 x.1) e.1
-  of_fault (faults.Layout fault) e = same e.2.0
-  of_fault faults.NoStock e = same e.2.0
-  of_fault faults.NoRequests e = same e.2.0
-  of_fault (faults.BadCard item) e = same e.2.0
-  of_fault (faults.BadRequestCard till) e = same e.2.0
-  of_fault faults.TwoIntents e = same e.2.0
-  of_fault faults.NoFile e = same e.2.0
-  of_fault faults.FileExists e = same e.2.0
-  of_fault faults.DiskFull e = same e.2.0
-  of_fault faults.Locked e = same e.2.0
-  of_fault (faults.RecordsLine line) e = same e.2.0
-  of_fault faults.Geos e = same e.2.0
-  of_fault faults.Format e = same e.2.0
+  of_fault _ e = same e.2.0
 
   -- however the play ended
-  pub of_play : (end : Ended) → IsPlayRun K o image script file after old new end → KeptOnly K file after (IsSome s ms)
+  pub of_play : (end : JobEnd) → IsPlayRun K o image script file after old new end → KeptOnly K file after (IsSome s ms)
   of_play (Ok v) x = of_whole x.done.1.1
   of_play (Err fault) x = of_fault fault x.fault

@@ -5,8 +5,9 @@ ghost use Rattle.test_files.specs.Noted.{IsNoted, asked_for, noted_lines, noted_
 
 use arrayvec::ArrayVec;
 use d64_image::MemDisk;
-use host_session::{Next, NotTaken};
+use host_session::Next;
 use line_server::{Answers, LineSource};
+use line_text::NotTaken;
 use request_cards::Reply;
 use std::alloc::Global;
 

@@ -3,8 +3,9 @@ ghost use Rattle.std.specs.Prelude.{◌≡◌};
 ghost use Rattle.host_session.specs.runs.Lent.{written_to};
 
 use crate::events::printing::write_line;
-use crate::events::sinks::{NotTaken, ReplySink};
+use crate::events::sinks::ReplySink;
 use d64_image::Sectors;
+use line_text::NotTaken;
 use request_cards::Reply;
 use std::io::Write;
 

@@ -4,9 +4,9 @@ ghost use Rattle.std.specs.Io.KnownBytes.{Appends};
 ghost use Rattle.host_session.specs.runs.Outputs.{line_of, printed, printer_out};
 ghost use Rattle.line_text.specs.Handed.{AppendsPart};
 
-use crate::events::sinks::{NotTaken, ReplySink};
+use crate::events::sinks::ReplySink;
 use d64_image::Sectors;
-use line_text::hand_whole;
+use line_text::{NotTaken, hand_whole};
 use request_cards::Reply;
 use std::io::Write;
 
@@ -32,19 +32,6 @@ impl<W> Printer<W> {
     }
 }
 
-/// Writes all of these bytes, in one call if the writer takes them. If it takes only a part, the rest follows. At an
-/// error the writer failed or took no byte, and it has a prefix of the bytes.
-#[inline(always)]
-pub fn write_whole<W: Write>(out: &mut W, bytes: &[u8]) -> Result<(), NotTaken>
-    ensures ok { OnOk result (Appends (W.contents out.old) (W.contents out.new) bytes.now) }
-    ensures err { OnErr result (AppendsPart (W.contents out.old) (W.contents out.new) bytes.now) }
-{
-    match hand_whole(out, bytes) {
-        Ok(()) => Ok(()),
-        Err(_) => Err(NotTaken),
-    }
-}
-
 /// Writes a reply on a line of its own, with its LF, in one write.
 #[inline(always)]
 pub(crate) fn write_line<W: Write>(out: &mut W, reply: &Reply) -> Result<(), NotTaken>
@@ -53,7 +40,7 @@ pub(crate) fn write_line<W: Write>(out: &mut W, reply: &Reply) -> Result<(), Not
 {
     let mut room = [b'\n'; 44];
     let start = reply.write(&mut room, 43);
-    write_whole(out, &room[start..])
+    hand_whole(out, &room[start..])
 }
 
 impl<D: Sectors, W: Write> ReplySink<D> for Printer<W> {

@@ -1,8 +1,9 @@
 //! Replies that are put in a list.
 ghost use Rattle.host_session.specs.runs.Outputs.{listed};
 
-use crate::events::sinks::{NotTaken, ReplySink};
+use crate::events::sinks::ReplySink;
 use d64_image::Sectors;
+use line_text::NotTaken;
 use request_cards::Reply;
 
 /// A list takes replies until it is full. It allocates no memory and buffers nothing.

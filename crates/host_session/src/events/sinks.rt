@@ -4,11 +4,8 @@ ghost use Rattle.host_session.specs.events.Instants.{instant_of};
 ghost use Rattle.host_session.specs.events.Telling.{IsTold, Output, TellsNone};
 
 use d64_image::Sectors;
+use line_text::NotTaken;
 use request_cards::Reply;
-
-/// A reply, or other bytes, wasn't taken, or only in part.
-#[derive(Clone, Copy, Debug, PartialEq, Eq)]
-pub struct NotTaken;
 
 /// A receiver of a run's replies, one by one, each with the disk that its message left.
 pub trait ReplySink<D: Sectors> {

@@ -4,7 +4,8 @@ ghost use Rattle.line_server.specs.logged.Reporting.{HandsOn, IsReported, LogOut
 ghost use Rattle.line_server.specs.logged.Memory.{Memory};
 
 use d64_image::MemDisk;
-use host_session::{NotTaken, ReplySink};
+use host_session::ReplySink;
+use line_text::NotTaken;
 use request_cards::Reply;
 use shop_log::{ImageLog, TouchedDisk};
 

@@ -14,9 +14,9 @@ ghost use Rattle.test_files.specs.declared.snapshots.host.Snapshot as hosts;
 ghost use Rattle.test_files.specs.declared.snapshots.open_file.SnapshotFile.{SnapshotFile};
 
 use crate::snapshots::host::Snapshot;
+use command_faults::CommandFault;
 use disk_layout::Fault;
 use ledger_jobs::{Job, do_job};
-use opened_files::Refusal;
 use std::io::Write;
 
 /// Does a job over a snapshot, where each job may be done.
@@ -24,7 +24,7 @@ pub fn do_over<W: Write>(
     host: &Snapshot<'_>,
     job: &Job<'_>,
     out: &mut W,
-) -> Result<Option<Fault>, Refusal>
+) -> Result<Option<Fault>, CommandFault>
     requires fit { IsFit job.now }
     ensures { IsJobOver {F = SnapshotFile} snapshot_rights snapshot_stands untraced unknown (λ _ _ _ _. ⊤) W.contents
         host.now job.now out.old out.new result }

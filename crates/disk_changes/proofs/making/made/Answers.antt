@@ -1,6 +1,6 @@
 -- The call on the disk in memory, and what it tells.
-use Rattle.std.proofs.Common.{subst, sym}
-use Rattle.std.proofs.lemmas.Result.{IfOk-weaker}
+use Rattle.std.proofs.Common.{subst, sym, ◌∙◌, ap, Err}
+use Rattle.std.proofs.lemmas.Result.{IfOk-weaker, err_from_is_err_and}
 use Rattle.disk_changes.proofs.MadeFile.{make-done, make-refused}
 use Rattle.disk_changes.proofs.making.made.Goals as goal
 use Rattle.disk_layout.specs.Clean.{IsClean}
@@ -9,13 +9,15 @@ pub create-requires-clause-clean : goal.create-requires-clause-clean
 create-requires-clause-clean c = subst IsClean (sym c.in_ok-disk.ensures.ok.1)
     (c.in_ok-disk.ensures.ok.0.layout, c.in_ok-disk.ensures.ok.0.clean)
 
-pub returns-in-Err-clause-err : goal.returns-in-Err-clause-err
-returns-in-Err-clause-err c = rw c.refusal.ensures
+pub returns-in_err-create-clause-err : goal.returns-in_err-create-clause-err
+returns-in_err-create-clause-err c =
+    let p = err_from_is_err_and c.from_residual-in_err-create.result c.from_residual-in_err-create.ensures.1 in
+    rw (p.1 ∙ ap Err p.2)
     (make-refused c.args.image.now c.args.name.now c.args.size c.args.cut c.in_ok-disk.disk c.create.new.disk
-    c.in_ok-disk.ensures.ok.0 c.in_ok-disk.ensures.ok.1 c.in-Err.fault c.in-Err.ensures)
+    c.in_ok-disk.ensures.ok.0 c.in_ok-disk.ensures.ok.1 c.in_err-create.field-0.0 c.in_err-create.ensures)
 
 pub returns-clause-ok : goal.returns-clause-ok
 returns-clause-ok c = IfOk-weaker c.changed.result _ _
     (λ made is. make-done c.args.image.now c.args.name.now c.args.size c.args.cut c.in_ok-disk.disk c.create.new.disk
-    c.in_ok-disk.ensures.ok.0 c.in_ok-disk.ensures.ok.1 c.in_default.field-0 c.in_default.ensures
+    c.in_ok-disk.ensures.ok.0 c.in_ok-disk.ensures.ok.1 _ c.in_ok-create.ensures
     made is.0 is.1) c.changed.ensures.ok

@@ -7,5 +7,5 @@ pub returns : goal.returns
 returns g c =
     let done = c.compare_images in
     printed c.args.out.now done.new.out (IsComparisonPrinted g.W.Write.contents c.args.before.now c.args.after.now)
-    (IsComparisonFault c.args.before.now c.args.after.now) done.result c.job_end.result c.job_end.ensures done.ensures.ok
+    (IsComparisonFault c.args.before.now c.args.after.now) done.result done.ensures.ok
     done.ensures.err done.ensures.untouched

@@ -8,4 +8,5 @@ returns-in-Ok g c = record {
   ok = rw c.in-Ok.is (subst (λ (image : List ℕ). IfOk c.put_object.result
       (IsImageObject g.W.Write.contents c.args.path.now image c.args.out.now c.put_object.new.out)) c.as_slice.ensures.value
       c.put_object.ensures.ok);
+  err = c.put_object.ensures.err;
 }

@@ -11,4 +11,5 @@ returns g c = record {
       c.args.path.now (as_loaded c.image_at.result) c.args.out.now c.print.new.out c.print.result
       (read-at g.R.HostFiles.rights g.R.HostFiles.stands c.args.rt.now c.args.path.now c.image_at.result c.image_at.ensures.read)
       c.print.ensures.ok;
+  err = c.print.ensures.err;
 }

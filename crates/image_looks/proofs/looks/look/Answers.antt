@@ -7,7 +7,7 @@ use Rattle.disk_reports.specs.Listings.{IsCheckFault, IsListFault, IsListed}
 use Rattle.disk_reports.specs.Outcomes.{IsDescribeFault}
 use Rattle.keeper_commands.specs.Printed.{AreBytesTaken}
 use Rattle.image_looks.specs.Looks.{AreRecordsTaken, IsChecked, IsTakingEnd, WhyNoBytes, WhyNoRecords}
-use Rattle.image_looks.proofs.Looked.{if-all, if-both, printed, quietly-printed, taken}
+use Rattle.image_looks.proofs.Looked.{if-all, if-both, no-cut-records, printed, quietly-printed, taken}
 use Rattle.image_looks.proofs.looks.look.Goals as goal
 
 pub returns-in-List : goal.returns-in-List
@@ -20,13 +20,13 @@ pub returns-in-Check : goal.returns-in-Check
 returns-in-Check g c =
     let done = c.check_image in
     rw c.in-Check.is (printed c.args.out.now done.new.out (IsChecked g.W.Write.contents c.args.image.now) (IsCheckFault c.args.image.now) done.result
-    c.job_end.result c.job_end.ensures (if-all _ _ _ done.result done.ensures.size done.ensures.verdict done.ensures.printed) done.ensures.err done.ensures.untouched)
+    (if-all _ _ _ done.result done.ensures.size done.ensures.verdict done.ensures.printed) done.ensures.err done.ensures.untouched)
 
 pub returns-in-Faults : goal.returns-in-Faults
 returns-in-Faults g c =
     let done = c.faults_image in
     rw c.in-Faults.is (printed c.args.out.now done.new.out (AreListed g.W.Write.contents c.args.image.now) (IsDescribeFault c.args.image.now) done.result
-    c.job_end-in-Faults.result c.job_end-in-Faults.ensures done.ensures.ok done.ensures.err done.ensures.untouched)
+    done.ensures.ok done.ensures.err done.ensures.untouched)
 
 pub returns-in-Show : goal.returns-in-Show
 returns-in-Show g c = rw c.in-Show.is c.print_shop.ensures
@@ -35,19 +35,19 @@ pub returns-in-Map : goal.returns-in-Map
 returns-in-Map g c =
     let done = c.map_image in
     rw c.in-Map.is (printed c.args.out.now done.new.out (IsMapPrinted g.W.Write.contents c.args.image.now) (IsPictureFault c.args.image.now) done.result
-    c.job_end-in-Map.result c.job_end-in-Map.ensures done.ensures.ok done.ensures.err done.ensures.untouched)
+    done.ensures.ok done.ensures.err done.ensures.untouched)
 
 pub returns-in-Picture : goal.returns-in-Picture
 returns-in-Picture g c =
     let done = c.picture_image in
     rw c.in-Picture.is (printed c.args.out.now done.new.out (IsPicturePrinted g.W.Write.contents c.args.image.now) (IsPictureFault c.args.image.now) done.result
-    c.job_end-in-Picture.result c.job_end-in-Picture.ensures done.ensures.ok done.ensures.err done.ensures.untouched)
+    done.ensures.ok done.ensures.err done.ensures.untouched)
 
 pub returns-in-Poster : goal.returns-in-Poster
 returns-in-Poster g c =
     let done = c.poster_image in
     rw c.in-Poster.is (printed c.args.out.now done.new.out (IsPosterPrinted g.W.Write.contents c.args.image.now) (IsPictureFault c.args.image.now) done.result
-    c.job_end-in-Poster.result c.job_end-in-Poster.ensures done.ensures.ok done.ensures.err done.ensures.untouched)
+    done.ensures.ok done.ensures.err done.ensures.untouched)
 
 pub returns-in-Free : goal.returns-in-Free
 returns-in-Free g c =
@@ -71,8 +71,9 @@ returns-in-Records g c =
     done.new.out c.taken_end.result) c.as_bytes.ensures
     (taken c.args.out.now done.new.out
     (AreRecordsTaken g.W.Write.contents at.form at.candidates c.args.image.now c.as_bytes.result.now)
-    (WhyNoRecords g.W.Write.contents at.form at.candidates c.args.image.now c.as_bytes.result.now) done.result
-    c.taken_end.result c.taken_end.ensures done.ensures.ok
+    (WhyNoRecords g.W.Write.contents at.form at.candidates c.args.image.now c.as_bytes.result.now)
+    (no-cut-records g.W.Write.contents at.form at.candidates c.args.image.now c.as_bytes.result.now c.args.out.now done.new.out)
+    done.result c.taken_end.result c.taken_end.ensures done.ensures.ok
     done.ensures.err))
 
 pub returns-in-Bytes : goal.returns-in-Bytes
@@ -85,6 +86,6 @@ returns-in-Bytes g c =
     done.new.out c.taken_end-in-Bytes.result) c.as_bytes-in-Bytes.ensures
     (taken c.args.out.now done.new.out
     (AreBytesTaken g.W.Write.contents at.form at.candidates c.args.image.now c.as_bytes-in-Bytes.result.now)
-    (WhyNoBytes g.W.Write.contents at.form at.candidates c.args.image.now c.as_bytes-in-Bytes.result.now) done.result
-    c.taken_end-in-Bytes.result c.taken_end-in-Bytes.ensures
+    (WhyNoBytes g.W.Write.contents at.form at.candidates c.args.image.now c.as_bytes-in-Bytes.result.now)
+    (λ p why. why.0) done.result c.taken_end-in-Bytes.result c.taken_end-in-Bytes.ensures
     done.ensures.ok (if-both _ _ done.result done.ensures.err done.ensures.part)))

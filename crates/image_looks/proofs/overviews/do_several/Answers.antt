@@ -1,12 +1,18 @@
 -- All of them were printed, and what the output held back.
-use Rattle.std.proofs.Common.{map}
+use Rattle.std.proofs.Common.{◌∙◌, Err, ap, map}
+use Rattle.std.proofs.lemmas.Result.{err_from_is_err_and}
 use Rattle.image_looks.specs.EachImage.{IsReadAt}
 use Rattle.image_looks.specs.Overviews.{IsOverviewOf}
-use Rattle.image_looks.proofs.EachTold.{several-told}
+use Rattle.image_looks.proofs.EachTold.{cut-off, several-told}
 use Rattle.image_looks.proofs.overviews.do_several.Goals as goal
 
-pub returns-in-Ok : goal.returns-in-Ok
-returns-in-Ok g c =
+pub returns-in_err-greatest : goal.returns-in_err-greatest
+returns-in_err-greatest g c =
+    let p = err_from_is_err_and c.from_residual.result c.from_residual.ensures.1 in
+    rw (p.1 ∙ ap Err p.2) (cut-off _ c.in_err-greatest.field-0.0 c.in_err-greatest.ensures.err)
+
+pub returns : goal.returns
+returns g c =
     several-told (IsReadAt g.R.HostFiles.rights g.R.HostFiles.stands c.args.rt.now) (IsOverviewOf g.W.Write.contents c.args.what.now)
     g.W.Write.contents (map (λ path. path.now) c.args.paths.now) c.args.out.now c.print_each.new.out c.several_end.new.out
-    c.in-Ok.greatest c.several_end.result c.in-Ok.ensures.ok c.several_end.ensures
+    c.in_ok-greatest.greatest c.several_end.result c.in_ok-greatest.ensures.ok c.several_end.ensures

@@ -5,10 +5,10 @@ use Rattle.command_faults.specs.declared.faults.CommandFault.{CommandFault}
 use Rattle.image_looks.specs.EachImage.{as_loaded}
 use Rattle.image_looks.specs.Overviews.{IsOverviewOf, IsToldAs}
 use Rattle.image_looks.specs.declared.kinds.Look.{Look}
-use Rattle.opened_files.specs.declared.refusals.Refusal.{Refusal}
+use Rattle.image_looks.proofs.EachTold.{output-cut-off}
 use Rattle.image_looks.proofs.overviews.overview_of.Goals as goal
 
-unread : {W : Type 0} (contents : W → Option (List ℕ)) (what : Look) (path name text : List ℕ) (refusal : Refusal)
+unread : {W : Type 0} (contents : W → Option (List ℕ)) (what : Look) (path name text : List ℕ) (refusal : CommandFault)
     (old new : W) (told : Result ℕ CommandFault) → text ≡ [] → IfOk told (IsToldAs contents name text (Err refusal) old new)
     → IfOk told (IsOverviewOf contents what path (Err refusal) old new)
 unread contents what path name text refusal old new (Ok status) none told =
@@ -22,4 +22,5 @@ returns g c = record {
       (sym c.in-Err.is)
       (unread g.W.Write.contents c.args.what.now c.args.path.now c.as_bytes-in-Err.result.now (vec_items c.new.result)
       c.in-Err.refusal c.args.out.now c.tell_named.new.out c.tell_named.result c.new.ensures.items c.tell_named.ensures.ok);
+  err = output-cut-off c.tell_named.result c.tell_named.ensures.err;
 }

@@ -6,6 +6,7 @@ use Rattle.image_looks.specs.Looks.{IsLook}
 use Rattle.image_looks.specs.Overviews.{IsOneOfSeveral, IsToldAs}
 use Rattle.image_looks.specs.declared.kinds.Look.{Look}
 use Rattle.command_faults.specs.declared.faults.CommandFault.{CommandFault}
+use Rattle.image_looks.proofs.EachTold.{output-cut-off}
 use Rattle.image_looks.proofs.overviews.overview_run.Goals as goal
 
 one-of : {W : Type 0} (contents : W → Option (List ℕ)) (what : Look) (name image : List ℕ) (old new : W)
@@ -28,4 +29,5 @@ returns g c = record {
   ok = one-of g.W.Write.contents c.args.what.now c.args.name.now c.args.image.now c.args.out.now c.tell_named.new.out
       c.in-Ok.text c.look-ended.new.out c.look-ended.result c.tell_named.result c.in-Ok.ensures.items
       c.look-ended.ensures c.tell_named.ensures.ok;
+  err = output-cut-off c.tell_named.result c.tell_named.ensures.err;
 }

@@ -4,7 +4,7 @@ use Rattle.std.specs.Prelude.{IfErr, IsOk, Ok, Err, OnOk, Result, Some, vec_item
 use Rattle.std.specs.Io.KnownBytes.{Appends}
 use Rattle.line_text.specs.Named.{named}
 use Rattle.opened_files.specs.Ends.{JobEnd, end_line, refusal_line}
-use Rattle.host_session.specs.declared.events.sinks.NotTaken.{NotTaken}
+use Rattle.line_text.specs.declared.handing.NotTaken.{NotTaken}
 use Rattle.image_looks.proofs.overviews.tell_named.Goals as goal
 
 line-behind : (end : JobEnd) (old new : Vec ℕ Global) (told : Result Unit NotTaken) → told ≡ Ok tt

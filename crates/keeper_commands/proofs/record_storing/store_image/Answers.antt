@@ -24,8 +24,8 @@ returns-in_err-last = early.returns-in_err-last
 pub find-requires : goal.find-requires
 find-requires = asked.find-requires
 
-pub returns-in-Err : goal.returns-in-Err
-returns-in-Err = early.returns-in-Err
+pub returns-in_err-file : goal.returns-in_err-file
+returns-in_err-file = early.returns-in_err-file
 
 pub judge-requires : goal.judge-requires
 judge-requires = early.judge-requires
@@ -39,8 +39,8 @@ grow_to-requires-clause-clean = asked.grow_to-requires-clause-clean
 pub grow_to-requires-clause-of : goal.grow_to-requires-clause-of
 grow_to-requires-clause-of = asked.grow_to-requires-clause-of
 
-pub returns-in-Err-grow_to : goal.returns-in-Err-grow_to
-returns-in-Err-grow_to = refused.returns-in-Err-grow_to
+pub returns-in_err-grow_to : goal.returns-in_err-grow_to
+returns-in_err-grow_to = refused.returns-in_err-grow_to
 
 pub store_lines-requires-clause-clean : goal.store_lines-requires-clause-clean
 store_lines-requires-clause-clean = asked.store_lines-requires-clause-clean
@@ -62,10 +62,10 @@ returns-clause-ok g c =
     at-ok c.flush.result
     (store-done S c.args.image.now c.args.name.now c.args.text.now c.args.disk.now c.find.new.disk clean.0
     (subst IsClean (sym c.requires.holds) clean.1)
-    c.args.out.now c.in-Ok.file c.in-Ok.ensures xs are c.judge.new.last.places.items tells c.grow_to.new.disk
+    c.args.out.now c.in_ok-file.file c.in_ok-file.ensures xs are c.judge.new.last.places.items tells c.grow_to.new.disk
     c.grow_to.new.file
-    (subst (λ (m : ℕ). Grows S c.find.new.disk c.grow_to.new.disk c.in-Ok.file c.grow_to.new.file m
-    (Ok c.in_default.field-0)) is c.in_default.ensures)
+    (subst (λ (m : ℕ). Grows S c.find.new.disk c.grow_to.new.disk c.in_ok-file.file c.grow_to.new.file m
+    (Ok tt)) is c.in_ok-grow_to.ensures)
     g.W.Write.contents c.store_lines.new.disk c.store_lines.new.out c.flush.new.out c.store_lines.new.file
     c.in_ok-store_lines.ensures c.flush.ensures.kept)
 
@@ -80,10 +80,10 @@ returns-clause-err g c =
     (λ fault told. rw told
     (store-unprinted S c.args.image.now c.args.name.now c.args.text.now c.args.disk.now c.find.new.disk clean.0
     (subst IsClean (sym c.requires.holds) clean.1)
-    c.args.out.now c.in-Ok.file c.in-Ok.ensures xs are c.judge.new.last.places.items tells c.grow_to.new.disk
+    c.args.out.now c.in_ok-file.file c.in_ok-file.ensures xs are c.judge.new.last.places.items tells c.grow_to.new.disk
     c.grow_to.new.file
-    (subst (λ (m : ℕ). Grows S c.find.new.disk c.grow_to.new.disk c.in-Ok.file c.grow_to.new.file m
-    (Ok c.in_default.field-0)) is c.in_default.ensures)
+    (subst (λ (m : ℕ). Grows S c.find.new.disk c.grow_to.new.disk c.in_ok-file.file c.grow_to.new.file m
+    (Ok tt)) is c.in_ok-grow_to.ensures)
     g.W.Write.contents c.store_lines.new.disk c.store_lines.new.out c.flush.new.out c.store_lines.new.file
     c.in_ok-store_lines.ensures))
     c.flush.ensures.err
@@ -99,10 +99,10 @@ returns-clause-part g c =
     (λ fault told. rw told
     (all-part S c.args.image.now c.args.name.now c.args.text.now c.args.disk.now c.find.new.disk clean.0
     (subst IsClean (sym c.requires.holds) clean.1)
-    c.args.out.now c.in-Ok.file c.in-Ok.ensures xs are c.judge.new.last.places.items tells c.grow_to.new.disk
+    c.args.out.now c.in_ok-file.file c.in_ok-file.ensures xs are c.judge.new.last.places.items tells c.grow_to.new.disk
     c.grow_to.new.file
-    (subst (λ (m : ℕ). Grows S c.find.new.disk c.grow_to.new.disk c.in-Ok.file c.grow_to.new.file m
-    (Ok c.in_default.field-0)) is c.in_default.ensures)
+    (subst (λ (m : ℕ). Grows S c.find.new.disk c.grow_to.new.disk c.in_ok-file.file c.grow_to.new.file m
+    (Ok tt)) is c.in_ok-grow_to.ensures)
     g.W.Write.contents c.store_lines.new.disk c.store_lines.new.out c.flush.new.out c.store_lines.new.file
     c.in_ok-store_lines.ensures c.flush.ensures.kept))
     c.flush.ensures.err

@@ -12,7 +12,7 @@ returns-in-Ok g c =
     let bytes = c.args.bytes.now in
     let a = g.W.Write.contents c.args.out.now in
     let d = g.W.Write.contents c.flush.new.out in
-    let all = Appends-kept a (g.W.Write.contents c.write_whole.new.out) d bytes c.in-Ok.ensures.ok c.flush.ensures.kept
+    let all = Appends-kept a (g.W.Write.contents c.hand_whole.new.out) d bytes c.in-Ok.ensures.ok c.flush.ensures.kept
     in
     record {
       ok = on_ok c.flush.result _ all;

@@ -4,9 +4,9 @@ use Rattle.std.proofs.lemmas.Result.{err_from_is_err_and}
 use Rattle.std.specs.Prelude.{◌≡◌, take, vec_items}
 use Rattle.opened_files.proofs.HostFiles.{of-file}
 use Rattle.opened_files.proofs.Near.{tag-fault}
-use Rattle.shop_jobs.proofs.NearEnds.{away-at, job-other, near-begun, near-fault, near-unbegun, says-of}
+use Rattle.shop_jobs.proofs.NearEnds.{away-at, near-begun, near-fault, near-unbegun, says-of}
 use Rattle.shop_log.specs.life.Tags.{SaysLogAway}
-use Rattle.shop_jobs.proofs.PlayTold.{play-lines, play-plain, play-quiet, played-at, shop-at}
+use Rattle.shop_jobs.proofs.PlayTold.{play-lines, play-other, play-plain, play-quiet, played-at, shop-at}
 use Rattle.shop_jobs.specs.Replies.{IsShopAt}
 use Rattle.shop_jobs.specs.Replies.{IsShopOf}
 use Rattle.shop_jobs.proofs.playing.do_playing.Goals as goal
@@ -40,12 +40,13 @@ returns-in_err-see_untagged-clause-near g c =
 
 pub returns-clause-near : goal.returns-clause-near
 returns-clause-near g c =
-    near-begun g.R.HostFiles.stands c.args.rt.now c.args.path.now c.args.loss c.args.out.now _ c.job_end.result
+    near-begun g.R.HostFiles.stands c.args.rt.now c.args.path.now c.args.loss c.args.out.now _ c.play_durably-ended.result.1
     (vec_items c.in_ok-image.image)
     (of-file g.R.HostFiles.stands c.args.rt.now c.args.path.now _ (λ all. vec_items c.in_ok-image.image ≡ take 174849 all)
     c.in_ok-file.ensures.bytes c.in_ok-image.ensures.read)
     (subst (λ (bytes : List ℕ). ¬ (SaysLogAway bytes)) c.as_slice.ensures.value c.in_ok-see_untagged.ensures.ok)
-    (job-other _ c.job_end.result c.job_end.ensures)
+    (play-other g.W.Write.contents c.as_slice-2.result.now c.as_slice-3.result.now _ c.play_durably-ended.result.0
+    c.new-printer.result c.play_durably-ended.new.out c.play_durably-ended.result.1 c.play_durably-ended.ensures.run)
 
 pub returns-clause-played : goal.returns-clause-played
 returns-clause-played g c =
@@ -60,14 +61,14 @@ returns-clause-played g c =
     let read = of-file g.R.HostFiles.stands c.args.rt.now c.args.path.now _
     (λ all. vec_items c.in_ok-image.image ≡ take 174849 all) c.in_ok-file.ensures.bytes c.in_ok-image.ensures.read in (
       play-quiet told _ file before behind c.args.out.now _ c.new-printer.ensures.out (λ same. search rules) ended
-          c.job_end.result c.job_end.ensures c.play_durably-ended.ensures.untouched,
+          c.play_durably-ended.ensures.untouched,
       play-lines told _ file before behind c.args.out.now _ c.new-printer.ensures.out (λ same. search rules) image script
           ended c.play_durably-ended.ensures.run,
       λ other all holds. played-at told (IsShopOf image) at
           (shop-at g.R.HostFiles.stands c.args.rt.now c.args.path.now (vec_items c.in_ok-image.image) image read
-          c.as_slice-2.ensures.value) c.args.out.now _ all c.job_end.result
+          c.as_slice-2.ensures.value) c.args.out.now _ all ended
           (play-plain told _ file before behind c.args.out.now _ c.new-printer.ensures.out
-          (λ same. search rules) image script ended c.job_end.result all
-          (c.as_slice-3.ensures.value ∙ c.in_ok-script.ensures.read other all holds) c.job_end.ensures
+          (λ same. search rules) image script ended all
+          (c.as_slice-3.ensures.value ∙ c.in_ok-script.ensures.read other all holds)
           c.play_durably-ended.ensures.run),
     )

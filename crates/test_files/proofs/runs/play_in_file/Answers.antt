@@ -8,7 +8,7 @@ use Rattle.host_session.specs.events.Events.{messages_of, requests_of}
 use Rattle.host_session.specs.shop.Shop.{IsSettled, IsShop, Shop, start_of, with_state}
 use Rattle.request_cards.specs.Ledgers.{plain}
 use Rattle.line_text.specs.scripts.Lines.{lines}
-use Rattle.opened_files.specs.Ends.{Ended}
+use Rattle.opened_files.specs.Ends.{JobEnd}
 use Rattle.test_files.specs.Shops.{IsAfterSome}
 use Rattle.test_files.specs.WholeFiles.{whole_held}
 use Rattle.test_files.specs.WholeShops.{WereHeld}
@@ -48,7 +48,7 @@ returns g c =
     record {
       done = on_ok_by ended _ (λ v e.
           let there : Some after.file.disk.bytes.items ≡ Some (whole_held after) = subst
-          (λ (end : Ended). OnOk end (Some after.file.disk.bytes.items ≡ Some (whole_held after))) e (all_there run) in
+          (λ (end : JobEnd). OnOk end (Some after.file.disk.bytes.items ≡ Some (whole_held after))) e (all_there run) in
           record {
             told = λ s is none. (lasts_done o image script file after ended out new_out size known
                 run s (shop s is) v e (whole_held after) refl after.file.held.size none).0;

@@ -16,8 +16,8 @@ returns g c =
     let line : take (44 - c.write-start.result) (drop c.write-start.result room) ≡ line_of c.args.reply.now = all
     ∙ c.write-start.ensures.written in
     let a = g.W.Write.contents c.args.out.now in
-    let b = g.W.Write.contents c.write_whole.new.out in
+    let b = g.W.Write.contents c.hand_whole.new.out in
     record {
-      ok = subst (λ xs. OnOk c.write_whole.result (Appends a b xs)) line c.write_whole.ensures.ok;
-      err = subst (λ xs. OnErr c.write_whole.result (AppendsPart a b xs)) line c.write_whole.ensures.err;
+      ok = subst (λ xs. OnOk c.hand_whole.result (Appends a b xs)) line c.hand_whole.ensures.ok;
+      err = subst (λ xs. OnErr c.hand_whole.result (AppendsPart a b xs)) line c.hand_whole.ensures.err;
     }

@@ -21,7 +21,7 @@ grow_to-requires-clause-of g c =
     let clean = c.in_ok-check_image.ensures.ok in
     found-file S c.args.image.now c.args.name.now c.args.text.now c.args.disk.now c.find.new.disk clean.0
     (subst IsClean (sym c.requires.holds) clean.1)
-    c.args.out.now c.in-Ok.file c.in-Ok.ensures
+    c.args.out.now c.in_ok-file.file c.in_ok-file.ensures
 
 pub store_lines-requires-clause-clean : goal.store_lines-requires-clause-clean
 store_lines-requires-clause-clean g c =
@@ -30,10 +30,10 @@ store_lines-requires-clause-clean g c =
     let (xs, are, is, tells) = c.in_ok-most.ensures.ok in
     grown-clean S c.args.image.now c.args.name.now c.args.text.now c.args.disk.now c.find.new.disk clean.0
     (subst IsClean (sym c.requires.holds) clean.1)
-    c.args.out.now c.in-Ok.file c.in-Ok.ensures xs are c.judge.new.last.places.items tells c.grow_to.new.disk
+    c.args.out.now c.in_ok-file.file c.in_ok-file.ensures xs are c.judge.new.last.places.items tells c.grow_to.new.disk
     c.grow_to.new.file
-    (subst (λ (m : ℕ). Grows S c.find.new.disk c.grow_to.new.disk c.in-Ok.file c.grow_to.new.file m
-    (Ok c.in_default.field-0)) is c.in_default.ensures)
+    (subst (λ (m : ℕ). Grows S c.find.new.disk c.grow_to.new.disk c.in_ok-file.file c.grow_to.new.file m
+    (Ok tt)) is c.in_ok-grow_to.ensures)
 
 pub store_lines-requires-clause-of : goal.store_lines-requires-clause-of
 store_lines-requires-clause-of g c =
@@ -42,10 +42,10 @@ store_lines-requires-clause-of g c =
     let (xs, are, is, tells) = c.in_ok-most.ensures.ok in
     grown-file S c.args.image.now c.args.name.now c.args.text.now c.args.disk.now c.find.new.disk clean.0
     (subst IsClean (sym c.requires.holds) clean.1)
-    c.args.out.now c.in-Ok.file c.in-Ok.ensures xs are c.judge.new.last.places.items tells c.grow_to.new.disk
+    c.args.out.now c.in_ok-file.file c.in_ok-file.ensures xs are c.judge.new.last.places.items tells c.grow_to.new.disk
     c.grow_to.new.file
-    (subst (λ (m : ℕ). Grows S c.find.new.disk c.grow_to.new.disk c.in-Ok.file c.grow_to.new.file m
-    (Ok c.in_default.field-0)) is c.in_default.ensures)
+    (subst (λ (m : ℕ). Grows S c.find.new.disk c.grow_to.new.disk c.in_ok-file.file c.grow_to.new.file m
+    (Ok tt)) is c.in_ok-grow_to.ensures)
 
 pub store_lines-requires-clause-lines : goal.store_lines-requires-clause-lines
 store_lines-requires-clause-lines g c =
@@ -54,7 +54,7 @@ store_lines-requires-clause-lines g c =
     let (xs, are, is, tells) = c.in_ok-most.ensures.ok in
     grown-lines S c.args.image.now c.args.name.now c.args.text.now c.args.disk.now c.find.new.disk clean.0
     (subst IsClean (sym c.requires.holds) clean.1)
-    c.args.out.now c.in-Ok.file c.in-Ok.ensures xs are c.judge.new.last.places.items tells c.grow_to.new.disk
+    c.args.out.now c.in_ok-file.file c.in_ok-file.ensures xs are c.judge.new.last.places.items tells c.grow_to.new.disk
     c.grow_to.new.file
-    (subst (λ (m : ℕ). Grows S c.find.new.disk c.grow_to.new.disk c.in-Ok.file c.grow_to.new.file m
-    (Ok c.in_default.field-0)) is c.in_default.ensures)
+    (subst (λ (m : ℕ). Grows S c.find.new.disk c.grow_to.new.disk c.in_ok-file.file c.grow_to.new.file m
+    (Ok tt)) is c.in_ok-grow_to.ensures)

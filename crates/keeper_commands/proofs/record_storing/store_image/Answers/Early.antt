@@ -30,17 +30,18 @@ returns-in_err-last g c =
       part = rw (p.1 ∙ ap Err (p.2 ∙ c.in_err-last.ensures.err)) (inl (λ e. cc, refl));
     }
 
-pub returns-in-Err : goal.returns-in-Err
-returns-in-Err g c =
+pub returns-in_err-file : goal.returns-in_err-file
+returns-in_err-file g c =
     let S = g.D.Sectors.history in
     let clean = c.in_ok-check_image.ensures.ok in
+    let p = err_from_is_err_and c.from_residual-in_err-file.result c.from_residual-in_err-file.ensures.1 in
     record {
-      ok = tt;
-      err = rw c.refusal.ensures
+      ok = rw (p.1 ∙ ap Err p.2) tt;
+      err = rw (p.1 ∙ ap Err p.2)
           (find-refused S c.args.image.now c.args.name.now c.args.text.now c.args.disk.now c.find.new.disk clean.0
           (subst IsClean (sym c.requires.holds) clean.1)
-          c.args.out.now c.in-Err.fault c.in-Err.ensures);
-      part = rw c.refusal.ensures (inl (no-output c.in-Err.fault, refl));
+          c.args.out.now c.in_err-file.field-0.0 c.in_err-file.ensures);
+      part = rw (p.1 ∙ ap Err p.2) (inl (no-output c.in_err-file.field-0.0, refl));
     }
 
 pub judge-requires : goal.judge-requires
@@ -57,6 +58,6 @@ returns-in_err-most g c =
       err = rw (p.1 ∙ ap Err (p.2 ∙ is))
           (bad-line S c.args.image.now c.args.name.now c.args.text.now c.args.disk.now c.find.new.disk clean.0
           (subst IsClean (sym c.requires.holds) clean.1)
-          c.args.out.now c.in-Ok.file c.in-Ok.ensures k bad);
+          c.args.out.now c.in_ok-file.file c.in_ok-file.ensures k bad);
       part = rw (p.1 ∙ ap Err (p.2 ∙ is)) (inl (λ e. cc, refl));
     }

@@ -7,21 +7,22 @@ use Rattle.keeper_commands.proofs.TextStored.{stopped-part, store-refused}
 use Rattle.rel_records.specs.Calls.{Grows}
 use Rattle.keeper_commands.proofs.record_storing.store_image.Goals as goal
 
-pub returns-in-Err-grow_to : goal.returns-in-Err-grow_to
-returns-in-Err-grow_to g c =
+pub returns-in_err-grow_to : goal.returns-in_err-grow_to
+returns-in_err-grow_to g c =
     let S = g.D.Sectors.history in
     let clean = c.in_ok-check_image.ensures.ok in
     let (xs, are, is, tells) = c.in_ok-most.ensures.ok in
+    let p = err_from_is_err_and c.from_residual-in_err-grow_to.result c.from_residual-in_err-grow_to.ensures.1 in
     record {
-      ok = tt;
-      err = rw c.refusal-in-Err-grow_to.ensures
+      ok = rw (p.1 ∙ ap Err p.2) tt;
+      err = rw (p.1 ∙ ap Err p.2)
           (grow-refused S c.args.image.now c.args.name.now c.args.text.now c.args.disk.now c.find.new.disk clean.0
           (subst IsClean (sym c.requires.holds) clean.1)
-          c.args.out.now c.in-Ok.file c.in-Ok.ensures xs are c.judge.new.last.places.items tells c.grow_to.new.disk
-          c.grow_to.new.file c.in-Err-grow_to.fault
-          (subst (λ (m : ℕ). Grows S c.find.new.disk c.grow_to.new.disk c.in-Ok.file c.grow_to.new.file m
-          (Err c.in-Err-grow_to.fault)) is c.in-Err-grow_to.ensures));
-      part = rw c.refusal-in-Err-grow_to.ensures (inl (no-output c.in-Err-grow_to.fault, refl));
+          c.args.out.now c.in_ok-file.file c.in_ok-file.ensures xs are c.judge.new.last.places.items tells c.grow_to.new.disk
+          c.grow_to.new.file c.in_err-grow_to.field-0.0
+          (subst (λ (m : ℕ). Grows S c.find.new.disk c.grow_to.new.disk c.in_ok-file.file c.grow_to.new.file m
+          (Err c.in_err-grow_to.field-0.0)) is c.in_err-grow_to.ensures));
+      part = rw (p.1 ∙ ap Err p.2) (inl (no-output c.in_err-grow_to.field-0.0, refl));
     }
 
 pub returns-in_err-store_lines : goal.returns-in_err-store_lines
@@ -36,19 +37,19 @@ returns-in_err-store_lines g c =
       err = rw (p.1 ∙ ap Err p.2)
           (store-refused S c.args.image.now c.args.name.now c.args.text.now c.args.disk.now c.find.new.disk clean.0
           (subst IsClean (sym c.requires.holds) clean.1)
-          c.args.out.now c.in-Ok.file c.in-Ok.ensures xs are c.judge.new.last.places.items tells c.grow_to.new.disk
+          c.args.out.now c.in_ok-file.file c.in_ok-file.ensures xs are c.judge.new.last.places.items tells c.grow_to.new.disk
           c.grow_to.new.file
-          (subst (λ (m : ℕ). Grows S c.find.new.disk c.grow_to.new.disk c.in-Ok.file c.grow_to.new.file m
-          (Ok c.in_default.field-0)) is c.in_default.ensures)
+          (subst (λ (m : ℕ). Grows S c.find.new.disk c.grow_to.new.disk c.in_ok-file.file c.grow_to.new.file m
+          (Ok tt)) is c.in_ok-grow_to.ensures)
           g.W.Write.contents c.store_lines.new.disk c.store_lines.new.out c.store_lines.new.file
           c.in_err-store_lines.field-0.0 c.in_err-store_lines.ensures);
       part = rw (p.1 ∙ ap Err p.2)
           (stopped-part S c.args.image.now c.args.name.now c.args.text.now c.args.disk.now c.find.new.disk clean.0
           (subst IsClean (sym c.requires.holds) clean.1)
-          c.args.out.now c.in-Ok.file c.in-Ok.ensures xs are c.judge.new.last.places.items tells c.grow_to.new.disk
+          c.args.out.now c.in_ok-file.file c.in_ok-file.ensures xs are c.judge.new.last.places.items tells c.grow_to.new.disk
           c.grow_to.new.file
-          (subst (λ (m : ℕ). Grows S c.find.new.disk c.grow_to.new.disk c.in-Ok.file c.grow_to.new.file m
-          (Ok c.in_default.field-0)) is c.in_default.ensures)
+          (subst (λ (m : ℕ). Grows S c.find.new.disk c.grow_to.new.disk c.in_ok-file.file c.grow_to.new.file m
+          (Ok tt)) is c.in_ok-grow_to.ensures)
           g.W.Write.contents c.store_lines.new.disk c.store_lines.new.out c.store_lines.new.file
           c.in_err-store_lines.field-0.0 c.in_err-store_lines.ensures);
     }
