@@ -1,14 +1,12 @@
 -- A line more that was noted, and a reply.
-use Rattle.std.proofs.Common.{◌≡◌, ◌∙◌, ◌++◌, ◌∷◌, [], ap, append_assoc, map, sym, true}
+use Rattle.std.proofs.Common.{◌≡◌, ◌∙◌, ◌++◌, ◌∷◌, [], ap, append_assoc, sym, true}
 use Rattle.std.proofs.lemmas.List.{map-append}
 use Rattle.request_cards.specs.declared.reply.Reply.{Reply}
 use Rattle.host_session.specs.events.Instants.{Instant}
 use Rattle.host_session.specs.events.Telling.{BreaksOff, TellsOne}
 use Rattle.line_server.specs.Answering.{answered}
-use Rattle.line_server.specs.Giving.{AsksOne}
 use Rattle.line_server.proofs.Turns.{told_once, untold}
-use Rattle.test_files.specs.Noted.{asked_for, held_in, noted_lines, noted_output, noted_replies, replies_noted}
-use Rattle.test_files.specs.declared.noting.NotedLines.{NotedLines}
+use Rattle.test_files.specs.Noted.{held_in, noted_output, noted_replies, replies_noted}
 use Rattle.test_files.specs.declared.noting.NotedReplies.{NotedReplies}
 
 pub line_noted : (a b : NotedLines) (at : Instant) → asked_for b ≡ asked_for a ++ at.image ∷ []

@@ -1,11 +1,10 @@
 -- Bytes that were written whole, in part or not at all.
-use Rattle.std.proofs.Common.{◌≡◌, ◌∙◌, ◌+◌, ◌++◌, ◌⊎◌, ℕ, List, [], Option, Some}
+use Rattle.std.proofs.Common.{◌≡◌, ◌∙◌, ◌+◌, ◌++◌, ◌⊎◌, ℕ, List, [], Some}
 use Rattle.std.proofs.Common.{ap, arith, drop, inl, inr}
-use Rattle.std.proofs.Common.{sym, take, ⊎_elim}
+use Rattle.std.proofs.Common.{sym, take}
 use Rattle.std.proofs.lemmas.List.{append-nil, take-append-drop}
 use Rattle.d64_image.specs.Offsets.{overwritten}
 use Rattle.image_file.specs.Durable.{IsOverwritten}
-use Rattle.image_file.specs.Lasting.{Lasting, StaysOr}
 
 pub overwritten_none : (all : List ℕ) (n : ℕ) → overwritten all n [] ≡ all
 overwritten_none all n =
