@@ -55,12 +55,12 @@ pub put_lock-requires : goal.put_lock-requires
 put_lock-requires c = low c.args.image.now c.args.name.now c.in_ok-disk.disk c.find_entry.new.disk
     c.in_ok-disk.ensures.ok.0 c.in_ok-disk.ensures.ok.1 c.in_ok-entry.entry c.in_ok-entry.ensures
 
-pub returns-in_err-find_entry-clause-err : goal.returns-in_err-find_entry-clause-err
-returns-in_err-find_entry-clause-err c =
-    let p = err_from_is_err_and c.from_residual-in_err-find_entry.result c.from_residual-in_err-find_entry.ensures.1 in
+pub returns-in_err-entry-clause-err : goal.returns-in_err-entry-clause-err
+returns-in_err-entry-clause-err c =
+    let p = err_from_is_err_and c.from_residual-in_err-entry.result c.from_residual-in_err-entry.ensures.1 in
     rw (p.1 ∙ ap Err p.2)
     (refused c.args.image.now c.args.name.now c.in_ok-disk.disk c.find_entry.new.disk
-    c.in_ok-disk.ensures.ok.0 c.in_ok-disk.ensures.ok.1 c.in_err-find_entry.field-0.0 c.in_err-find_entry.ensures)
+    c.in_ok-disk.ensures.ok.0 c.in_ok-disk.ensures.ok.1 c.in_err-entry.field-0.0 c.in_err-entry.ensures)
 
 pub returns-clause-ok : goal.returns-clause-ok
 returns-clause-ok c = IfOk-weaker c.changed.result _ _
