@@ -2,7 +2,6 @@
 use Rattle.std.proofs.Common.{◌≡◌, [], ℕ, List, Option, Result, Ok, Err, Some, ap, inl, inr, refl, subst, sym, ◌∙◌}
 use Rattle.std.specs.Prelude.{IfErr, IfOk, OnOk}
 use Rattle.std.specs.Io.KnownBytes.{Appends}
-use Rattle.std.specs.declared.io.Error.{Error}
 use Rattle.command_faults.specs.declared.faults.CommandFault.{CommandFault}
 use Rattle.command_faults.specs.declared.faults.CommandFault.TheVariants as faults
 use Rattle.image_file.specs.Remains.{Remains}
@@ -10,18 +9,13 @@ use Rattle.image_file.specs.Replacing.{NowAll}
 use Rattle.image_file.specs.paths.Rights.{Make, Write}
 use Rattle.image_file.specs.paths.Traces.{IsWrittenOver, Traces}
 use Rattle.line_text.specs.Handed.{AppendsPart}
-use Rattle.opened_files.specs.Ends.{JobEnd, as_run, told_of}
+use Rattle.opened_files.specs.Ends.{JobEnd, as_run}
 use Rattle.opened_files.specs.Makings.{IsMadeAt, IsNewEnd}
 use Rattle.opened_files.specs.Rights.{aside_of}
 
 -- what holds of the value of a call, if that is Ok
 pub at-ok : {T E : Type 0} (P : T → Type 0) (result : Result T E) (it : T) → IfOk result P → result ≡ Ok it → P it
 at-ok {T} {E} P result it known is = subst (λ (r : Result T E). IfOk r P) is known
-
--- what holds of what the system gave
-pub told-ok : {T : Type 0} (P : T → Type 0) (taken : Result T Error) (it : T) → IfOk taken P → Ok it ≡ told_of taken → P it
-told-ok {T} P (Ok got) it ok is = subst (λ (r : Result T CommandFault). IfOk r P) (sym is) ok
-told-ok {T} P (Err error) it ok is = cc
 
 -- what holds of all ends
 pub on-any : {T E : Type 0} (result : Result T E) (X : Type 0) → X → OnOk result X

@@ -5,7 +5,6 @@ use Rattle.std.specs.IoError.{error_kind}
 use Rattle.image_edits.proofs.ChangedOver.{uncalled}
 use Rattle.disk_changes.specs.Changes.{IsRefused}
 use Rattle.folder_changes.proofs.Changed.{told-weaker}
-use Rattle.opened_files.proofs.Made.{told-ok}
 use Rattle.image_edits.proofs.changing.change_taken.Goals as goal
 
 pub returns-in_err-ended : goal.returns-in_err-ended

@@ -1,11 +1,11 @@
 -- The steps, one after another.
-use Rattle.opened_files.proofs.Made.{made-at, told-ok}
+use Rattle.opened_files.proofs.Made.{made-at}
 use Rattle.opened_files.proofs.put_images.make_beside.Goals as goal
 
 pub returns : goal.returns
 returns g c =
-    let aside = told-ok _ _ _ c.free.ensures c.in_ok-aside.ensures in
+    let aside = c.in_ok-aside.ensures in
     made-at g.F.EndedFile.remains g.R.HostFiles.traces c.args.rt.now _ c.args.path.now _ _ c.args.image.now
     c.in_ok-file.file c.fill-filled.new.file c.fill-filled.result aside.0 aside.1
-    (told-ok _ _ _ c.make_file.ensures c.in_ok-file.ensures)
+    c.in_ok-file.ensures
     c.fill-filled.ensures.held c.fill-filled.ensures.lasting c.fill-filled.ensures.moved
