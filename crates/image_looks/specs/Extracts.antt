@@ -12,8 +12,6 @@ use Rattle.command_faults.specs.declared.faults.CommandFault.{CommandFault}
 use Rattle.command_faults.specs.declared.faults.CommandFault.TheVariants as faults
 use Rattle.opened_files.specs.Ends.{JobEnd}
 use Rattle.opened_files.specs.Losses.{IsSeen, short_refusal}
-use Rattle.opened_files.specs.declared.faults.CommandFault.{CommandFault}
-use Rattle.opened_files.specs.declared.faults.CommandFault.TheVariants as refusals
 
 -- why files that were all made aren't whole: their first fault, or that a file is cut short there
 abbrev pub refusal_found : Option Fault → Option Shortfall → Option CommandFault
