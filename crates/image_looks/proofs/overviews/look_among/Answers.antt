@@ -8,7 +8,7 @@ pub returns-in-Check : goal.returns-in-Check
 returns-in-Check g c =
     let done = c.check_among in (
       λ _. printed c.args.out.now done.new.out (IsCheckedAmong g.W.Write.contents c.args.image.now)
-          (IsCheckFault c.args.image.now) done.result c.job_end.result c.job_end.ensures done.ensures.ok done.ensures.err
+          (IsCheckFault c.args.image.now) done.result done.ensures.ok done.ensures.err
           done.ensures.untouched,
       λ other. absurd (other c.in-Check.is),
     )
