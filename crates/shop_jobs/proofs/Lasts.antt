@@ -17,11 +17,7 @@ use Rattle.image_file.specs.declared.durability.WritesAt.{Ghosts}
 use Rattle.command_faults.specs.declared.faults.CommandFault.TheVariants as faults
 use Rattle.image_file.specs.declared.sectors.ImageFile.{ImageFile}
 use Rattle.shop_jobs.specs.DurableRuns.{IsDurableRun}
-<<<<<<< HEAD:crates/shop_jobs/proofs/Lasts.antt
-use Rattle.opened_files.specs.Ends.{Ended, JobEnd, as_job}
-=======
 use Rattle.opened_files.specs.Ends.{JobEnd}
->>>>>>> 9337601868a02cd8f0a093985bf171c6f41df935:crates/test_files/proofs/Lasts.antt
 use Rattle.shop_jobs.specs.Runs.{IsPlayRun}
 use Rattle.shop_jobs.specs.FilePlays.{HoldsShop, IsAfterSome}
 use Rattle.shop_jobs.proofs.Durably.{all_there, at_ok, each_kept, first_kept, kept_last, told_failed}
@@ -31,11 +27,6 @@ use Rattle.shop_jobs.proofs.PlayedKept.{of_play}
 pub on_ok_by : {T E : Type 0} (r : Result T E) (X : Type 0) → ((v : T) → r ≡ Ok v → X) → OnOk r X
 on_ok_by (Ok v) X f = f v refl
 on_ok_by (Err e) X f = tt
-
--- and of the job that a run was
-on_job : (X : Type 0) (ended : Ended) (end : JobEnd) → end ≡ as_job ended → OnOk ended X → OnOk end X
-on_job X (Ok v) end told x = subst (λ (e : JobEnd). OnOk e X) (sym told) x
-on_job X (Err fault) end told x = subst (λ (e : JobEnd). OnOk e X) (sym told) tt
 
 module _ {F T : Type 0} {G : Ghosts F} (o : Output T) (image script : List ℕ) (file after : F)
     (ended : JobEnd) (old new : T) (size : length image ≡ 174848)
@@ -86,10 +77,9 @@ module _ {F T : Type 0} {G : Ghosts F} (o : Output T) (image script : List ℕ) 
         )
 
     -- so the job left the shop
-    pub holds_shop : (end : JobEnd) → end ≡ as_job ended → HoldsShop G s script file after end
-    holds_shop end told = record {
+    pub holds_shop : HoldsShop G s script file after ended
+    holds_shop = record {
       each = lasts_each;
-      done = on_job _ ended end told
-          (on_ok_by ended _ (λ v e none all sized there. (lasts_done v e all there sized none).1));
-      stays = on_job _ ended end told (all_there run);
+      done = on_ok_by ended _ (λ v e none all sized there. (lasts_done v e all there sized none).1);
+      stays = all_there run;
     }

@@ -56,10 +56,6 @@ module _ {F T : Type 0} (K : Keeps F) (o : Output T) (image script : List ℕ) (
   of_fault _ e = same e.2.0
 
   -- however the play ended
-<<<<<<< HEAD:crates/shop_jobs/proofs/PlayedKept.antt
-  pub of_play : (end : Ended) → IsPlayRun K o image script file after old new end → KeptOnly K file after (IsAfterSome s ms)
-=======
-  pub of_play : (end : JobEnd) → IsPlayRun K o image script file after old new end → KeptOnly K file after (IsSome s ms)
->>>>>>> 9337601868a02cd8f0a093985bf171c6f41df935:crates/test_files/proofs/Played.antt
+  pub of_play : (end : JobEnd) → IsPlayRun K o image script file after old new end → KeptOnly K file after (IsAfterSome s ms)
   of_play (Ok v) x = of_whole x.done.1.1
   of_play (Err fault) x = of_fault fault x.fault

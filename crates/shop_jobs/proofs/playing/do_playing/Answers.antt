@@ -4,8 +4,8 @@ use Rattle.std.proofs.lemmas.Result.{err_from_is_err_and}
 use Rattle.std.specs.Prelude.{IfSome, ◌≡◌, take, vec_items}
 use Rattle.opened_files.proofs.Near.{not-near}
 use Rattle.shop_jobs.proofs.Lasts.{holds_shop}
-use Rattle.shop_jobs.proofs.NearEnds.{job-other, near-begun, near-fault, near-unbegun}
-use Rattle.shop_jobs.proofs.PlayTold.{play-lines, play-plain, play-quiet, played-at, shop-at}
+use Rattle.shop_jobs.proofs.NearEnds.{near-begun, near-fault, near-unbegun}
+use Rattle.shop_jobs.proofs.PlayTold.{play-lines, play-other, play-plain, play-quiet, played-at, shop-at}
 use Rattle.shop_jobs.specs.Replies.{IsShopAt}
 use Rattle.shop_jobs.specs.Replies.{IsShopOf, lines_to}
 use Rattle.shop_jobs.proofs.playing.do_playing.Goals as goal
@@ -23,9 +23,10 @@ returns-in_err-image-clause-left g c =
 
 pub returns-clause-near : goal.returns-clause-near
 returns-clause-near g c =
-    near-begun g.R.HostFiles.stands c.args.rt.now c.args.path.now c.args.loss c.args.out.now _ c.job_end.result
-    (vec_items c.in_ok-image.image) c.in_ok-image.ensures.read c.in_ok-image.ensures.near
-    (job-other _ c.job_end.result c.job_end.ensures)
+    near-begun g.R.HostFiles.stands c.args.rt.now c.args.path.now c.args.loss c.args.out.now _
+    c.play_durably-ended.result.1 (vec_items c.in_ok-image.image) c.in_ok-image.ensures.read c.in_ok-image.ensures.near
+    (play-other g.W.Write.contents c.as_slice.result.now c.as_slice-2.result.now _ c.play_durably-ended.result.0
+    c.new-printer.result c.play_durably-ended.new.out c.play_durably-ended.result.1 c.play_durably-ended.ensures.run)
 
 pub returns-clause-played : goal.returns-clause-played
 returns-clause-played g c =
@@ -43,10 +44,10 @@ returns-clause-played g c =
           ended c.play_durably-ended.ensures.run,
       λ other all holds. played-at told (IsShopOf image) at
           (shop-at g.R.HostFiles.stands c.args.rt.now c.args.path.now (vec_items c.in_ok-image.image) image
-          c.in_ok-image.ensures.read c.as_slice.ensures.value) c.args.out.now _ all c.job_end.result
+          c.in_ok-image.ensures.read c.as_slice.ensures.value) c.args.out.now _ all ended
           (play-plain told _ file before behind c.args.out.now _ c.new-printer.ensures.out
-          (λ same. search rules) image script ended c.job_end.result all
-          (c.as_slice-2.ensures.value ∙ c.in_ok-image.ensures.text other all holds) c.job_end.ensures
+          (λ same. search rules) image script ended all
+          (c.as_slice-2.ensures.value ∙ c.in_ok-image.ensures.text other all holds)
           c.play_durably-ended.ensures.run),
     )
 
@@ -67,7 +68,6 @@ returns-clause-left g c =
         read = subst (λ (bytes : List ℕ). IfSome held (λ all. bytes ≡ take 174849 all)) (sym c.as_slice.ensures.value)
             c.in_ok-image.ensures.held;
         shop = λ s is known. holds_shop (lines_to g.W.Write.contents) image script _ _ c.play_durably-ended.result.1
-            c.new-printer.result c.play_durably-ended.new.out is.0 known c.play_durably-ended.ensures.run s is.1
-            c.job_end.result c.job_end.ensures;
+            c.new-printer.result c.play_durably-ended.new.out is.0 known c.play_durably-ended.ensures.run s is.1;
       },
     ))
