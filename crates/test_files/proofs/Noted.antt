@@ -9,13 +9,6 @@ use Rattle.line_server.proofs.Turns.{told_once, untold}
 use Rattle.test_files.specs.Noted.{held_in, noted_output, noted_replies, replies_noted}
 use Rattle.test_files.specs.declared.noting.NotedReplies.{NotedReplies}
 
-pub line_noted : (a b : NotedLines) (at : Instant) → asked_for b ≡ asked_for a ++ at.image ∷ []
-    → AsksOne noted_lines a b at
-line_noted a b at e = λ first xs k.
-    e ∙ ap (λ ys. ys ++ at.image ∷ []) k
-    ∙ append_assoc (asked_for first) (map (λ (x : Instant). x.image) xs) (at.image ∷ [])
-    ∙ ap (λ ys. asked_for first ++ ys) (sym (map-append (λ (x : Instant). x.image) xs (at ∷ [])))
-
 tells_more : (a b : NotedReplies) (reply : Reply) (at : Instant)
     → replies_noted b ≡ replies_noted a ++ (reply, at.image) ∷ [] → TellsOne noted_output a b reply at
 tells_more a b reply at e = λ first xs k.

@@ -20,13 +20,3 @@ pub part_written : (old new : List ℕ) (n : ℕ) (bytes part : List ℕ) (count
 part_written old new n bytes part count is (inl same) = (0, λ le. same ∙ ap Some (sym (overwritten_none old n)))
 part_written old new n bytes part count is (inr written) =
     (count, λ le. written ∙ ap (λ xs. Some (overwritten old n xs)) is)
-
--- nothing came, where that was what there was
-pub none_came : {F : Type 0} (L : Lasting F) (a b : F) (same next : Option (List ℕ)) → L.bytes a ≡ same
-    → StaysOr L a b same → StaysOr L a b next
-none_came L a b same next is x = record {
-  now = inl (⊎_elim (λ e. e) (λ e. e ∙ sym is) x.now);
-  later = x.later;
-  each = λ all h. inl (⊎_elim (λ e. e) (λ e. is ∙ e) (x.each all h));
-  before = λ t all le h. ⊎_elim (λ s. inl s) (λ k. inr (inl (⊎_elim (λ e. e) (λ e. is ∙ e) k))) (x.before t all le h);
-}
