@@ -78,8 +78,11 @@ class Draw:
             "delete": ("delete", draw.choice(["FILE0", "PROGRAM"])),
             "format": ("format", "--tills", "4"),
         }[word]
-        before = self.hurt(disk, word.endswith("--sides")) if words[0] == "repair" else disk
-        return Change(self.program, self.folder / "state", words, before)
+        if words[0] == "repair":
+            disk = self.hurt(disk, word.endswith("--sides"))
+        if word == "unlock":
+            disk = Change(self.program, self.folder / "state", ("lock", words[1]), disk).after
+        return Change(self.program, self.folder / "state", words, disk)
 
     def disk(self):
         """A shop's disk with relative files and a program."""
