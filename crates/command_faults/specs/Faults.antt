@@ -51,7 +51,7 @@ command_text (faults.Short p) = codes "SHORT " ++ place_text p
 command_text faults.ShopFile = codes "SHOP FILE"
 command_text faults.InUse = codes "IN USE"
 command_text faults.NotReady = codes "NOT READY"
-command_text (faults.Kept n) = codes "KEPT " ++ decimal n
+command_text (faults.StraysLeft n) = codes "KEPT " ++ decimal n
 command_text faults.PathExists = codes "FILE EXISTS"
 command_text faults.Log = codes "LOG"
 command_text faults.LogAway = codes "LOG AWAY"
@@ -61,7 +61,7 @@ command_text (faults.Several greatest) = codes "STATUS " ++ decimal greatest
 
 -- it is reported on standard error, unless it was reported before
 abbrev pub is_told : CommandFault → Bool
-is_told (faults.Kept n) = false
+is_told (faults.StraysLeft n) = false
 is_told faults.Trimmed = false
 is_told (faults.Several greatest) = false
 is_told _ = true

@@ -72,7 +72,7 @@ pub enum CommandFault {
     NotReady,
     /// The disk is repaired, except that this number of sectors stay taken though no file owns them. The output says
     /// so.
-    Kept(u16),
+    StraysLeft(u16),
     /// A file is to be made under a name that exists, or that has a log beside it. Nothing was changed.
     PathExists,
     /// The log beside the image can't be used: it is of another image, or isn't whole. Nothing was changed.
@@ -107,7 +107,7 @@ impl CommandFault {
         ensures { result ≡ told_there self.now }
     {
         match self {
-            CommandFault::Kept(_) | CommandFault::Trimmed | CommandFault::Several(_) => false,
+            CommandFault::StraysLeft(_) | CommandFault::Trimmed | CommandFault::Several(_) => false,
             _ => true,
         }
     }
@@ -161,7 +161,7 @@ impl Display for CommandFault {
             CommandFault::ShopFile => f.write_str("SHOP FILE"),
             CommandFault::InUse => f.write_str("IN USE"),
             CommandFault::NotReady => f.write_str("NOT READY"),
-            CommandFault::Kept(count) => write!(f, "KEPT {count}"),
+            CommandFault::StraysLeft(count) => write!(f, "KEPT {count}"),
             CommandFault::PathExists => f.write_str("FILE EXISTS"),
             CommandFault::Log => f.write_str("LOG"),
             CommandFault::LogAway => f.write_str("LOG AWAY"),

@@ -10,4 +10,4 @@ mod output;
 pub use faults::CommandFault;
 pub use files::file_of;
 pub use loading::load;
-pub use output::{flush, put, put_line, put_text};
+pub use output::{flush, print_line, print_text, put};

@@ -23,7 +23,7 @@ pub fn put<W: Write>(out: &mut W, bytes: &[u8]) -> Result<(), CommandFault>
 }
 
 /// Passes this text to the writer. `File` if it failed, which may then have a part.
-pub fn put_text<W: Write, T: Display + Drop>(out: &mut W, text: T) -> Result<(), CommandFault>
+pub fn print_text<W: Write, T: Display + Drop>(out: &mut W, text: T) -> Result<(), CommandFault>
     ensures ok { OnOk result (IfSome (T.output text)
         (λ text. Appends (W.contents out.old) (W.contents out.new) text)) }
     ensures err { IfErr result (λ fault. fault ≡ faults.File) }
@@ -35,7 +35,7 @@ pub fn put_text<W: Write, T: Display + Drop>(out: &mut W, text: T) -> Result<(),
 }
 
 /// Prints this on a line of its own. `File` if the writer failed.
-pub fn put_line<W: Write, T: Display + Drop>(out: &mut W, text: T) -> Result<(), CommandFault>
+pub fn print_line<W: Write, T: Display + Drop>(out: &mut W, text: T) -> Result<(), CommandFault>
     ensures ok { OnOk result (IfSome (T.output text)
         (λ text. Appends (W.contents out.old) (W.contents out.new) (text ++ codes "\n"))) }
     ensures err { IfErr result (λ fault. fault ≡ faults.File) }

@@ -4,7 +4,7 @@ use Rattle.std.specs.Prelude.{codes}
 use Rattle.d64_image.specs.Images.{Image}
 use Rattle.d64_image.specs.Memory.{disk_image, memory, sectors_in}
 use Rattle.d64_image.specs.declared.mem_disk.MemDisk.{MemDisk}
-use Rattle.damaged_files.specs.declared.sides.planning.Shortened.TheVariants.{Refused}
+use Rattle.damaged_files.specs.declared.sides.planning.Loss.TheVariants.{Refused}
 use Rattle.disk_changes.proofs.Judged.{never-fails}
 use Rattle.disk_changes.specs.Deletes.{IsDeleteRefusal, IsDeleted}
 use Rattle.disk_changes.specs.Judged.{IsCleanDisk}
@@ -13,7 +13,7 @@ use Rattle.command_faults.specs.declared.faults.CommandFault.TheVariants as faul
 use Rattle.disk_layout.specs.Clean.{IsCleanLayout}
 use Rattle.file_changes.specs.Deletes.{Deletes, HasFreed}
 use Rattle.command_faults.specs.declared.faults.CommandFault.{CommandFault}
-use Rattle.keeper_commands.specs.ShopFiles.{HasShopFile}
+use Rattle.disk_changes.specs.ShopFiles.{HasShopFile}
 
 module _ (image name : List ℕ) (a b : MemDisk) (whole : IsCleanDisk image Refused) (is : disk_image a ≡ sectors_in image) where
   clean : IsCleanLayout (disk_image a) whole.layout

@@ -8,7 +8,7 @@ use Rattle.d64_image.specs.Memory.{memory, sectors_in}
 use Rattle.d64_image.specs.declared.mem_disk.MemDisk.{MemDisk}
 use Rattle.d64_image.specs.declared.place.Place.{Place}
 use Rattle.damaged_files.specs.cut.Told.{HasNoCut, IsCutShort, IsToldOf}
-use Rattle.damaged_files.specs.declared.sides.planning.Shortened.{Shortened}
+use Rattle.damaged_files.specs.declared.sides.planning.Loss.{Loss}
 use Rattle.disk_changes.specs.Judged.{IsCleanDisk, IsSoundWhole, IsTaken, IsUnclean, IsUntaken}
 use Rattle.command_faults.specs.declared.faults.CommandFault.{CommandFault}
 use Rattle.disk_layout.specs.Clean.{IsCleanLayout}
@@ -64,7 +64,7 @@ untaken-unclean image faults.NoMemory c = c
 untaken-unclean image (faults.Short p) c = c
 untaken-unclean image _ c = absurd c
 
-abbrev pub is-clean-disk : (image : List ℕ) (cut : Shortened) (img : Image) → img ≡ sectors_in image → IsTaken image cut
+abbrev pub is-clean-disk : (image : List ℕ) (cut : Loss) (img : Image) → img ≡ sectors_in image → IsTaken image cut
     → (l : Layout) → IsCleanLayout img l → IsCleanDisk image cut
 is-clean-disk image cut img is taken l clean =
     record { taken = taken; layout = l; clean = subst (λ (i : Image). IsCleanLayout i l) is clean }

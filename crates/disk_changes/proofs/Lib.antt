@@ -1,8 +1,10 @@
+pub mod lemmas
 pub mod Deleted
 pub mod Judged
 pub mod MadeFile
 pub mod Put
 pub mod Renamed
 pub mod Repaired
+pub mod ShopFiles
 pub mod SidesBuilt
 pub mod StoredRecords

@@ -4,7 +4,7 @@ use Rattle.std.specs.Prelude.{codes}
 use Rattle.d64_image.specs.Images.{Image}
 use Rattle.d64_image.specs.Memory.{disk_image, memory, sectors_in}
 use Rattle.d64_image.specs.declared.mem_disk.MemDisk.{MemDisk}
-use Rattle.damaged_files.specs.declared.sides.planning.Shortened.{Shortened}
+use Rattle.damaged_files.specs.declared.sides.planning.Loss.{Loss}
 use Rattle.disk_changes.proofs.Judged.{never-fails}
 use Rattle.disk_changes.specs.Judged.{IsCleanDisk}
 use Rattle.disk_changes.specs.Makes.{IsMade, IsMakeRefusal}
@@ -17,7 +17,7 @@ use Rattle.rel_records.specs.declared.faults.RelFault.{RelFault}
 use Rattle.rel_records.specs.declared.faults.RelFault.TheVariants as rel
 use Rattle.rel_records.specs.declared.rel_file.RelFile.{RelFile}
 
-module _ (image name : List ℕ) (L : ℕ) (cut : Shortened) (a b : MemDisk) (whole : IsCleanDisk image cut)
+module _ (image name : List ℕ) (L : ℕ) (cut : Loss) (a b : MemDisk) (whole : IsCleanDisk image cut)
     (is : disk_image a ≡ sectors_in image) where
   clean : IsCleanLayout (disk_image a) whole.layout
   clean = subst (λ (i : Image). IsCleanLayout i whole.layout) (sym is) whole.clean

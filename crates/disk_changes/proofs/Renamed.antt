@@ -12,7 +12,7 @@ use Rattle.command_faults.specs.declared.faults.CommandFault.TheVariants as faul
 use Rattle.disk_layout.specs.Layout.{IsLayout}
 use Rattle.file_changes.specs.Renames.{HasNewName, Renames}
 use Rattle.command_faults.specs.declared.faults.CommandFault.{CommandFault}
-use Rattle.keeper_commands.specs.ShopFiles.{HasShopFile}
+use Rattle.disk_changes.specs.ShopFiles.{HasShopFile}
 
 module _ (image from to : List ℕ) (a b : MemDisk) (whole : IsSoundWhole image) (is : disk_image a ≡ sectors_in image) where
   sound : IsLayout (disk_image a) whole.layout

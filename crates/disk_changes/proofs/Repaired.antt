@@ -6,18 +6,18 @@ use Rattle.command_faults.specs.declared.faults.CommandFault.TheVariants as faul
 use Rattle.d64_image.specs.Images.{Image, sector}
 use Rattle.d64_image.specs.Memory.{disk_image, memory, sectors_in}
 use Rattle.d64_image.specs.declared.mem_disk.MemDisk.{MemDisk}
-use Rattle.damaged_files.specs.declared.sides.planning.Shortened.{Shortened}
+use Rattle.damaged_files.specs.declared.sides.planning.Loss.{Loss}
 use Rattle.disk_changes.proofs.Judged.{never-fails}
 use Rattle.disk_changes.specs.Judged.{IsTaken, in_memory}
 use Rattle.disk_changes.specs.Repairs.{IsRepairRefusal, IsRepaired}
 use Rattle.disk_changes.specs.declared.changes.Changed.{Changed}
 use Rattle.disk_layout.specs.Directory.{map_place}
 use Rattle.disk_layout.specs.Fault.{Holds, nowhere}
-use Rattle.keeper_commands.specs.Kinds.{HasFormatByte, HasGeosSign, IsPlainDisk}
-use Rattle.keeper_commands.specs.Repairs.{IsMendedAs, IsRepairDone, IsRepairFault, mended_text}
+use Rattle.disk_changes.specs.mended.Kinds.{HasFormatByte, HasGeosSign, IsPlainDisk}
+use Rattle.disk_changes.specs.mended.Repairs.{IsMendedAs, IsRepairDone, IsRepairFault, mended_text}
 use Rattle.layout_check.specs.RepairOrder.{ClearsSpare}
 
-module _ (image : List ℕ) (free : Bool) (cut : Shortened) (a b : MemDisk) (taken : IsTaken image cut)
+module _ (image : List ℕ) (free : Bool) (cut : Loss) (a b : MemDisk) (taken : IsTaken image cut)
     (is : disk_image a ≡ sectors_in image) {W : Type 0} (w : W) where
   pub repair-done : (contents : W → Option (List ℕ)) (v : W) (made : Changed) → made.disk ≡ b
       → IsRepairDone free memory contents image a b w v made.left

@@ -11,8 +11,8 @@ use Rattle.disk_changes.specs.Judged.{in_memory}
 use Rattle.disk_changes.specs.Rebuilds.{IsRebuiltOf, IsUnbuilt}
 use Rattle.disk_layout.specs.Directory.{map_place}
 use Rattle.disk_layout.specs.Fault.{Holds, nowhere}
-use Rattle.keeper_commands.specs.Kinds.{HasFormatByte, HasGeosSign, IsPlainDisk}
-use Rattle.keeper_commands.specs.Rebuilds.{IsRebuildFault, IsRebuiltDisk}
+use Rattle.disk_changes.specs.mended.Kinds.{HasFormatByte, HasGeosSign, IsPlainDisk}
+use Rattle.disk_changes.specs.mended.Rebuilds.{IsRebuildFault, IsRebuiltDisk}
 
 module _ (image : List ℕ) (a b : MemDisk) (is : disk_image a ≡ sectors_in image) where
   pub built-of : IsRebuiltDisk memory image a b → IsRebuiltOf image (disk_image b)

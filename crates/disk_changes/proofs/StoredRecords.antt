@@ -6,7 +6,7 @@ use Rattle.command_faults.specs.declared.faults.CommandFault.TheVariants as faul
 use Rattle.d64_image.specs.Images.{Image}
 use Rattle.d64_image.specs.Memory.{disk_image, memory, sectors_in}
 use Rattle.d64_image.specs.declared.mem_disk.MemDisk.{MemDisk}
-use Rattle.damaged_files.specs.declared.sides.planning.Shortened.{Shortened}
+use Rattle.damaged_files.specs.declared.sides.planning.Loss.{Loss}
 use Rattle.disk_changes.proofs.Judged.{is-clean-disk, never-fails}
 use Rattle.disk_changes.specs.Judged.{IsCleanBut, IsTaken, in_memory}
 use Rattle.disk_changes.specs.Stores.{IsStoreRefusal, IsStored}
@@ -15,14 +15,14 @@ use Rattle.disk_layout.specs.Clean.{IsClean}
 use Rattle.disk_layout.specs.Layout.{File, Layout, record_length}
 use Rattle.disk_layout.specs.Records.{records}
 use Rattle.disk_layout.specs.Rest.{IsNamed}
-use Rattle.keeper_commands.specs.Refusals.{IsLeft}
-use Rattle.keeper_commands.specs.Stores.{AreSo, changed_text, greatest, last_ones, stored}
-use Rattle.keeper_commands.specs.Storing.{HasBadLine, HasNoStoreRoom, IsStoreFault, IsStoredDisk}
+use Rattle.disk_changes.specs.lines.Refusals.{IsLeft}
+use Rattle.disk_changes.specs.lines.Stores.{AreSo, changed_text, greatest, last_ones, stored}
+use Rattle.disk_changes.specs.lines.Storing.{HasBadLine, HasNoStoreRoom, IsStoreFault, IsStoredDisk}
 use Rattle.rel_records.specs.Others.{HasRecords}
 use Rattle.rel_records.specs.Written.{grown_to}
 use Rattle.rel_records.specs.growth.Growth.{IsFull}
 
-module _ (image name text : List ℕ) (cut : Shortened) (a b : MemDisk) (taken : IsTaken image cut)
+module _ (image name text : List ℕ) (cut : Loss) (a b : MemDisk) (taken : IsTaken image cut)
     (is : disk_image a ≡ sectors_in image) where
   pub store-done : (x : IsStoredDisk memory image name text a b) → (made : Changed) → made.disk ≡ b → (before : List ℕ)
       → before ≡ [] → made.text.items ≡ before ++ changed_text (record_length x.run.file.slot) (last_ones x.run.all)

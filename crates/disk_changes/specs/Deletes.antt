@@ -2,7 +2,7 @@
 use Rattle.std.specs.Prelude.{◌≡◌, List, codes, ℕ}
 use Rattle.command_faults.specs.declared.faults.CommandFault.TheVariants as faults
 use Rattle.d64_image.specs.Memory.{disk_image, sectors_in}
-use Rattle.damaged_files.specs.declared.sides.planning.Shortened.TheVariants.{Refused}
+use Rattle.damaged_files.specs.declared.sides.planning.Loss.TheVariants.{Refused}
 use Rattle.disk_changes.specs.Judged.{IsCleanBut, IsCleanDisk, IsNoName, IsUnclean}
 use Rattle.disk_changes.specs.declared.changes.Changed.{Changed}
 use Rattle.command_faults.specs.declared.faults.CommandFault.{CommandFault}
@@ -11,7 +11,7 @@ use Rattle.disk_layout.specs.Rest.{slot_name}
 use Rattle.disk_layout.specs.declared.slot.Slot.{Slot}
 use Rattle.file_changes.specs.Deletes.{HasFreed, IsLocked}
 use Rattle.file_changes.specs.Entries.{IsFirstNamed, entries_of}
-use Rattle.keeper_commands.specs.ShopFiles.{HasShopFile}
+use Rattle.disk_changes.specs.ShopFiles.{HasShopFile}
 
 -- the first entry of that name is locked
 abbrev pub IsLockedName : Layout → List ℕ → Type 0

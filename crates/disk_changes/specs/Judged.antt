@@ -6,8 +6,8 @@ use Rattle.command_faults.specs.declared.faults.CommandFault.TheVariants as faul
 use Rattle.d64_image.specs.Memory.{sectors_in}
 use Rattle.d64_image.specs.declared.place.Place.{Place}
 use Rattle.damaged_files.specs.cut.Told.{HasNoCut, IsCutShort}
-use Rattle.damaged_files.specs.declared.sides.planning.Shortened.{Shortened}
-use Rattle.damaged_files.specs.declared.sides.planning.Shortened.TheVariants.{Accepted}
+use Rattle.damaged_files.specs.declared.sides.planning.Loss.{Loss}
+use Rattle.damaged_files.specs.declared.sides.planning.Loss.TheVariants.{Accepted}
 use Rattle.disk_layout.specs.Clean.{IsCleanLayout}
 use Rattle.disk_layout.specs.Layout.{IsLayout, Layout}
 use Rattle.disk_layout.specs.Rest.{slot_name}
@@ -21,11 +21,11 @@ pub record IsSoundWhole (image : List ℕ) : Type 0 where
   pub uncut : (l : Layout) → IsLayout (sectors_in image) l → HasNoCut (sectors_in image) l None
 
 -- no file of the image is cut short, or one may be
-abbrev pub IsTaken : (image : List ℕ) → Shortened → Type 0
+abbrev pub IsTaken : (image : List ℕ) → Loss → Type 0
 IsTaken image cut = (length image ≡ 174848) × ((cut ≡ Accepted) ⊎ ((p : Place) → ¬ (IsCutShort image p)))
 
 -- And its disk is clean.
-pub record IsCleanDisk (image : List ℕ) (cut : Shortened) : Type 0 where
+pub record IsCleanDisk (image : List ℕ) (cut : Loss) : Type 0 where
   pub taken : IsTaken image cut
   pub layout : Layout
   pub clean : IsCleanLayout (sectors_in image) layout
@@ -50,7 +50,7 @@ pub record IsSoundBut (image : List ℕ) (Q : Layout → Type 0) : Type 0 where
   pub whole : IsSoundWhole image
   pub but : Q whole.layout
 
-pub record IsCleanBut (image : List ℕ) (cut : Shortened) (Q : Layout → Type 0) : Type 0 where
+pub record IsCleanBut (image : List ℕ) (cut : Loss) (Q : Layout → Type 0) : Type 0 where
   pub disk : IsCleanDisk image cut
   pub but : Q disk.layout
 

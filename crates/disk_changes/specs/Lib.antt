@@ -1,3 +1,5 @@
+pub mod lines
+pub mod mended
 pub mod Changes
 pub mod Deletes
 pub mod Judged
@@ -7,5 +9,6 @@ pub mod Puts
 pub mod Rebuilds
 pub mod Renames
 pub mod Repairs
+pub mod ShopFiles
 pub mod Stores
 pub mod Titles

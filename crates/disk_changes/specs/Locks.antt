@@ -13,7 +13,7 @@ use Rattle.disk_layout.specs.Rest.{slot_name}
 use Rattle.disk_layout.specs.declared.slot.Slot.{Slot}
 use Rattle.file_changes.specs.Entries.{IsFirstNamed, entries_of}
 use Rattle.file_changes.specs.Patches.{patched}
-use Rattle.keeper_commands.specs.ShopFiles.{HasShopFile}
+use Rattle.disk_changes.specs.ShopFiles.{HasShopFile}
 
 -- the type with bit 6 so
 abbrev pub locked_type : Lock → ℕ → ℕ

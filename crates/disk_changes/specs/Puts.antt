@@ -2,7 +2,7 @@
 use Rattle.std.specs.Prelude.{◌≡◌, List, codes, length, ℕ}
 use Rattle.command_faults.specs.declared.faults.CommandFault.TheVariants as faults
 use Rattle.d64_image.specs.Memory.{disk_image, sectors_in}
-use Rattle.damaged_files.specs.declared.sides.planning.Shortened.TheVariants.{Refused}
+use Rattle.damaged_files.specs.declared.sides.planning.Loss.TheVariants.{Refused}
 use Rattle.disk_changes.specs.Judged.{IsCleanBut, IsCleanDisk, IsUnclean}
 use Rattle.disk_changes.specs.declared.changes.Changed.{Changed}
 use Rattle.command_faults.specs.declared.faults.CommandFault.{CommandFault}

@@ -4,15 +4,15 @@ use Rattle.command_faults.specs.declared.faults.CommandFault.TheVariants as faul
 use Rattle.d64_image.specs.Images.{Image, sector}
 use Rattle.d64_image.specs.Memory.{disk_image, sectors_in}
 use Rattle.d64_image.specs.declared.mem_disk.MemDisk.{MemDisk}
-use Rattle.damaged_files.specs.declared.sides.planning.Shortened.{Shortened}
+use Rattle.damaged_files.specs.declared.sides.planning.Loss.{Loss}
 use Rattle.damaged_files.specs.sides.Rebuilt as sides
 use Rattle.disk_changes.specs.Repairs.{IsRepairRefusal, IsRepaired}
 use Rattle.disk_changes.specs.declared.changes.Changed.{Changed}
 use Rattle.command_faults.specs.declared.faults.CommandFault.{CommandFault}
 use Rattle.disk_layout.specs.Directory.{map_place}
 use Rattle.disk_layout.specs.Fault.{Holds, nowhere}
-use Rattle.keeper_commands.specs.Kinds.{HasFormatByte, HasGeosSign, IsPlainDisk}
-use Rattle.keeper_commands.specs.Repairs.{changed_text}
+use Rattle.disk_changes.specs.mended.Kinds.{HasFormatByte, HasGeosSign, IsPlainDisk}
+use Rattle.disk_changes.specs.mended.Repairs.{changed_text}
 
 -- the disk of the image is one of the 1541, and this is it with its side sectors built anew
 abbrev pub IsRebuiltOf : (image : List ℕ) → Image → Type 0
@@ -37,7 +37,7 @@ IsUnbuilt image why = ⊥
 
 -- They were built anew, and the disk was repaired then, if no file of it is cut short or one may be. What both mended is
 -- printed.
-pub record IsRebuilt (image : List ℕ) (free : Bool) (cut : Shortened) (made : Changed) : Type 0 where
+pub record IsRebuilt (image : List ℕ) (free : Bool) (cut : Loss) (made : Changed) : Type 0 where
   pub bytes : List ℕ
   pub built : IsRebuiltOf image (sectors_in bytes)
   pub second : Changed

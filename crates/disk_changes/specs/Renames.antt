@@ -8,7 +8,7 @@ use Rattle.command_faults.specs.declared.faults.CommandFault.{CommandFault}
 use Rattle.disk_layout.specs.Rest.{slot_name}
 use Rattle.file_changes.specs.Entries.{IsFreeName, entries_of}
 use Rattle.file_changes.specs.Renames.{HasNewName}
-use Rattle.keeper_commands.specs.ShopFiles.{HasShopFile}
+use Rattle.disk_changes.specs.ShopFiles.{HasShopFile}
 
 -- The entry has its new name on the disk that comes of it; and what is printed.
 pub record IsRenamed (image from to : List ℕ) (made : Changed) : Type 0 where

@@ -2,7 +2,7 @@
 use Rattle.std.specs.Prelude.{◌≡◌, List, Some, slice_get, ℕ}
 use Rattle.command_faults.specs.declared.faults.CommandFault.TheVariants as faults
 use Rattle.d64_image.specs.Memory.{disk_image, sectors_in}
-use Rattle.damaged_files.specs.declared.sides.planning.Shortened.{Shortened}
+use Rattle.damaged_files.specs.declared.sides.planning.Loss.{Loss}
 use Rattle.disk_changes.specs.Judged.{IsCleanBut, IsCleanDisk, IsUnclean}
 use Rattle.disk_changes.specs.declared.changes.Changed.{Changed}
 use Rattle.command_faults.specs.declared.faults.CommandFault.{CommandFault}
@@ -10,8 +10,8 @@ use Rattle.disk_layout.specs.Clean.{IsClean}
 use Rattle.disk_layout.specs.Layout.{File, record_length}
 use Rattle.disk_layout.specs.Records.{records}
 use Rattle.disk_layout.specs.Rest.{IsFirst, IsNamed}
-use Rattle.keeper_commands.specs.Stores.{AreLinesOf, AreSo, NewRecord, changed_text, greatest, last_ones, stored}
-use Rattle.keeper_commands.specs.Storing.{HasBadLine, HasNoStoreRoom}
+use Rattle.disk_changes.specs.lines.Stores.{AreLinesOf, AreSo, NewRecord, changed_text, greatest, last_ones, stored}
+use Rattle.disk_changes.specs.lines.Storing.{HasBadLine, HasNoStoreRoom}
 use Rattle.line_text.specs.scripts.Lines.{lines}
 use Rattle.rel_records.specs.Others.{HasRecords}
 use Rattle.rel_records.specs.Written.{grown_to}
@@ -20,7 +20,7 @@ use Rattle.rel_records.specs.growth.Growth.{IsFull, records_had}
 -- `file` is the first closed relative file of the name, and the lines of the text that is given are of the records `all`, which it has or can
 -- have. Those that count, of two of one record the last, are stored on the disk that comes of it, in the file that has
 -- grown to the greatest of them. The lines of those that changed are printed, in order.
-pub record IsStored (image name given : List ℕ) (cut : Shortened) (made : Changed) : Type 0 where
+pub record IsStored (image name given : List ℕ) (cut : Loss) (made : Changed) : Type 0 where
   pub before : IsCleanDisk image cut
   -- its number among the entries
   pub number : ℕ
@@ -39,7 +39,7 @@ pub record IsStored (image name given : List ℕ) (cut : Shortened) (made : Chan
       changed_text (record_length file.slot) (last_ones all) (grown_to (sectors_in image) file (greatest all))
 
 -- why records aren't stored
-abbrev pub IsStoreRefusal : (image name text : List ℕ) → Shortened → CommandFault → Type 0
+abbrev pub IsStoreRefusal : (image name text : List ℕ) → Loss → CommandFault → Type 0
 IsStoreRefusal image name text cut faults.NoFile = IsCleanBut image cut
     (λ l. (k : ℕ) (f : File) → slice_get l.files k ≡ Some f → ¬ (IsNamed name f))
 IsStoreRefusal image name text cut (faults.RecordsLine k) = IsCleanBut image cut (HasBadLine name text k)

@@ -1,7 +1,7 @@
 //! A change, and what comes of it.
 
 use d64_image::MemDisk;
-use damaged_files::Shortened;
+use damaged_files::Loss;
 use file_changes::FileType;
 
 /// A change to the files of a disk. A name that a file gets has at most sixteen bytes. If a file of the disk is cut short,
@@ -37,23 +37,23 @@ pub enum Change<'a> {
     Make {
         name: &'a [u8],
         length: u8,
-        cut: Shortened,
+        cut: Loss,
     },
     /// The records of the text's lines, stored in the first closed relative file of the name.
     Store {
         name: &'a [u8],
         text: &'a [u8],
-        cut: Shortened,
+        cut: Loss,
     },
     /// The disk is repaired. If `free`, sectors that no file owns become free.
     Repair {
         free: bool,
-        cut: Shortened,
+        cut: Loss,
     },
     /// The same, after its side sectors are built anew.
     Rebuild {
         free: bool,
-        cut: Shortened,
+        cut: Loss,
     },
 }
 

@@ -5,10 +5,10 @@ ghost use Rattle.disk_changes.specs.Deletes.{IsDeleted, IsDeleteRefusal};
 use crate::changes::Changed;
 use crate::judging::clean_disk;
 use crate::outcomes::changed;
+use crate::shop_files::has_shop_file;
 use command_faults::CommandFault;
-use damaged_files::Shortened;
+use damaged_files::Loss;
 use file_changes::delete;
-use keeper_commands::has_shop_file;
 use std::alloc::Global;
 
 /// The image without the first file that has this name, of whatever type.
@@ -16,7 +16,7 @@ pub(crate) fn deleted(alloc: Global, image: &[u8], name: &[u8]) -> Result<Change
     ensures ok { IfOk result (IsDeleted image.now name.now) }
     ensures err { IfErr result (IsDeleteRefusal image.now name.now) }
 {
-    let mut disk = clean_disk(alloc, image, Shortened::Refused)?;
+    let mut disk = clean_disk(alloc, image, Loss::Refused)?;
     if has_shop_file(alloc, image, name)? {
         return Err(CommandFault::ShopFile);
     }

@@ -5,7 +5,7 @@ ghost use Rattle.disk_changes.specs.Judged.{IsCleanDisk, IsSoundWhole, IsTaken, 
 
 use command_faults::{CommandFault, load};
 use d64_image::MemDisk;
-use damaged_files::{Shortened, find_cut};
+use damaged_files::{Loss, find_cut};
 use layout_check::check;
 use std::alloc::Global;
 
@@ -23,18 +23,14 @@ pub(crate) fn sound_disk(alloc: Global, image: &[u8]) -> Result<MemDisk, Command
 
 /// The disk of an image in memory, unless a file of it is cut short and that isn't accepted. A disk that isn't sound has
 /// no such file.
-pub(crate) fn taken_disk(
-    alloc: Global,
-    image: &[u8],
-    cut: Shortened,
-) -> Result<MemDisk, CommandFault>
+pub(crate) fn taken_disk(alloc: Global, image: &[u8], cut: Loss) -> Result<MemDisk, CommandFault>
     ensures ok { IfOk result (λ disk. IsTaken image.now cut × (disk_image disk ≡ sectors_in image.now)) }
     ensures err { IfErr result (IsUntaken image.now) }
 {
     let mut disk = load(alloc, image)?;
     match cut {
-        Shortened::Accepted => Ok(disk),
-        Shortened::Refused => match find_cut(&mut disk, None) {
+        Loss::Accepted => Ok(disk),
+        Loss::Refused => match find_cut(&mut disk, None) {
             Ok(Some(place)) => Err(CommandFault::Short(place)),
             Ok(None) => Ok(disk),
             Err(_) => Ok(disk),
@@ -43,11 +39,7 @@ pub(crate) fn taken_disk(
 }
 
 /// The same, if the disk is clean.
-pub(crate) fn clean_disk(
-    alloc: Global,
-    image: &[u8],
-    cut: Shortened,
-) -> Result<MemDisk, CommandFault>
+pub(crate) fn clean_disk(alloc: Global, image: &[u8], cut: Loss) -> Result<MemDisk, CommandFault>
     ensures ok { IfOk result (λ disk. IsCleanDisk image.now cut × (disk_image disk ≡ sectors_in image.now)) }
     ensures err { IfErr result (IsUnclean image.now) }
 {

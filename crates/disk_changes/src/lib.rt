@@ -6,15 +6,28 @@ mod changes;
 mod changing;
 mod deleting;
 mod judging;
+mod laws;
+mod lines;
 mod locking;
 mod making;
+mod mended;
 mod outcomes;
 mod putting;
 mod rebuilding;
 mod renaming;
 mod repairing;
+mod shop_files;
 mod storing;
 mod titling;
 
 pub use changes::{Change, Changed, Lock};
 pub use changing::change;
+pub use laws::{
+    columns_come_back, last_lines_count, printed_records_are_stored, records_come_back,
+    repairs_print_the_same, stored_again_is_quiet, stored_records_are_so,
+};
+pub use lines::column_lines::plain_lines;
+pub use lines::record_storing::store_image;
+pub use mended::mending::repair_image;
+pub use mended::rebuilding::rebuild_image;
+pub use shop_files::has_shop_file;

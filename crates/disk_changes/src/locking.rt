@@ -6,11 +6,11 @@ ghost use Rattle.disk_changes.specs.Locks.{IsLockRefusal, IsLockSet, locked_text
 use crate::changes::{Changed, Lock};
 use crate::judging::sound_disk;
 use crate::outcomes::changed;
+use crate::shop_files::has_shop_file;
 use command_faults::CommandFault;
 use d64_image::{MemDisk, Sectors};
 use disk_layout::Slot;
 use file_changes::{find_entry, overwrite};
-use keeper_commands::has_shop_file;
 use std::alloc::Global;
 
 /// The byte of a slot that has its type.

@@ -7,7 +7,7 @@ use crate::changes::Changed;
 use crate::judging::clean_disk;
 use crate::outcomes::changed;
 use command_faults::CommandFault;
-use damaged_files::Shortened;
+use damaged_files::Loss;
 use rel_records::create;
 use std::alloc::Global;
 
@@ -17,7 +17,7 @@ pub(crate) fn made(
     image: &[u8],
     name: &[u8],
     size: u8,
-    cut: Shortened,
+    cut: Loss,
 ) -> Result<Changed, CommandFault>
     requires name { length name.now ≤ 16 }
     requires size { IsLength size }

@@ -6,7 +6,7 @@ use crate::changes::Changed;
 use crate::judging::clean_disk;
 use crate::outcomes::changed;
 use command_faults::CommandFault;
-use damaged_files::Shortened;
+use damaged_files::Loss;
 use file_changes::{FileType, put_file};
 use std::alloc::Global;
 
@@ -22,7 +22,7 @@ pub(crate) fn put(
     ensures ok { IfOk result (IsPut image.now name.now kind content.now) }
     ensures err { IfErr result (IsPutRefusal image.now name.now kind content.now) }
 {
-    let mut disk = clean_disk(alloc, image, Shortened::Refused)?;
+    let mut disk = clean_disk(alloc, image, Loss::Refused)?;
     put_file(&mut disk, name, kind, content)?;
     changed(alloc, disk, b"PUT\n")
 }

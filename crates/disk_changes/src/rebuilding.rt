@@ -4,19 +4,19 @@ ghost use Rattle.disk_changes.specs.Rebuilds.{IsBuilt, IsRebuildRefusal, IsRebui
 ghost use Rattle.command_faults.specs.declared.faults.CommandFault.TheVariants.{NoMemory};
 
 use crate::changes::Changed;
+use crate::mended::rebuilding::rebuild_image;
 use crate::outcomes::in_memory;
 use crate::repairing::repaired;
 use command_faults::{CommandFault, load};
 use d64_image::MemDisk;
-use damaged_files::Shortened;
-use keeper_commands::rebuild_image;
+use damaged_files::Loss;
 use std::alloc::Global;
 
 /// The disk of an image with its side sectors built anew, and a line for each that changed, which goes to `text`.
 fn built(
     alloc: Global,
     image: &[u8],
-    cut: Shortened,
+    cut: Loss,
     text: &mut Vec<u8>,
 ) -> Result<MemDisk, CommandFault>
     ensures ok { IfOk result (IsBuilt image.now text.old.items text.new.items) }
@@ -50,7 +50,7 @@ pub(crate) fn rebuilt(
     alloc: Global,
     image: &[u8],
     free: bool,
-    cut: Shortened,
+    cut: Loss,
 ) -> Result<Changed, CommandFault>
     ensures ok { IfOk result (IsRebuilt image.now free cut) }
     ensures err { IfErr result (IsRebuildRefusal image.now) }

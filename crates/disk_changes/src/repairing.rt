@@ -4,10 +4,10 @@ ghost use Rattle.disk_changes.specs.Repairs.{IsRepaired, IsRepairRefusal};
 
 use crate::changes::Changed;
 use crate::judging::taken_disk;
+use crate::mended::mending::repair_image;
 use crate::outcomes::in_memory;
 use command_faults::CommandFault;
-use damaged_files::Shortened;
-use keeper_commands::repair_image;
+use damaged_files::Loss;
 use std::alloc::Global;
 
 /// The image with its disk repaired, and a line for each sector that was mended or freed.
@@ -15,7 +15,7 @@ pub(crate) fn repaired(
     alloc: Global,
     image: &[u8],
     free: bool,
-    cut: Shortened,
+    cut: Loss,
 ) -> Result<Changed, CommandFault>
     ensures ok { IfOk result (IsRepaired image.now free cut) }
     ensures err { IfErr result (IsRepairRefusal image.now) }

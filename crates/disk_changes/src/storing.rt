@@ -4,10 +4,10 @@ ghost use Rattle.disk_changes.specs.Stores.{IsStoreRefusal, IsStored};
 
 use crate::changes::Changed;
 use crate::judging::taken_disk;
+use crate::lines::record_storing::store_image;
 use crate::outcomes::in_memory;
 use command_faults::CommandFault;
-use damaged_files::Shortened;
-use keeper_commands::store_image;
+use damaged_files::Loss;
 use std::alloc::Global;
 
 /// The image with the records of the text's lines stored in the first closed relative file of this name, and the lines of
@@ -17,7 +17,7 @@ pub(crate) fn stored(
     image: &[u8],
     name: &[u8],
     text: &[u8],
-    cut: Shortened,
+    cut: Loss,
 ) -> Result<Changed, CommandFault>
     ensures ok { IfOk result (IsStored image.now name.now text.now cut) }
     ensures err { IfErr result (IsStoreRefusal image.now name.now text.now cut) }

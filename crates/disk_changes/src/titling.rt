@@ -14,7 +14,7 @@ use file_changes::overwrite;
 use std::alloc::Global;
 
 /// Writes the name and the ID over those in 18/0.
-fn put_title(disk: &mut MemDisk, name: &[u8], id: [u8; 2])
+fn set_title(disk: &mut MemDisk, name: &[u8], id: [u8; 2])
     requires { length name.now ≤ 16 }
     ensures { disk_image disk.new ≡ retitled (disk_image disk.old) name.now id }
 {
@@ -36,6 +36,6 @@ pub(crate) fn titled(
     ensures err { IfErr result (IsUnsoundOrShort image.now) }
 {
     let mut disk = sound_disk(alloc, image)?;
-    put_title(&mut disk, name, id);
+    set_title(&mut disk, name, id);
     changed(alloc, disk, b"TITLED\n")
 }

@@ -54,7 +54,7 @@ pub fn relative_entry(
 
 /// Writes the block count of the slot with this number, from 0 to 7, into the bytes of its directory sector. All other
 /// bytes stay. If that is the count already, all bytes stay.
-pub fn put_count(bytes: &mut [u8; 256], number: u8, count: u16)
+pub fn set_count(bytes: &mut [u8; 256], number: u8, count: u16)
     requires { number < 8 }
     ensures count { (p : Place) → count_field (slot_in p bytes.new number) ≡ count }
     ensures rest { IsRecounted bytes.old bytes.new number }

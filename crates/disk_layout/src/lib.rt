@@ -27,7 +27,7 @@ pub use directory::{
     DIRECTORY_SECTORS, DIRECTORY_TRACK, add_used, directory_start, map_place,
     next_directory_sector, read_directory,
 };
-pub use entries::{padded_name, put_count, relative_entry};
+pub use entries::{padded_name, relative_entry, set_count};
 pub use faults::Fault;
 pub use filling::{DATA, fill};
 pub use shop_files::{REQUESTS_LENGTH, REQUESTS_NAME, STOCK_LENGTH, STOCK_NAME};

@@ -45,7 +45,7 @@ fn link(number: u8, sides: &[Place], used: usize) -> (u8, u8)
 }
 
 /// Writes the places into the bytes from `at` on: track and sector of each.
-fn put_places(bytes: &mut [u8; 256], at: usize, places: &[Place])
+fn set_places(bytes: &mut [u8; 256], at: usize, places: &[Place])
     requires room { at + 2 * length places.now ≤ 256 }
     ensures { bytes.new
         ≡ take at bytes.old ++ (flat_map place_bytes places.now ++ drop (at + 2 * length places.now) bytes.old) }
@@ -72,8 +72,8 @@ pub fn side_bytes(number: u8, blocks: &[Place], sides: &[Place], length: u8) -> 
     bytes[1] = sector;
     bytes[2] = number;
     bytes[3] = length;
-    put_places(&mut bytes, LIST_AT, &sides[..sides.len().min(MOST_SIDES)]);
-    put_places(&mut bytes, POINTERS_AT, pointers);
+    set_places(&mut bytes, LIST_AT, &sides[..sides.len().min(MOST_SIDES)]);
+    set_places(&mut bytes, POINTERS_AT, pointers);
     bytes
 }
 

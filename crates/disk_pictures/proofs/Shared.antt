@@ -12,7 +12,7 @@ use Rattle.disk_pictures.specs.Sentences.{entry_owners, own_if, owners_among}
 use Rattle.disk_pictures.specs.Sharing.{IsTwoOf}
 use Rattle.disk_pictures.specs.declared.drawn_file.DrawnFile.{DrawnFile}
 use Rattle.disk_pictures.specs.declared.owners.Owner.{Owner}
-use Rattle.disk_pictures.specs.declared.sharing.Two.{Two}
+use Rattle.disk_pictures.specs.declared.pages.sharing.Two.{Two}
 
 -- a place is one of these exactly if it is found there
 pub found-has : (found : Bool) (ps : List Place) (p : Place) → (IsTrue found ↔ Contains ps p) → found ≡ has ps p

@@ -7,7 +7,7 @@ use Rattle.disk_pictures.specs.ComparedPages.{comparison_page}
 use Rattle.disk_pictures.specs.Comparisons.{Disk}
 use Rattle.disk_pictures.specs.Held.{drawn_in}
 use Rattle.disk_pictures.specs.Outcomes.{IsDrawnAndJudged, IsPictureFault, map_in}
-use Rattle.disk_pictures.specs.declared.compared.Compared.{Compared}
+use Rattle.disk_pictures.specs.declared.comparison.compared.Compared.{Compared}
 use Rattle.command_faults.specs.declared.faults.CommandFault.{CommandFault}
 
 -- the disk is that of an image: with its sectors, what is drawn of it and what a check of it reports

@@ -1,7 +1,7 @@
 -- Which shades the tracks of a small drawing have, as the code holds them. Our own.
 use Rattle.std.specs.Prelude.{◌≡◌, ◌+◌, ◌*◌, ℕ, Bool, false, true, slice_index_or}
 use Rattle.d64_image.specs.declared.place.Place.{Place}
-use Rattle.disk_pictures.specs.declared.shades.Shades.{Shades}
+use Rattle.disk_pictures.specs.declared.sheets.shades.Shades.{Shades}
 
 -- the table has this shade for the track with so many tracks before it
 abbrev pub has_shade : Shades → (below shade : ℕ) → Bool

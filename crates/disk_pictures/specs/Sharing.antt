@@ -1,7 +1,7 @@
 -- The first owners of a sector, as the code holds them. Our own.
 use Rattle.std.specs.Prelude.{◌≡◌, List, slice_get}
 use Rattle.disk_pictures.specs.declared.owners.Owner.{Owner}
-use Rattle.disk_pictures.specs.declared.sharing.Two.{Two}
+use Rattle.disk_pictures.specs.declared.pages.sharing.Two.{Two}
 
 -- these are the first two of the owners
 abbrev pub IsTwoOf : Two → List Owner → Type 0

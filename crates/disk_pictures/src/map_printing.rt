@@ -12,14 +12,14 @@ ghost use Rattle.command_faults.specs.declared.faults.CommandFault.TheVariants a
 
 use crate::drawing::Drawing;
 use crate::drawn_file::DrawnFile;
-use crate::map_tracks::put_either_tracks;
+use crate::map_tracks::print_either_tracks;
 use crate::signs::EntryMark;
 use crate::texts::VerdictText;
 use crate::verdicts::judged;
-use command_faults::{CommandFault, flush, put_text};
+use command_faults::{CommandFault, flush, print_text};
 use disk_layout::{EntryView, Fault};
-use disk_rescue::{TypeText, entry_name};
 use line_text::Text;
+use reached_disk::{TypeText, entry_name};
 use std::alloc::Global;
 use std::fmt::{self, Display, Formatter};
 use std::io::Write;
@@ -84,19 +84,19 @@ impl Display for EntryLine<'_> {
 }
 
 /// Prints the lines of the entries.
-fn put_entries<W: Write>(out: &mut W, wide: bool, files: &[DrawnFile]) -> Result<(), CommandFault>
+fn print_entries<W: Write>(out: &mut W, wide: bool, files: &[DrawnFile]) -> Result<(), CommandFault>
     ensures ok { OnOk result (Appends (W.contents out.old) (W.contents out.new)
         (numbered (entry_line wide) 0 (map file_in files.now))) }
     ensures err { IfErr result (λ fault. fault ≡ faults.File) }
 {
     for (number, file) in files.iter().enumerate() {
-        put_text(out, EntryLine { wide, number, file })?;
+        print_text(out, EntryLine { wide, number, file })?;
     }
     Ok(())
 }
 
 /// Prints the map.
-fn put_map<W: Write>(
+fn print_map<W: Write>(
     out: &mut W,
     found: Option<Fault>,
     drawing: &Drawing,
@@ -106,10 +106,10 @@ fn put_map<W: Write>(
     ensures err { IfErr result (λ fault. fault ≡ faults.File) }
 {
     let wide = is_wide(drawing);
-    put_either_tracks(out, wide, found, drawing)?;
-    put_entries(out, wide, drawing.files.as_slice())?;
-    put_text(out, VerdictText(found))?;
-    put_text(out, "\n")?;
+    print_either_tracks(out, wide, found, drawing)?;
+    print_entries(out, wide, drawing.files.as_slice())?;
+    print_text(out, VerdictText(found))?;
+    print_text(out, "\n")?;
     flush(out)
 }
 
@@ -136,6 +136,6 @@ pub fn map_image<W: Write>(
     ensures untouched { IfErr result (λ fault. (fault ≢ faults.File) → out.new ≡ out.old) }
 {
     let (drawing, found) = judged(alloc, image)?;
-    put_map(out, found, &drawing)?;
+    print_map(out, found, &drawing)?;
     Ok(found)
 }

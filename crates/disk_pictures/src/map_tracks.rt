@@ -8,7 +8,7 @@ ghost use Rattle.command_faults.specs.declared.faults.CommandFault.TheVariants a
 
 use crate::drawing::Drawing;
 use crate::signs::{Cell, sign};
-use command_faults::{CommandFault, put_text};
+use command_faults::{CommandFault, print_text};
 use d64_image::{Place, TRACK_SECTORS, TRACKS};
 use disk_layout::Fault;
 use std::fmt::{self, Display, Formatter};
@@ -21,7 +21,7 @@ const HEAD: &str = "   0         1         2\n   012345678901234567890\n";
 const WIDE_HEAD: &str = "   00 01 02 03 04 05 06 07 08 09 10 11 12 13 14 15 16 17 18 19 20\n";
 
 /// Prints the line of a track, with the marks of the sectors that it has.
-fn put_track<W: Write>(
+fn print_track<W: Write>(
     out: &mut W,
     found: Option<Fault>,
     drawing: &Drawing,
@@ -31,17 +31,17 @@ fn put_track<W: Write>(
         (track_line found drawing.now.map (drawn_in drawing.now) track)) }
     ensures err { IfErr result (λ fault. fault ≡ faults.File) }
 {
-    put_text(out, TrackText(track))?;
+    print_text(out, TrackText(track))?;
     for sector in 0..TRACK_SECTORS {
         if let Some(place) = Place::new(track, sector) {
-            put_text(out, sign(found, drawing, place))?;
+            print_text(out, sign(found, drawing, place))?;
         }
     }
-    put_text(out, "\n")
+    print_text(out, "\n")
 }
 
 /// Prints the head and the lines of the tracks, with a character for each sector.
-fn put_tracks<W: Write>(
+fn print_tracks<W: Write>(
     out: &mut W,
     found: Option<Fault>,
     drawing: &Drawing,
@@ -50,15 +50,15 @@ fn put_tracks<W: Write>(
         (narrow_tracks found drawing.now.map (drawn_in drawing.now))) }
     ensures err { IfErr result (λ fault. fault ≡ faults.File) }
 {
-    put_text(out, HEAD)?;
+    print_text(out, HEAD)?;
     for below in 0..TRACKS {
-        put_track(out, found, drawing, below + 1)?;
+        print_track(out, found, drawing, below + 1)?;
     }
     Ok(())
 }
 
 /// Prints the line of a track, with two characters for each of the sectors that it has.
-fn put_wide_track<W: Write>(
+fn print_wide_track<W: Write>(
     out: &mut W,
     found: Option<Fault>,
     drawing: &Drawing,
@@ -68,10 +68,10 @@ fn put_wide_track<W: Write>(
         (wide_line found drawing.now.map (drawn_in drawing.now) track)) }
     ensures err { IfErr result (λ fault. fault ≡ faults.File) }
 {
-    put_text(out, TrackNumber(track))?;
+    print_text(out, TrackNumber(track))?;
     for sector in 0..TRACK_SECTORS {
         if let Some(place) = Place::new(track, sector) {
-            put_text(
+            print_text(
                 out,
                 Cell {
                     found,
@@ -81,11 +81,11 @@ fn put_wide_track<W: Write>(
             )?;
         }
     }
-    put_text(out, "\n")
+    print_text(out, "\n")
 }
 
 /// Prints the head and the lines of the tracks, with two characters for each sector.
-fn put_wide_tracks<W: Write>(
+fn print_wide_tracks<W: Write>(
     out: &mut W,
     found: Option<Fault>,
     drawing: &Drawing,
@@ -94,9 +94,9 @@ fn put_wide_tracks<W: Write>(
         (wide_tracks found drawing.now.map (drawn_in drawing.now))) }
     ensures err { IfErr result (λ fault. fault ≡ faults.File) }
 {
-    put_text(out, WIDE_HEAD)?;
+    print_text(out, WIDE_HEAD)?;
     for below in 0..TRACKS {
-        put_wide_track(out, found, drawing, below + 1)?;
+        print_wide_track(out, found, drawing, below + 1)?;
     }
     Ok(())
 }
@@ -128,7 +128,7 @@ impl Display for TrackText {
 }
 
 /// Prints the head and the lines of the tracks, with one or two characters for each sector.
-pub(crate) fn put_either_tracks<W: Write>(
+pub(crate) fn print_either_tracks<W: Write>(
     out: &mut W,
     wide: bool,
     found: Option<Fault>,
@@ -139,8 +139,8 @@ pub(crate) fn put_either_tracks<W: Write>(
     ensures err { IfErr result (λ fault. fault ≡ faults.File) }
 {
     if wide {
-        put_wide_tracks(out, found, drawing)
+        print_wide_tracks(out, found, drawing)
     } else {
-        put_tracks(out, found, drawing)
+        print_tracks(out, found, drawing)
     }
 }

@@ -10,7 +10,7 @@ use Rattle.disk_layout.specs.View.{blocks_free}
 use Rattle.disk_layout.specs.declared.faults.Fault.{Fault}
 use Rattle.disk_layout.specs.declared.slot.Slot.{Slot}
 use Rattle.disk_reports.specs.Json.{json_string}
-use Rattle.disk_rescue.specs.Names.{disk_name, name_of}
+use Rattle.reached_disk.specs.Names.{disk_name, name_of}
 
 -- bytes of the disk as a string: the text that can be typed for them
 abbrev pub typed : List ℕ → List ℕ

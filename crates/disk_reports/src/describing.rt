@@ -6,7 +6,7 @@ ghost use Rattle.disk_reports.specs.Outcomes.{IsDescribeFault, IsDescribed};
 ghost use Rattle.command_faults.specs.declared.faults.CommandFault.TheVariants as faults;
 
 use crate::concerned::list_files;
-use crate::objects::{put_object, put_refused};
+use crate::objects::{print_object, print_refused};
 use arrayvec::ArrayVec;
 use command_faults::{CommandFault, load};
 use damaged_files::find_shortfall;
@@ -38,7 +38,7 @@ pub fn describe_image<W: Write>(
     list_files(&mut disk, found, &mut files);
     let lack = find_shortfall(&mut disk);
     let map = disk.sector(map_place());
-    match put_object(out, name, found, files.as_slice(), map, lack) {
+    match print_object(out, name, found, files.as_slice(), map, lack) {
         Ok(()) => Ok(found),
         Err(_) => Err(CommandFault::File),
     }
@@ -56,7 +56,7 @@ pub fn describe_refusal<W: Write>(
     ensures ok { OnOk result (Appends (W.contents out.old) (W.contents out.new) (refused_text name.now size why.now)) }
     ensures err { IfErr result (λ fault. fault ≡ faults.File) }
 {
-    match put_refused(out, name, size, why) {
+    match print_refused(out, name, size, why) {
         Ok(()) => Ok(()),
         Err(_) => Err(CommandFault::File),
     }

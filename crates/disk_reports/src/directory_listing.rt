@@ -7,26 +7,26 @@ ghost use Rattle.command_faults.specs.declared.faults.CommandFault.TheVariants a
 
 use crate::texts::{DiskText, EntryText, FreeText, NameForm};
 use arrayvec::ArrayVec;
-use command_faults::{CommandFault, flush, load, put_line};
+use command_faults::{CommandFault, flush, load, print_line};
 use disk_layout::{BamView, Slot, map_place, read_directory};
 use std::alloc::Global;
 use std::io::Write;
 
 /// Prints a line for each of these entries.
-fn put_entries<W: Write>(out: &mut W, form: NameForm, slots: &[Slot]) -> Result<(), CommandFault>
+fn print_entries<W: Write>(out: &mut W, form: NameForm, slots: &[Slot]) -> Result<(), CommandFault>
     ensures ok { OnOk result
         (Appends (W.contents out.old) (W.contents out.new) (flat_map (entry_line form) slots.now)) }
     ensures err { IfErr result (λ fault. fault ≡ faults.File) }
 {
     for slot in slots {
-        put_line(out, EntryText { form, slot })?;
+        print_line(out, EntryText { form, slot })?;
     }
     Ok(())
 }
 
 /// Prints the disk's name, id and version, a line for each entry, and the free blocks as the map
 /// counts them.
-fn put_directory<W: Write>(
+fn print_directory<W: Write>(
     out: &mut W,
     form: NameForm,
     map: &BamView<'_>,
@@ -36,9 +36,9 @@ fn put_directory<W: Write>(
         (Appends (W.contents out.old) (W.contents out.new) (listing form map.now.bytes.now slots.now)) }
     ensures err { IfErr result (λ fault. fault ≡ faults.File) }
 {
-    put_line(out, DiskText { form, map: *map })?;
-    put_entries(out, form, slots)?;
-    put_line(out, FreeText(map.blocks_free()))?;
+    print_line(out, DiskText { form, map: *map })?;
+    print_entries(out, form, slots)?;
+    print_line(out, FreeText(map.blocks_free()))?;
     flush(out)
 }
 
@@ -65,5 +65,5 @@ pub fn list_image<W: Write>(
         return Err(CommandFault::Layout(fault));
     }
     let map = BamView::new(disk.sector(map_place()));
-    put_directory(out, form, &map, slots.as_slice())
+    print_directory(out, form, &map, slots.as_slice())
 }

@@ -22,7 +22,7 @@ fn digit(number: u8) -> u8
 }
 
 /// Writes a byte of a string, with an escape if it needs one.
-fn put_char<W: Write>(out: &mut W, byte: u8) -> io::Result<()>
+fn print_char<W: Write>(out: &mut W, byte: u8) -> io::Result<()>
     ensures { OnOk result (Appends (W.contents out.old) (W.contents out.new) (json_char byte)) }
 {
     if byte == b'"' || byte == b'\\' {
@@ -36,11 +36,11 @@ fn put_char<W: Write>(out: &mut W, byte: u8) -> io::Result<()>
 }
 
 /// Writes the bytes of a string.
-fn put_chars<W: Write>(out: &mut W, bytes: &[u8]) -> io::Result<()>
+fn print_chars<W: Write>(out: &mut W, bytes: &[u8]) -> io::Result<()>
     ensures { OnOk result (Appends (W.contents out.old) (W.contents out.new) (flat_map json_char bytes.now)) }
 {
     for &byte in bytes {
-        put_char(out, byte)?;
+        print_char(out, byte)?;
     }
     Ok(())
 }
@@ -48,20 +48,20 @@ fn put_chars<W: Write>(out: &mut W, bytes: &[u8]) -> io::Result<()>
 /// Writes these bytes as a string of JSON (RFC 8259): between quotation marks, with escapes for the quotation mark, the
 /// backslash, 7F and the bytes below 20. The bytes of a text in UTF-8 give JSON's text in UTF-8. An error is the
 /// writer's, which may then have a part.
-pub(crate) fn put_string<W: Write>(out: &mut W, bytes: &[u8]) -> io::Result<()>
+pub(crate) fn print_string<W: Write>(out: &mut W, bytes: &[u8]) -> io::Result<()>
     ensures { OnOk result (Appends (W.contents out.old) (W.contents out.new) (json_string bytes.now)) }
 {
     out.write_all(b"\"")?;
-    put_chars(out, bytes)?;
+    print_chars(out, bytes)?;
     out.write_all(b"\"")
 }
 
 /// Writes as a string the text that can be typed for a name on the disk.
-pub(crate) fn put_typed<W: Write>(out: &mut W, name: &[u8]) -> io::Result<()>
+pub(crate) fn print_typed<W: Write>(out: &mut W, name: &[u8]) -> io::Result<()>
     ensures { OnOk result (Appends (W.contents out.old) (W.contents out.new) (typed name.now)) }
 {
     // sixteen bytes of three characters each
     let mut text = ArrayVec::<u8, 48>::new();
     write_text(&mut text, name)?;
-    put_string(out, text.as_slice())
+    print_string(out, text.as_slice())
 }

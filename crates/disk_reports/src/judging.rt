@@ -9,7 +9,7 @@ ghost use Rattle.disk_reports.specs.Outcomes.{IsCheckedAmong, cut_line};
 ghost use Rattle.disk_reports.specs.Texts.{verdict_text};
 ghost use Rattle.command_faults.specs.declared.faults.CommandFault.TheVariants as faults;
 
-use command_faults::{CommandFault, flush, load, put_line};
+use command_faults::{CommandFault, flush, load, print_line};
 use d64_image::Place;
 use damaged_files::{Shortfall, sound_cut};
 use disk_layout::Fault;
@@ -18,14 +18,14 @@ use std::alloc::Global;
 use std::io::Write;
 
 /// Prints what a check found on a line of its own.
-fn put_verdict<W: Write>(out: &mut W, found: Option<Fault>) -> Result<(), CommandFault>
+fn print_verdict<W: Write>(out: &mut W, found: Option<Fault>) -> Result<(), CommandFault>
     ensures ok { OnOk result
         (Appends (W.contents out.old) (W.contents out.new) (verdict_text found)) }
     ensures err { IfErr result (λ fault. fault ≡ faults.File) }
 {
     match found {
-        None => put_line(out, "OK")?,
-        Some(fault) => put_line(out, fault)?,
+        None => print_line(out, "OK")?,
+        Some(fault) => print_line(out, fault)?,
     }
     flush(out)
 }
@@ -50,17 +50,17 @@ pub fn check_image<W: Write>(
 {
     let mut disk = load(alloc, image)?;
     let found = verdict(&mut disk);
-    put_verdict(out, found)?;
+    print_verdict(out, found)?;
     Ok(found)
 }
 
 /// Prints where a file is cut short, if one is.
-fn put_cut<W: Write>(out: &mut W, cut: Option<Place>) -> Result<(), CommandFault>
+fn print_cut<W: Write>(out: &mut W, cut: Option<Place>) -> Result<(), CommandFault>
     ensures ok { OnOk result (Appends (W.contents out.old) (W.contents out.new) (cut_line cut)) }
     ensures err { IfErr result (λ fault. fault ≡ faults.File) }
 {
     match cut {
-        Some(place) => put_line(out, Shortfall::Short(place)),
+        Some(place) => print_line(out, Shortfall::Short(place)),
         None => Ok(()),
     }
 }
@@ -79,7 +79,7 @@ pub fn check_among<W: Write>(
     let mut disk = load(alloc, image)?;
     let fault = verdict(&mut disk);
     let cut = sound_cut(&mut disk, None);
-    put_verdict(out, fault)?;
-    put_cut(out, cut)?;
+    print_verdict(out, fault)?;
+    print_cut(out, cut)?;
     Ok(fault)
 }

@@ -9,8 +9,8 @@ use crate::showing::shows;
 use crate::trail::Trail;
 use arrayvec::ArrayVec;
 use disk_layout::{Fault, Slot};
-use disk_rescue::entry_name;
 use line_text::write_text;
+use reached_disk::entry_name;
 use std::io::{self, Write};
 
 /// Lists the entries that show the fault, or have the sector at which it is.
@@ -27,7 +27,7 @@ fn keep_shown(trails: &[Trail], fault: Fault, files: &mut Slots)
 }
 
 /// Writes a space and the name of an entry between quotation marks.
-pub(crate) fn put_name<W: Write>(out: &mut W, slot: &Slot) -> io::Result<()>
+pub(crate) fn print_name<W: Write>(out: &mut W, slot: &Slot) -> io::Result<()>
     ensures { OnOk result (Appends (W.contents out.old) (W.contents out.new) (spaced_name slot.now)) }
 {
     out.write_all(b" \"")?;
@@ -36,41 +36,41 @@ pub(crate) fn put_name<W: Write>(out: &mut W, slot: &Slot) -> io::Result<()>
 }
 
 /// Writes the names of entries.
-fn put_names<W: Write>(out: &mut W, slots: &[Slot]) -> io::Result<()>
+fn print_names<W: Write>(out: &mut W, slots: &[Slot]) -> io::Result<()>
     ensures { OnOk result (Appends (W.contents out.old) (W.contents out.new) (flat_map spaced_name slots.now)) }
 {
     for slot in slots {
-        put_name(out, slot)?;
+        print_name(out, slot)?;
     }
     Ok(())
 }
 
 /// Writes the line of a fault that concerns these files.
-fn put_fault<W: Write>(out: &mut W, fault: Fault, files: &[Slot]) -> io::Result<()>
+fn print_fault<W: Write>(out: &mut W, fault: Fault, files: &[Slot]) -> io::Result<()>
     ensures { OnOk result (Appends (W.contents out.old) (W.contents out.new) (fault_line fault files.now)) }
 {
     write!(out, "{fault}")?;
-    put_names(out, files)?;
+    print_names(out, files)?;
     out.write_all(b"\n")
 }
 
 /// Writes the line of a fault.
-fn put_line<W: Write>(out: &mut W, links: &Links, fault: Fault) -> io::Result<()>
+fn print_line<W: Write>(out: &mut W, links: &Links, fault: Fault) -> io::Result<()>
     requires { length links.now.trails.items ≤ 144 }
     ensures { OnOk result (IsLine links.now fault (W.contents out.old) (W.contents out.new)) }
 {
     let mut files = ArrayVec::new();
     keep_shown(links.trails.as_slice(), fault, &mut files);
-    put_fault(out, fault, files.as_slice())
+    print_fault(out, fault, files.as_slice())
 }
 
 /// Writes the lines of faults.
-pub(crate) fn put_lines<W: Write>(out: &mut W, links: &Links, faults: &[Fault]) -> io::Result<()>
+pub(crate) fn print_lines<W: Write>(out: &mut W, links: &Links, faults: &[Fault]) -> io::Result<()>
     requires { length links.now.trails.items ≤ 144 }
     ensures { OnOk result (ArePrinted links.now faults.now (W.contents out.old) (W.contents out.new)) }
 {
     for &fault in faults {
-        put_line(out, links, fault)?;
+        print_line(out, links, fault)?;
     }
     Ok(())
 }

@@ -10,8 +10,8 @@ use arrayvec::ArrayVec;
 use command_faults::CommandFault;
 use d64_image::MemDisk;
 use disk_layout::{Fault, Slot, map_place};
-use disk_rescue::{DirectorySectors, read_so_far};
 use layout_check::unsoundness;
+use reached_disk::{DirectorySectors, read_so_far};
 use std::alloc::Global;
 
 /// What the links of a disk come to.

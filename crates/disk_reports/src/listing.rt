@@ -7,9 +7,9 @@ ghost use Rattle.disk_reports.specs.Outcomes.{IsDescribeFault};
 ghost use Rattle.command_faults.specs.declared.faults.CommandFault.TheVariants as faults;
 
 use crate::gathering::find_others;
-use crate::lines::put_lines;
+use crate::lines::print_lines;
 use crate::links::{Links, follow_all};
-use command_faults::{CommandFault, load, put_line};
+use command_faults::{CommandFault, load, print_line};
 use d64_image::MemDisk;
 use damaged_files::{Shortfall, find_shortfall};
 use disk_layout::Fault;
@@ -18,16 +18,16 @@ use std::alloc::Global;
 use std::io::{self, Write};
 
 /// Writes the lines of the first fault and of the others.
-fn put_all<W: Write>(out: &mut W, links: &Links, first: Fault, others: &[Fault]) -> io::Result<()>
+fn print_all<W: Write>(out: &mut W, links: &Links, first: Fault, others: &[Fault]) -> io::Result<()>
     requires { length links.now.trails.items ≤ 144 }
     ensures { OnOk result (ArePrinted links.now (first ∷ others.now) (W.contents out.old) (W.contents out.new)) }
 {
-    put_lines(out, links, &[first])?;
-    put_lines(out, links, others)
+    print_lines(out, links, &[first])?;
+    print_lines(out, links, others)
 }
 
 /// Prints that there is no fault.
-fn put_none<W: Write>(out: &mut W) -> Result<(), CommandFault>
+fn print_none<W: Write>(out: &mut W) -> Result<(), CommandFault>
     ensures ok { OnOk result (Appends (W.contents out.old) (W.contents out.new) (codes "OK\n")) }
     ensures err { IfErr result (λ fault. fault ≡ faults.File) }
 {
@@ -38,7 +38,7 @@ fn put_none<W: Write>(out: &mut W) -> Result<(), CommandFault>
 }
 
 /// Prints the first fault of a disk, and all others that hold. `NoMemory` or `File`.
-fn put_faults<W: Write>(
+fn print_faults<W: Write>(
     alloc: Global,
     disk: &mut MemDisk,
     first: Fault,
@@ -49,14 +49,14 @@ fn put_faults<W: Write>(
 {
     let links = follow_all(alloc, disk)?;
     let others = find_others(alloc, &links, first)?;
-    match put_all(out, &links, first, others.as_slice()) {
+    match print_all(out, &links, first, others.as_slice()) {
         Ok(()) => Ok(()),
         Err(_) => Err(CommandFault::File),
     }
 }
 
 /// Prints what a check of a disk finds, and all other faults that hold. `NoMemory` or `File`.
-fn put_found<W: Write>(
+fn print_found<W: Write>(
     alloc: Global,
     disk: &mut MemDisk,
     found: Option<Fault>,
@@ -66,18 +66,18 @@ fn put_found<W: Write>(
     ensures err { IfErr result (λ fault. (fault ≡ faults.File) ⊎ ((fault ≡ faults.NoMemory) × (out.new ≡ out.old))) }
 {
     match found {
-        Some(first) => put_faults(alloc, disk, first, out),
-        None => put_none(out),
+        Some(first) => print_faults(alloc, disk, first, out),
+        None => print_none(out),
     }
 }
 
 /// Prints what a file lacks, if one lacks something.
-fn put_shortfall<W: Write>(out: &mut W, lack: Option<Shortfall>) -> Result<(), CommandFault>
+fn print_shortfall<W: Write>(out: &mut W, lack: Option<Shortfall>) -> Result<(), CommandFault>
     ensures ok { OnOk result (Appends (W.contents out.old) (W.contents out.new) (shortfall_line lack)) }
     ensures err { IfErr result (λ fault. fault ≡ faults.File) }
 {
     match lack {
-        Some(lack) => put_line(out, lack),
+        Some(lack) => print_line(out, lack),
         None => Ok(()),
     }
 }
@@ -105,7 +105,7 @@ pub fn list_faults<W: Write>(
     let mut disk = load(alloc, image)?;
     let found = verdict(&mut disk);
     let lack = find_shortfall(&mut disk);
-    put_found(alloc, &mut disk, found, out)?;
-    put_shortfall(out, lack)?;
+    print_found(alloc, &mut disk, found, out)?;
+    print_shortfall(out, lack)?;
     Ok(found)
 }

@@ -5,11 +5,11 @@ ghost use Rattle.disk_reports.specs.NearNames.{AreNearPrinted, near_name, shown_
 ghost use Rattle.disk_reports.specs.Outcomes.{IsDescribeFault};
 ghost use Rattle.command_faults.specs.declared.faults.CommandFault.TheVariants as faults;
 
-use crate::lines::put_name;
+use crate::lines::print_name;
 use arrayvec::ArrayVec;
 use command_faults::{CommandFault, load};
 use disk_layout::Slot;
-use disk_rescue::{near_entries, read_so_far, type_name};
+use reached_disk::{near_entries, read_so_far, type_name};
 use std::alloc::Global;
 use std::io::{self, Write};
 
@@ -17,7 +17,7 @@ use std::io::{self, Write};
 const MOST_NAMES: usize = 3;
 
 /// Writes a type as a directory shows it.
-fn put_type<W: Write>(out: &mut W, type_byte: u8) -> io::Result<()>
+fn print_type<W: Write>(out: &mut W, type_byte: u8) -> io::Result<()>
     ensures { OnOk result (Appends (W.contents out.old) (W.contents out.new) (shown_type type_byte)) }
 {
     let mark = if type_byte < 128 { "*" } else { "" };
@@ -25,20 +25,20 @@ fn put_type<W: Write>(out: &mut W, type_byte: u8) -> io::Result<()>
 }
 
 /// Writes a space, and the name and the type of an entry.
-fn put_near<W: Write>(out: &mut W, slot: &Slot) -> io::Result<()>
+fn print_near<W: Write>(out: &mut W, slot: &Slot) -> io::Result<()>
     ensures { OnOk result (Appends (W.contents out.old) (W.contents out.new) (near_name slot.now)) }
 {
-    put_name(out, slot)?;
+    print_name(out, slot)?;
     out.write_all(b" ")?;
-    put_type(out, slot.bytes[2])
+    print_type(out, slot.bytes[2])
 }
 
 /// Writes the names and the types of entries.
-fn put_all_near<W: Write>(out: &mut W, slots: &[Slot]) -> io::Result<()>
+fn print_all_near<W: Write>(out: &mut W, slots: &[Slot]) -> io::Result<()>
     ensures { OnOk result (Appends (W.contents out.old) (W.contents out.new) (flat_map near_name slots.now)) }
 {
     for slot in slots {
-        put_near(out, slot)?;
+        print_near(out, slot)?;
     }
     Ok(())
 }
@@ -72,7 +72,7 @@ pub fn print_near_names<W: Write>(
     let _ = read_so_far(&disk, &mut directory, &mut entries);
     let mut near = ArrayVec::new();
     near_entries(entries.as_slice(), name, &mut near);
-    match put_all_near(out, first_three(near.as_slice())) {
+    match print_all_near(out, first_three(near.as_slice())) {
         Ok(()) => Ok(()),
         Err(_) => Err(CommandFault::File),
     }

@@ -4,22 +4,22 @@ ghost use Rattle.std.specs.Io.KnownBytes.{Appends};
 ghost use Rattle.disk_reports.specs.Objects.{disk_name_text, disk_text, end_text, files_text, found_text, head_text, lack_text, names_text, next_name};
 ghost use Rattle.disk_reports.specs.Objects.{object_text, refused_head, refused_text, size_text, verdict_text};
 
-use crate::json::{put_string, put_typed};
+use crate::json::{print_string, print_typed};
 use damaged_files::Shortfall;
 use disk_layout::{BamView, Fault, Slot};
-use disk_rescue::{disk_name, entry_name};
+use reached_disk::{disk_name, entry_name};
 use std::io::{self, Write};
 
 /// Writes what an object begins with.
-fn put_head<W: Write>(out: &mut W, name: &[u8]) -> io::Result<()>
+fn print_head<W: Write>(out: &mut W, name: &[u8]) -> io::Result<()>
     ensures { OnOk result (Appends (W.contents out.old) (W.contents out.new) (head_text name.now)) }
 {
     out.write_all(b"{\"name\":")?;
-    put_string(out, name)
+    print_string(out, name)
 }
 
 /// Writes what a check finds.
-fn put_found<W: Write>(out: &mut W, found: Option<Fault>) -> io::Result<()>
+fn print_found<W: Write>(out: &mut W, found: Option<Fault>) -> io::Result<()>
     ensures { OnOk result (Appends (W.contents out.old) (W.contents out.new) (found_text found)) }
 {
     match found {
@@ -33,45 +33,45 @@ fn put_found<W: Write>(out: &mut W, found: Option<Fault>) -> io::Result<()>
 }
 
 /// Writes the name of one entry more.
-fn put_next<W: Write>(out: &mut W, slot: &Slot) -> io::Result<()>
+fn print_next<W: Write>(out: &mut W, slot: &Slot) -> io::Result<()>
     ensures { OnOk result (Appends (W.contents out.old) (W.contents out.new) (next_name slot.now)) }
 {
     out.write_all(b",")?;
-    put_typed(out, entry_name(slot))
+    print_typed(out, entry_name(slot))
 }
 
 /// Writes the names of more entries.
-fn put_more<W: Write>(out: &mut W, slots: &[Slot]) -> io::Result<()>
+fn print_more<W: Write>(out: &mut W, slots: &[Slot]) -> io::Result<()>
     ensures { OnOk result (Appends (W.contents out.old) (W.contents out.new) (flat_map next_name slots.now)) }
 {
     for slot in slots {
-        put_next(out, slot)?;
+        print_next(out, slot)?;
     }
     Ok(())
 }
 
 /// Writes the names of entries, with commas between them.
-fn put_names<W: Write>(out: &mut W, slots: &[Slot]) -> io::Result<()>
+fn print_names<W: Write>(out: &mut W, slots: &[Slot]) -> io::Result<()>
     ensures { OnOk result (Appends (W.contents out.old) (W.contents out.new) (names_text slots.now)) }
 {
     let [first, rest @ ..] = slots else {
         return Ok(());
     };
-    put_typed(out, entry_name(first))?;
-    put_more(out, rest)
+    print_typed(out, entry_name(first))?;
+    print_more(out, rest)
 }
 
 /// Writes the files that a fault concerns.
-fn put_files<W: Write>(out: &mut W, files: &[Slot]) -> io::Result<()>
+fn print_files<W: Write>(out: &mut W, files: &[Slot]) -> io::Result<()>
     ensures { OnOk result (Appends (W.contents out.old) (W.contents out.new) (files_text files.now)) }
 {
     out.write_all(b",\"files\":[")?;
-    put_names(out, files)?;
+    print_names(out, files)?;
     out.write_all(b"]")
 }
 
 /// Writes the free blocks and the disk's name.
-fn put_disk_name<W: Write>(out: &mut W, map: &[u8; 256]) -> io::Result<()>
+fn print_disk_name<W: Write>(out: &mut W, map: &[u8; 256]) -> io::Result<()>
     ensures { OnOk result (Appends (W.contents out.old) (W.contents out.new) (disk_name_text map.now)) }
 {
     write!(
@@ -79,11 +79,11 @@ fn put_disk_name<W: Write>(out: &mut W, map: &[u8; 256]) -> io::Result<()>
         ",\"free\":{},\"disk\":",
         BamView::new(map).blocks_free()
     )?;
-    put_typed(out, disk_name(map))
+    print_typed(out, disk_name(map))
 }
 
 /// Writes what a file lacks, and the end of the object.
-fn put_shortfall<W: Write>(out: &mut W, lack: Shortfall) -> io::Result<()>
+fn print_shortfall<W: Write>(out: &mut W, lack: Shortfall) -> io::Result<()>
     ensures { OnOk result (Appends (W.contents out.old) (W.contents out.new) (lack_text lack)) }
 {
     match lack {
@@ -99,37 +99,37 @@ fn put_shortfall<W: Write>(out: &mut W, lack: Shortfall) -> io::Result<()>
 }
 
 /// The same, if a file lacks something.
-fn put_end<W: Write>(out: &mut W, lack: Option<Shortfall>) -> io::Result<()>
+fn print_end<W: Write>(out: &mut W, lack: Option<Shortfall>) -> io::Result<()>
     ensures { OnOk result (Appends (W.contents out.old) (W.contents out.new) (end_text lack)) }
 {
     match lack {
         None => out.write_all(b",\"short\":null,\"fewer\":null}\n"),
-        Some(lack) => put_shortfall(out, lack),
+        Some(lack) => print_shortfall(out, lack),
     }
 }
 
 /// Writes what 18/0 says of the disk, what a file lacks, and the end.
-fn put_disk<W: Write>(out: &mut W, map: &[u8; 256], lack: Option<Shortfall>) -> io::Result<()>
+fn print_disk<W: Write>(out: &mut W, map: &[u8; 256], lack: Option<Shortfall>) -> io::Result<()>
     ensures { OnOk result (Appends (W.contents out.old) (W.contents out.new) (disk_text map.now lack)) }
 {
-    put_disk_name(out, map)?;
+    print_disk_name(out, map)?;
     out.write_all(b",\"id\":")?;
-    put_typed(out, BamView::new(map).id())?;
-    put_end(out, lack)
+    print_typed(out, BamView::new(map).id())?;
+    print_end(out, lack)
 }
 
 /// Writes the object of an image up to the files.
-fn put_verdict<W: Write>(out: &mut W, name: &[u8], found: Option<Fault>) -> io::Result<()>
+fn print_verdict<W: Write>(out: &mut W, name: &[u8], found: Option<Fault>) -> io::Result<()>
     ensures { OnOk result (Appends (W.contents out.old) (W.contents out.new) (verdict_text name.now found)) }
 {
-    put_head(out, name)?;
+    print_head(out, name)?;
     out.write_all(b",\"size\":174848,\"verdict\":")?;
-    put_found(out, found)
+    print_found(out, found)
 }
 
 /// Writes the object of an image of which a check finds this, with the files that this concerns, the bytes of 18/0, and what
 /// the files lack.
-pub(crate) fn put_object<W: Write>(
+pub(crate) fn print_object<W: Write>(
     out: &mut W,
     name: &[u8],
     found: Option<Fault>,
@@ -140,13 +140,13 @@ pub(crate) fn put_object<W: Write>(
     ensures { OnOk result (Appends (W.contents out.old) (W.contents out.new)
         (object_text name.now found files.now map.now lack)) }
 {
-    put_verdict(out, name, found)?;
-    put_files(out, files)?;
-    put_disk(out, map, lack)
+    print_verdict(out, name, found)?;
+    print_files(out, files)?;
+    print_disk(out, map, lack)
 }
 
 /// Writes a size, if it is known.
-fn put_size<W: Write>(out: &mut W, size: Option<u64>) -> io::Result<()>
+fn print_size<W: Write>(out: &mut W, size: Option<u64>) -> io::Result<()>
     ensures { OnOk result (Appends (W.contents out.old) (W.contents out.new) (size_text size)) }
 {
     match size {
@@ -156,17 +156,17 @@ fn put_size<W: Write>(out: &mut W, size: Option<u64>) -> io::Result<()>
 }
 
 /// Writes the object of an image that is refused up to the reason.
-fn put_refused_head<W: Write>(out: &mut W, name: &[u8], size: Option<u64>) -> io::Result<()>
+fn print_refused_head<W: Write>(out: &mut W, name: &[u8], size: Option<u64>) -> io::Result<()>
     ensures { OnOk result (Appends (W.contents out.old) (W.contents out.new) (refused_head name.now size)) }
 {
-    put_head(out, name)?;
+    print_head(out, name)?;
     out.write_all(b",\"size\":")?;
-    put_size(out, size)?;
+    print_size(out, size)?;
     out.write_all(b",\"verdict\":")
 }
 
 /// Writes the object of an image that is refused.
-pub(crate) fn put_refused<W: Write>(
+pub(crate) fn print_refused<W: Write>(
     out: &mut W,
     name: &[u8],
     size: Option<u64>,
@@ -174,8 +174,8 @@ pub(crate) fn put_refused<W: Write>(
 ) -> io::Result<()>
     ensures { OnOk result (Appends (W.contents out.old) (W.contents out.new) (refused_text name.now size why.now)) }
 {
-    put_refused_head(out, name, size)?;
-    put_string(out, why)?;
+    print_refused_head(out, name, size)?;
+    print_string(out, why)?;
     out.write_all(
         b",\"track\":null,\"sector\":null,\"files\":[],\"free\":null,\"disk\":null,\"id\":null,\"short\":null,\"fewer\":null}\n",
     )

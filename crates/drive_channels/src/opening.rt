@@ -118,7 +118,7 @@ impl OpenFiles {
 
     /// Makes this file the one opened last, with no channel. The file before it is then the one that was opened last
     /// until now.
-    fn put_last(&mut self, found: NamedFile)
+    fn set_last(&mut self, found: NamedFile)
         ensures last { self.new.last ≡ Some (record { found = found; spot = None }) }
         ensures before { self.new.before ≡ found_in self.old.last }
         ensures checked { self.new.checked ≡ self.old.checked }
@@ -141,7 +141,7 @@ impl OpenFiles {
         }
         match find_file(disk, name)? {
             Some(found) => {
-                self.put_last(found);
+                self.set_last(found);
                 Ok(true)
             }
             None => Ok(false),

@@ -3,6 +3,7 @@ pub mod Deletes
 pub mod Entries
 pub mod Faults
 pub mod Formats
+pub mod NewNames
 pub mod Patches
 pub mod PutWrites
 pub mod Puts

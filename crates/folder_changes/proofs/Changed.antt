@@ -12,11 +12,11 @@ use Rattle.disk_changes.specs.declared.changes.Changed.{Changed}
 use Rattle.command_faults.specs.declared.faults.CommandFault.{CommandFault}
 use Rattle.folder_changes.specs.FolderChanges.{GivesChanged, IsToldAs}
 use Rattle.command_faults.specs.declared.faults.CommandFault.TheVariants as faults
-use Rattle.shop_log.specs.life.Bringing.{RestsAlone, RestsWith}
-use Rattle.shop_log.specs.life.Folders.{FolderHistory, LeavesFolders}
-use Rattle.shop_log.specs.life.Replacing.{KeepsOrGives}
-use Rattle.shop_log.specs.life.Shops.{given_by}
-use Rattle.shop_log.proofs.lemmas.life.Steps.{started, weaker}
+use Rattle.image_log.specs.life.Bringing.{RestsAlone, RestsWith}
+use Rattle.image_log.specs.life.Folders.{FolderHistory, LeavesFolders}
+use Rattle.image_log.specs.life.Replacing.{KeepsOrGives}
+use Rattle.image_log.specs.life.Shops.{given_by}
+use Rattle.image_log.proofs.lemmas.life.Steps.{started, weaker}
 
 -- before anything is done
 pub quiet-moments : {D : Type 0} (h : FolderHistory D) (before after : Image) (d : D) → RestsAlone h d before

@@ -8,9 +8,9 @@ use Rattle.disk_changes.specs.declared.changes.Change.{Change}
 use Rattle.disk_changes.specs.declared.changes.Changed.{Changed}
 use Rattle.command_faults.specs.declared.faults.CommandFault.{CommandFault}
 use Rattle.command_faults.specs.declared.faults.CommandFault.TheVariants as faults
-use Rattle.shop_log.specs.life.Bringing.{RestsAlone}
-use Rattle.shop_log.specs.life.Folders.{Folder, FolderHistory}
-use Rattle.shop_log.specs.life.Shops.{Gives}
+use Rattle.image_log.specs.life.Bringing.{RestsAlone}
+use Rattle.image_log.specs.life.Folders.{Folder, FolderHistory}
+use Rattle.image_log.specs.life.Shops.{Gives}
 
 -- a folder gives the image, or the one with the change
 abbrev pub GivesChanged : Change → (image : List ℕ) → Folder → Type 0

@@ -3,14 +3,14 @@ ghost use Rattle.std.specs.Prelude.{◌≡◌, IfOk, IsErr, List, OnOk, length, 
 ghost use Rattle.disk_changes.specs.Changes.{IsChanged, IsFit, IsRefused};
 ghost use Rattle.disk_changes.specs.declared.changes.Changed.{Changed};
 ghost use Rattle.folder_changes.specs.FolderChanges.{IsToldAs};
-ghost use Rattle.shop_log.specs.life.LogRights.{MayKeepLogOf};
+ghost use Rattle.image_log.specs.life.LogRights.{MayKeepLogOf};
 
 use crate::image_changing::change_image;
 use crate::image_replacing::put_image_in;
 use command_faults::CommandFault;
 use disk_changes::Change;
 use image_file::{EndedFile, HostFiles};
-use shop_log::{ImageFolder, LogNames};
+use image_log::{ImageFolder, LogNames};
 use std::alloc::Global;
 use std::fs::OpenFile;
 use std::io::{self, Write};

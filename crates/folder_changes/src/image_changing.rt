@@ -6,13 +6,13 @@ ghost use Rattle.command_faults.specs.declared.faults.CommandFault.TheVariants a
 ghost use Rattle.d64_image.specs.Memory.{disk_image, sectors_in};
 ghost use Rattle.disk_changes.specs.Changes.{IsFit};
 ghost use Rattle.folder_changes.specs.FolderChanges.{GivesChanged, IsChangeOver, IsChangePrinted};
-ghost use Rattle.shop_log.specs.life.Bringing.{RestsAlone};
-ghost use Rattle.shop_log.specs.life.Folders.{LeavesFolders};
-ghost use Rattle.shop_log.specs.life.Replacing.{KeepsOrGives};
+ghost use Rattle.image_log.specs.life.Bringing.{RestsAlone};
+ghost use Rattle.image_log.specs.life.Folders.{LeavesFolders};
+ghost use Rattle.image_log.specs.life.Replacing.{KeepsOrGives};
 
 use command_faults::{CommandFault, flush, put};
 use disk_changes::{Change, Changed, change};
-use shop_log::{LogFile, LogFolder, LogRoom, replace, sectors_of};
+use image_log::{LogFile, LogFolder, LogRoom, replace, sectors_of};
 use std::alloc::Global;
 use std::io::Write;
 

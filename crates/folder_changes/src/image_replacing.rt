@@ -3,12 +3,12 @@ ghost use Rattle.std.specs.Prelude.{◌≡◌, ◌⊎◌, IfErr, List, OnOk, Opt
 ghost use Rattle.d64_image.specs.Images.{Image};
 ghost use Rattle.d64_image.specs.Memory.{sectors_in};
 ghost use Rattle.command_faults.specs.declared.faults.CommandFault.TheVariants as faults;
-ghost use Rattle.shop_log.specs.life.Bringing.{RestsAlone, RestsWith};
-ghost use Rattle.shop_log.specs.life.Folders.{LeavesFolders};
-ghost use Rattle.shop_log.specs.life.Replacing.{KeepsOrGives};
+ghost use Rattle.image_log.specs.life.Bringing.{RestsAlone, RestsWith};
+ghost use Rattle.image_log.specs.life.Folders.{LeavesFolders};
+ghost use Rattle.image_log.specs.life.Replacing.{KeepsOrGives};
 
 use command_faults::CommandFault;
-use shop_log::{LogFile, LogFolder, LogRoom, image_room, sectors_of, supersede};
+use image_log::{LogFile, LogFolder, LogRoom, image_room, sectors_of, supersede};
 use std::alloc::Global;
 
 /// Puts an image in the place of all that a folder has, all or nothing: of IMAGE, whatever it is, and of a log beside it. A power

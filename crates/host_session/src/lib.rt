@@ -12,8 +12,8 @@ mod events;
 // The loop of all runs, and its callers.
 mod runs;
 
-pub use events::printing::Printer;
-pub use events::sinks::ReplySink;
+pub use events::printing::PrintedReplies;
+pub use events::sinks::Replies;
 pub use events::sources::{EventList, EventSource, Next, ScriptEvents};
 pub use faults::OpenFault;
 pub use laws::{blank_is_a_shop, both_ends, last_two, one_shop, only_grows, refused_no_shop};

@@ -3,7 +3,7 @@ use Rattle.std.proofs.Common.{◌≡◌, ◌⊎◌, inl, inr, subst}
 use Rattle.opened_files.specs.Ends.{JobEnd}
 use Rattle.opened_files.specs.HostFiles.{IsUnbegun, RunEnds}
 use Rattle.opened_files.specs.Losses.{IsAwayFault}
-use Rattle.opened_files.specs.declared.losses.Loss.{Loss}
+use Rattle.damaged_files.specs.declared.sides.planning.Loss.{Loss}
 use Rattle.std.specs.declared.io.ErrorKind.{ErrorKind}
 use Rattle.std.specs.declared.io.ErrorKind.TheVariants as kinds
 use Rattle.command_faults.specs.Faults.{call_fault}

@@ -4,10 +4,10 @@ use Rattle.d64_image.specs.Images.{Image}
 use Rattle.d64_image.specs.Memory.{bytes_of}
 use Rattle.image_file.specs.Remains.{Remains}
 use Rattle.image_file.specs.paths.Traces.{Traces}
-use Rattle.shop_log.specs.Recovered.{base_end}
-use Rattle.shop_log.specs.declared.life.landing.LogFault.{LogFault}
-use Rattle.shop_log.specs.declared.life.landing.LogFault.TheVariants.{File, Unfit}
-use Rattle.shop_log.specs.life.Faults.{IsMisfit}
+use Rattle.image_log.specs.Recovered.{base_end}
+use Rattle.image_log.specs.declared.life.landing.LogFault.{LogFault}
+use Rattle.image_log.specs.declared.life.landing.LogFault.TheVariants.{File, Unfit}
+use Rattle.image_log.specs.life.Faults.{IsMisfit}
 use Rattle.opened_files.specs.Ends.{JobEnd, log_refusal}
 use Rattle.opened_files.specs.Makings.{IsMadeAt, IsNewEnd}
 use Rattle.image_edits.specs.Salvages.{IsOfLog, IsUnsalvaged, log_bytes, salvage_text}

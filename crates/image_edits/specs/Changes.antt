@@ -9,7 +9,7 @@ use Rattle.opened_files.specs.Ends.{EndsAs, JobEnd}
 
 -- what came of a change, as a job's end: so many sectors are left, or it was stopped
 abbrev pub as_change : Result ℕ CommandFault → JobEnd
-as_change (Ok n) = if nat_eq n 0 then Ok None else Err (faults.Kept n)
+as_change (Ok n) = if nat_eq n 0 then Ok None else Err (faults.StraysLeft n)
 as_change (Err fault) = Err fault
 
 -- A job that changes an image ended so. This holds of what comes of the change, and its text was printed; or this holds of

@@ -1,6 +1,6 @@
 -- A text of records as a job stores it. Our own.
 use Rattle.std.specs.Prelude.{ℕ, List}
-use Rattle.keeper_commands.specs.ColumnLines.{plain_text}
+use Rattle.disk_changes.specs.lines.ColumnLines.{plain_text}
 use Rattle.image_edits.specs.declared.edit.Columns.{Columns}
 use Rattle.image_edits.specs.declared.edit.Columns.TheVariants as columns
 

@@ -15,7 +15,7 @@ use Rattle.image_edits.specs.Salvages.{IsSalvageEnd}
 use Rattle.image_edits.specs.declared.edit.Edit.{Edit}
 use Rattle.image_edits.specs.declared.edit.Effect.{Effect}
 use Rattle.image_edits.specs.declared.edit.Effect.TheVariants.{Printed, Written}
-use Rattle.shop_log.specs.life.Tags.{SaysLogAway}
+use Rattle.image_log.specs.life.Tags.{SaysLogAway}
 
 module _ {H F W : Type 0} (rights : Rights H) (stands : H → List ℕ → Stands) (traces : Traces H F) (remains : Remains F)
     (contents : W → Option (List ℕ)) (host : H) where

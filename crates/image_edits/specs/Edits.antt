@@ -13,17 +13,16 @@ use Rattle.disk_changes.specs.Titles.{IsTitled}
 use Rattle.disk_changes.specs.declared.changes.Changed.{Changed}
 use Rattle.command_faults.specs.declared.faults.CommandFault.{CommandFault}
 use Rattle.image_file.specs.paths.Standing.{Stands}
-use Rattle.keeper_commands.specs.Makes.{IsNewName}
+use Rattle.file_changes.specs.NewNames.{IsNewName}
 use Rattle.image_edits.specs.Columns.{text_in}
 use Rattle.opened_files.specs.HostFiles.{OfText}
 use Rattle.opened_files.specs.Names.{name_bytes}
 use Rattle.image_edits.specs.declared.edit.Edit.{Edit}
 use Rattle.image_edits.specs.declared.edit.Edit.TheVariants as edits
-use Rattle.opened_files.specs.declared.losses.Loss.{Loss}
+use Rattle.damaged_files.specs.declared.sides.planning.Loss.{Loss}
 use Rattle.image_edits.specs.declared.edit.Unowned.{Unowned}
 use Rattle.image_edits.specs.declared.edit.Unowned.TheVariants.{Freed, Kept}
 use Rattle.rel_records.specs.File.{IsLength}
-use Rattle.opened_files.specs.Losses.{shortened}
 
 -- a repair frees the sectors that are taken and no file's
 abbrev pub frees : Unowned → Bool
@@ -59,26 +58,26 @@ IsTextFor stands host _ text = ⊤
 
 -- the change was made
 abbrev pub IsEdited : Edit → (text image : List ℕ) → Changed → Type 0
-IsEdited (edits.Repair loss unowned) text image made = IsRepaired image (frees unowned) (shortened loss) made
-IsEdited (edits.RepairSides loss unowned) text image made = IsRebuilt image (frees unowned) (shortened loss) made
-IsEdited (edits.Make size loss name) text image made = IsMade image (name_bytes name) size (shortened loss) made
+IsEdited (edits.Repair loss unowned) text image made = IsRepaired image (frees unowned) loss made
+IsEdited (edits.RepairSides loss unowned) text image made = IsRebuilt image (frees unowned) loss made
+IsEdited (edits.Make size loss name) text image made = IsMade image (name_bytes name) size loss made
 IsEdited (edits.Rename loss from to) text image made = IsRenamed image (name_bytes from) (name_bytes to) made
 IsEdited (edits.Title id loss name) text image made = IsTitled image (name_bytes name) id made
 IsEdited (edits.Lock lock loss name) text image made = IsLockSet image (name_bytes name) lock made
 IsEdited (edits.Delete loss name) text image made = IsDeleted image (name_bytes name) made
 IsEdited (edits.Put file kind loss name) text image made = IsPut image (name_bytes name) kind text made
 IsEdited (edits.Store records columns loss name) text image made =
-    IsStored image (name_bytes name) text (shortened loss) made
+    IsStored image (name_bytes name) text loss made
 
 -- it wasn't, for this reason
 abbrev pub IsUnedited : Edit → (text image : List ℕ) → CommandFault → Type 0
 IsUnedited (edits.Repair loss unowned) text image why = IsRepairRefusal image why
 IsUnedited (edits.RepairSides loss unowned) text image why = IsRebuildRefusal image why
-IsUnedited (edits.Make size loss name) text image why = IsMakeRefusal image (name_bytes name) (shortened loss) why
+IsUnedited (edits.Make size loss name) text image why = IsMakeRefusal image (name_bytes name) loss why
 IsUnedited (edits.Rename loss from to) text image why = IsRenameRefusal image (name_bytes from) (name_bytes to) why
 IsUnedited (edits.Title id loss name) text image why = IsUnsoundOrShort image why
 IsUnedited (edits.Lock lock loss name) text image why = IsLockRefusal image (name_bytes name) why
 IsUnedited (edits.Delete loss name) text image why = IsDeleteRefusal image (name_bytes name) why
 IsUnedited (edits.Put file kind loss name) text image why = IsPutRefusal image (name_bytes name) kind text why
 IsUnedited (edits.Store records columns loss name) text image why =
-    IsStoreRefusal image (name_bytes name) text (shortened loss) why
+    IsStoreRefusal image (name_bytes name) text loss why

@@ -2,9 +2,9 @@
 use Rattle.std.specs.Prelude.{◌≡◌, ◌⊎◌, ◌++◌, ◌-◌, List, ℕ, Option, Err, codes, decimal, length, replicate, take}
 use Rattle.d64_image.specs.Images.{Image}
 use Rattle.d64_image.specs.Memory.{bytes_of}
-use Rattle.shop_log.specs.Recovered.{base_end}
-use Rattle.shop_log.specs.Salvage.{IsSalvaged}
-use Rattle.shop_log.specs.declared.salvaging.Salvaged.{Salvaged}
+use Rattle.image_log.specs.Recovered.{base_end}
+use Rattle.image_log.specs.Salvage.{IsSalvaged}
+use Rattle.image_log.specs.declared.salvaging.Salvaged.{Salvaged}
 use Rattle.command_faults.specs.declared.faults.CommandFault.TheVariants as faults
 use Rattle.image_file.specs.Remains.{Remains}
 use Rattle.image_file.specs.paths.Traces.{Traces}

@@ -6,15 +6,15 @@ ghost use Rattle.image_file.specs.paths.Rights.{Look, May};
 ghost use Rattle.opened_files.specs.HostFiles.{IsUnbegun, OfWritten, RunEnds};
 ghost use Rattle.opened_files.specs.Losses.{IsAwayFault};
 ghost use Rattle.opened_files.specs.Rights.{MayChangeImage};
-ghost use Rattle.shop_log.specs.life.Tags.{SaysLogAway};
+ghost use Rattle.image_log.specs.life.Tags.{SaysLogAway};
 
 use command_faults::CommandFault;
 use disk_changes::Change;
 use disk_layout::Fault;
 use folder_changes::HostImages;
 use image_file::{EndedFile, HostFiles, Locks};
+use image_log::LogNames;
 use opened_files::{Loss, opened_and_landed, read_synced, see_untagged};
-use shop_log::LogNames;
 use std::fs::OpenFile;
 use std::io::Write;
 
@@ -24,7 +24,7 @@ pub fn change_end(ended: Result<u16, CommandFault>) -> Result<Option<Fault>, Com
 {
     match ended {
         Ok(0) => Ok(None),
-        Ok(left) => Err(CommandFault::Kept(left)),
+        Ok(left) => Err(CommandFault::StraysLeft(left)),
         Err(fault) => Err(fault),
     }
 }

@@ -10,7 +10,7 @@ use d64_image::IMAGE_BYTES;
 use disk_layout::Fault;
 use image_file::{EndedFile, HostFiles, Locks};
 use opened_files::{image_at, make_image, metadata_of, run_end};
-use shop_commands::put_whole;
+use shop_commands::print_whole;
 use std::fs::{Metadata, OpenFile};
 use std::io::{Read, Write};
 
@@ -33,7 +33,7 @@ where
         out.old out.new result }
 {
     make_image(rt, path, like, image)?;
-    run_end(put_whole(out, said))
+    run_end(print_whole(out, said))
 }
 
 /// Makes a copy of this image at a path, and prints `COPIED`. `ImageSize`: nothing was done.

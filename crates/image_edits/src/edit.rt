@@ -4,7 +4,7 @@ ghost use Rattle.image_edits.specs.Edits.{frees};
 
 use disk_changes::Lock;
 use file_changes::FileType;
-use keeper_commands::ColumnForm;
+use file_rescues::ColumnForm;
 use opened_files::{Loss, Name};
 
 /// How the records of a text stand in its lines.

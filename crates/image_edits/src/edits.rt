@@ -12,16 +12,15 @@ ghost use Rattle.opened_files.specs.Losses.{IsAwayFault, IsNear};
 ghost use Rattle.opened_files.specs.Rights.{MayChangeImage, MayReadImage, MayReadText};
 ghost use Rattle.image_edits.specs.EditRights.{MayEdit, MayReadSource};
 ghost use Rattle.image_edits.specs.declared.edit.Effect.TheVariants.{Printed, Written};
-ghost use Rattle.shop_log.specs.life.Tags.{SaysLogAway};
+ghost use Rattle.image_log.specs.life.Tags.{SaysLogAway};
 
 use crate::changing::{change_end, change_taken, image_to_change};
 use crate::edit::{Columns, Edit, Effect};
 use command_faults::CommandFault;
-use disk_changes::Change;
+use disk_changes::{Change, plain_lines};
 use disk_layout::Fault;
 use folder_changes::{HostImages, show_change};
 use image_file::{EndedFile, HostFiles, Locks};
-use keeper_commands::plain_lines;
 use opened_files::{Loss, image_at, script_to_play, see_log_away};
 use std::alloc::Global;
 use std::fs::OpenFile;
@@ -50,11 +49,11 @@ impl Edit<'_> {
     {
         match *self {
             Edit::Repair { loss, unowned } => {
-                let (free, cut) = (unowned.is_freed(), loss.shortened());
+                let (free, cut) = (unowned.is_freed(), loss);
                 Change::Repair { free, cut }
             }
             Edit::RepairSides { loss, unowned } => {
-                let (free, cut) = (unowned.is_freed(), loss.shortened());
+                let (free, cut) = (unowned.is_freed(), loss);
                 Change::Rebuild { free, cut }
             }
             Edit::Make {
@@ -64,7 +63,7 @@ impl Edit<'_> {
             } => Change::Make {
                 name: name.as_bytes(),
                 length,
-                cut: loss.shortened(),
+                cut: loss,
             },
             Edit::Rename {
                 ref from,
@@ -93,7 +92,7 @@ impl Edit<'_> {
             Edit::Store { loss, ref name, .. } => Change::Store {
                 name: name.as_bytes(),
                 text,
-                cut: loss.shortened(),
+                cut: loss,
             },
         }
     }

@@ -58,7 +58,7 @@ module _ {F : Type 0} {G : Ghosts F} where
 
   -- The file of an image with these bytes was taken up: it took no sector, and hasn't failed. It keeps what it holds, if
   -- that is known whole.
-  pub record IsTakenUp (image : List ℕ) (file : F) (p : ImageFile F G) : Type 0 where
+  pub record IsLoaded (image : List ℕ) (file : F) (p : ImageFile F G) : Type 0 where
     pub is_file : placed_file p ≡ file
     pub untaken : placed.writes p ≡ 0
     pub unfailed : placed.failures p ≡ 0

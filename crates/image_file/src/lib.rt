@@ -25,7 +25,7 @@ pub use noted::noted_reader::NotedReader;
 pub use noted::noted_runtime::NotedRuntime;
 pub use noted::subjects::Subject;
 pub use paths::host::HostFiles;
-pub use paths::names::{FileName, Identity, Stays, leads_to};
+pub use paths::names::{FileName, Identity, NameStays, leads_to};
 pub use paths::opening::{opened_to_change, opened_to_read, regular, regular_at};
 pub use reading::{read_image, read_script};
 pub use remaining::{EndedFile, private_mode};

@@ -13,7 +13,7 @@ pub trait EndedFile {
 
     /// Writes all these bytes over those from that place on; zeros fill what was missing before it. At an error a part
     /// of them may be written.
-    fn put_over(&mut self, bytes: &[u8], at: u64) -> io::Result<()>
+    fn write_over(&mut self, bytes: &[u8], at: u64) -> io::Result<()>
         ensures { IsPutOver remains self.old self.new bytes.now at result };
 
     /// Ends the file after this many bytes: what it held after them is gone, and zeros fill what was missing.
@@ -44,7 +44,7 @@ fn ungrouped(mode: u32) -> u32 {
 }
 
 impl EndedFile for File {
-    fn put_over(&mut self, bytes: &[u8], at: u64) -> io::Result<()> {
+    fn write_over(&mut self, bytes: &[u8], at: u64) -> io::Result<()> {
         FileExt::write_all_at(self, bytes, at)
     }
 

@@ -19,7 +19,7 @@ pub const SPOILED_DIRECTORY: [u8; 256] = [255; 256];
 fn spoil<F: EndedFile>(file: &mut F) -> io::Result<()>
     ensures { IsSpoiling F.remains file.old file.new result }
 {
-    file.put_over(&SPOILED_DIRECTORY, DIRECTORY_START as u64)?;
+    file.write_over(&SPOILED_DIRECTORY, DIRECTORY_START as u64)?;
     file.sync_whole()
 }
 
@@ -30,8 +30,8 @@ fn fill<F: EndedFile>(file: &mut F, image: &[u8]) -> io::Result<()>
     requires spoiled { AllAreSpoiled F.remains file.old }
     ensures { IsFilling F.remains file.old file.new image.now result }
 {
-    file.put_over(&image[..DIRECTORY_START], 0)?;
-    file.put_over(&image[DIRECTORY_END..], DIRECTORY_END as u64)?;
+    file.write_over(&image[..DIRECTORY_START], 0)?;
+    file.write_over(&image[DIRECTORY_END..], DIRECTORY_END as u64)?;
     file.end_at(IMAGE_BYTES as u64)?;
     file.sync_whole()
 }
@@ -42,7 +42,7 @@ fn seal<F: EndedFile>(file: &mut F, image: &[u8]) -> io::Result<()>
     requires filled { AllAreFilled F.remains file.old image.now }
     ensures { IsSealing F.remains file.old file.new image.now result }
 {
-    file.put_over(
+    file.write_over(
         &image[DIRECTORY_START..DIRECTORY_END],
         DIRECTORY_START as u64,
     )?;

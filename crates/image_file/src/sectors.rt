@@ -22,7 +22,7 @@ pub struct ImageFile<F: WritesAt> {
 
 impl<F: WritesAt> ImageFile<F> {
     ghost use Rattle.std.specs.Prelude.{IfSome, take};
-    ghost use Rattle.image_file.specs.ImageFile.{BringsAll, IsTakenUp, placed, placed_file};
+    ghost use Rattle.image_file.specs.ImageFile.{BringsAll, IsLoaded, placed, placed_file};
 
     /// The file. It took no sector, and hasn't failed.
     pub fn new(file: F) -> ImageFile<F>
@@ -42,7 +42,7 @@ impl<F: WritesAt> ImageFile<F> {
     /// it holds, if that is known whole.
     pub fn of_image(file: F, image: &[u8]) -> ImageFile<F>
         requires image { IfSome (F.held file) (λ all. image.now ≡ take 174849 all) }
-        ensures { IsTakenUp image.now file result }
+        ensures { IsLoaded image.now file result }
     {
         ImageFile {
             file,

@@ -6,9 +6,9 @@ use Rattle.command_faults.specs.declared.faults.CommandFault.TheVariants as faul
 use Rattle.d64_image.specs.Memory.{sectors_in}
 use Rattle.damaged_files.specs.declared.cut.shortfalls.Shortfall.{Shortfall}
 use Rattle.disk_layout.specs.declared.faults.Fault.{Fault}
-use Rattle.keeper_commands.specs.rescue.Folders.{AddsFiles, NewFile}
-use Rattle.keeper_commands.specs.rescue.Rescues.{IsExtractFault, IsExtracted, IsExtractedPart, all_files}
-use Rattle.keeper_commands.specs.declared.rescue.choices.Choice.{Choice}
+use Rattle.file_rescues.specs.rescue.Folders.{AddsFiles, NewFile}
+use Rattle.file_rescues.specs.rescue.Rescues.{IsExtractFault, IsExtracted, IsExtractedPart, all_files}
+use Rattle.file_rescues.specs.declared.rescue.choices.Choice.{Choice}
 use Rattle.opened_files.specs.Ends.{JobEnd}
 use Rattle.image_looks.specs.Extracts.{IsExtractEnd, IsExtractSaid, IsExtractTold, refusal_of}
 

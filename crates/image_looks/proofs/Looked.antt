@@ -7,9 +7,9 @@ use Rattle.command_faults.specs.declared.faults.CommandFault.{CommandFault}
 use Rattle.command_faults.specs.declared.faults.CommandFault.TheVariants as faults
 use Rattle.opened_files.specs.Ends.{JobEnd, as_run, IsPrintEnd, IsQuietPrint}
 use Rattle.image_looks.specs.Looks.{IsTakingEnd, WhyNoRecords, taken_end}
-use Rattle.keeper_commands.specs.declared.finding.Candidates.{Candidates}
-use Rattle.keeper_commands.specs.declared.finding.Candidates.TheVariants.{All, Closed}
-use Rattle.keeper_commands.specs.declared.forms.RecordForm.{RecordForm}
+use Rattle.file_rescues.specs.declared.finding.Candidates.{Candidates}
+use Rattle.file_rescues.specs.declared.finding.Candidates.TheVariants.{All, Closed}
+use Rattle.file_rescues.specs.declared.forms.RecordForm.{RecordForm}
 
 module _ {W : Type 0} (old new : W) where
   -- of what reports a fault

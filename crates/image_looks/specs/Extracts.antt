@@ -4,9 +4,9 @@ use Rattle.std.specs.Io.KnownBytes.{Appends}
 use Rattle.damaged_files.specs.cut.Told.{shortfall_text}
 use Rattle.damaged_files.specs.declared.cut.shortfalls.Shortfall.{Shortfall}
 use Rattle.disk_layout.specs.declared.faults.Fault.{Fault}
-use Rattle.keeper_commands.specs.rescue.Folders.{NewFile}
-use Rattle.keeper_commands.specs.rescue.Rescues.{IsExtractFault, IsExtracted}
-use Rattle.keeper_commands.specs.declared.rescue.choices.Choice.{Choice}
+use Rattle.file_rescues.specs.rescue.Folders.{NewFile}
+use Rattle.file_rescues.specs.rescue.Rescues.{IsExtractFault, IsExtracted}
+use Rattle.file_rescues.specs.declared.rescue.choices.Choice.{Choice}
 use Rattle.line_text.specs.Handed.{AppendsPart}
 use Rattle.command_faults.specs.declared.faults.CommandFault.{CommandFault}
 use Rattle.command_faults.specs.declared.faults.CommandFault.TheVariants as faults

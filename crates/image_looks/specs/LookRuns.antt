@@ -1,6 +1,6 @@
 -- What a job that looks at images comes to over the bytes that the host says. Our own.
 use Rattle.std.specs.Prelude.{ℕ, List, Option, take}
-use Rattle.keeper_commands.specs.declared.rescue.choices.Choice.{Choice}
+use Rattle.file_rescues.specs.declared.rescue.choices.Choice.{Choice}
 use Rattle.image_file.specs.paths.Rights.{Rights}
 use Rattle.image_file.specs.paths.Standing.{Stands}
 use Rattle.image_looks.specs.Comparisons.{IsComparingRun}

@@ -11,18 +11,18 @@ use Rattle.disk_layout.specs.Clean.{IsVerdict}
 use Rattle.disk_reports.specs.Listings.{IsCheckFault, IsListFault, IsListed}
 use Rattle.disk_reports.specs.Outcomes.{IsDescribeFault}
 use Rattle.disk_reports.specs.Texts.{verdict_text}
-use Rattle.keeper_commands.specs.Printed.{AreBytesTaken, AreRecordsTaken as AreClosedTaken, AreUnclosedTaken, IsBytesFault, IsBytesPart, IsRecordsFault, IsRecordsPart, IsUnclosedFault, IsUnclosedPart}
-use Rattle.keeper_commands.specs.declared.finding.Candidates.{Candidates}
-use Rattle.keeper_commands.specs.declared.finding.Candidates.TheVariants.{All, Closed}
-use Rattle.keeper_commands.specs.declared.forms.ByteForm.{ByteForm}
-use Rattle.keeper_commands.specs.declared.forms.RecordForm.{RecordForm}
+use Rattle.file_rescues.specs.Printed.{AreBytesTaken, AreRecordsTaken as AreClosedTaken, AreUnclosedTaken, IsBytesFault, IsBytesPart, IsRecordsFault, IsRecordsPart, IsUnclosedFault, IsUnclosedPart}
+use Rattle.file_rescues.specs.declared.finding.Candidates.{Candidates}
+use Rattle.file_rescues.specs.declared.finding.Candidates.TheVariants.{All, Closed}
+use Rattle.file_rescues.specs.declared.forms.ByteForm.{ByteForm}
+use Rattle.file_rescues.specs.declared.forms.RecordForm.{RecordForm}
 use Rattle.shop_commands.specs.Shops.{IsShowFault, IsShown}
-use Rattle.shop_log.specs.life.Tags.{SaysLogAway}
+use Rattle.image_log.specs.life.Tags.{SaysLogAway}
 use Rattle.command_faults.specs.declared.faults.CommandFault.{CommandFault}
 use Rattle.opened_files.specs.Ends.{JobEnd, IsPrintEnd, IsQuietPrint}
 use Rattle.opened_files.specs.Losses.{IsAwayEnd, IsNear}
 use Rattle.opened_files.specs.Names.{name_bytes}
-use Rattle.opened_files.specs.declared.losses.Loss.{Loss}
+use Rattle.damaged_files.specs.declared.sides.planning.Loss.{Loss}
 use Rattle.image_looks.specs.declared.kinds.Look.{Look}
 use Rattle.image_looks.specs.declared.kinds.Look.TheVariants as looks
 use Rattle.command_faults.specs.declared.faults.CommandFault.TheVariants as faults

@@ -16,7 +16,7 @@ use std::io::{Read, Write};
 
 /// Prints the object of the image at a path that is refused, with what the command would print of it alone. Returns its
 /// exit status.
-fn put_refusal<R, W>(
+fn print_refusal<R, W>(
     rt: &R,
     path: &str,
     refusal: CommandFault,
@@ -40,7 +40,7 @@ where
 /// would have.
 // Out of line: its frame is large, and a frame touches each page of it.
 #[inline(never)]
-fn put_object<R, W>(rt: &R, path: &str, image: &[u8], out: &mut W) -> Result<u8, CommandFault>
+fn print_object<R, W>(rt: &R, path: &str, image: &[u8], out: &mut W) -> Result<u8, CommandFault>
 where
     R: HostFiles + AllocGlobal,
     W: Write,
@@ -52,13 +52,13 @@ where
         Ok(None) => Ok(0),
         Ok(Some(_)) => Ok(1),
         Err(CommandFault::File) => Err(CommandFault::File),
-        Err(fault) => put_refusal(rt, path, fault, out),
+        Err(fault) => print_refusal(rt, path, fault, out),
     }
 }
 
 /// Prints the object of the image at a path, from which this was read, and returns the exit status that a check of it
 /// alone would have.
-fn put_object_of<R, W>(
+fn print_object_of<R, W>(
     rt: &R,
     path: &str,
     read: Result<Vec<u8>, CommandFault>,
@@ -72,8 +72,8 @@ where
     ensures err { IfErr result IsCutOff }
 {
     match read {
-        Ok(image) => put_object(rt, path, image.as_slice(), out),
-        Err(refusal) => put_refusal(rt, path, refusal, out),
+        Ok(image) => print_object(rt, path, image.as_slice(), out),
+        Err(refusal) => print_refusal(rt, path, refusal, out),
     }
 }
 
@@ -91,7 +91,7 @@ impl<R: HostFiles + AllocGlobal, W: Write> PrintsImage<R, W> for Described {
         read: Result<Vec<u8>, CommandFault>,
         out: &mut W,
     ) -> Result<u8, CommandFault> {
-        put_object_of(rt, path, read, out)
+        print_object_of(rt, path, read, out)
     }
 }
 

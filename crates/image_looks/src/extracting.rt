@@ -13,10 +13,10 @@ use arrayvec::ArrayVec;
 use command_faults::CommandFault;
 use damaged_files::Shortfall;
 use disk_layout::Fault;
+use file_rescues::{Choice, extract_image};
 use image_file::{EndedFile, HostFiles, Locks};
-use keeper_commands::{Choice, extract_image};
 use opened_files::{image_at, run_end, short_refusal, shortfall_in};
-use shop_commands::put_whole;
+use shop_commands::print_whole;
 use std::alloc::Global;
 use std::fs::OpenFile;
 use std::io::{self, Read, Write};
@@ -46,19 +46,19 @@ fn extract_refusal(
 }
 
 /// Prints `EXTRACTED`, and what a file lacks, if one lacks something.
-fn put_extracted<W: Write>(lack: Option<Shortfall>, out: &mut W) -> Result<(), CommandFault>
+fn print_extracted<W: Write>(lack: Option<Shortfall>, out: &mut W) -> Result<(), CommandFault>
     ensures ok { OnOk result (Appends (W.contents out.old) (W.contents out.new) (extracted_text lack)) }
     ensures err { IfErr result (λ fault.
         (fault ≡ faults.File) × AppendsPart (W.contents out.old) (W.contents out.new) (extracted_text lack)) }
 {
     let Some(lack) = lack else {
-        return put_whole(out, b"EXTRACTED\n");
+        return print_whole(out, b"EXTRACTED\n");
     };
     let mut text = ArrayVec::<u8, 40>::new();
     if writeln!(text, "EXTRACTED\n{lack}").is_err() {
         return Err(CommandFault::File);
     }
-    put_whole(out, text.as_slice())
+    print_whole(out, text.as_slice())
 }
 
 /// Prints `EXTRACTED`, and what a file lacks, unless the job is refused. Returns how it ended.
@@ -72,7 +72,7 @@ fn tell_extracted<W: Write>(
     if let Some(refusal) = refused {
         return Err(refusal);
     }
-    run_end(put_extracted(lack, out))
+    run_end(print_extracted(lack, out))
 }
 
 /// Keeps a folder whose files were all made; one in which they weren't isn't kept. `File` if it can't be kept.

@@ -2,7 +2,7 @@
 
 use d64_image::Place;
 use disk_reports::NameForm;
-use keeper_commands::{ByteForm, Candidates, RecordForm};
+use file_rescues::{ByteForm, Candidates, RecordForm};
 use opened_files::{Loss, Name};
 
 /// What is printed of one image, which isn't written.

@@ -1,12 +1,12 @@
 //! Folders that are made under another name, and get their own when all their files are there and synced.
 ghost use Rattle.std.specs.Prelude.{◌≡◌, IfOk, string_bytes};
 ghost use Rattle.std.proofs.Props.{props};
-ghost use Rattle.keeper_commands.specs.rescue.Folders.{StaysInside};
+ghost use Rattle.file_rescues.specs.rescue.Folders.{StaysInside};
 ghost use Rattle.opened_files.specs.Rights.{MayFill, MayTry};
 ghost use Rattle.opened_files.specs.Rights as specs;
 
+use file_rescues::NewFolder;
 use image_file::{EndedFile, HostFiles};
-use keeper_commands::NewFolder;
 use opened_files::Aside;
 use std::alloc::Global;
 use std::io;
@@ -58,7 +58,7 @@ impl<R: HostFiles> Inside<'_, R> {
 
     /// Takes its name away.
     fn remove(&self) {
-        let _ = self.rt.take_name(self.path.as_str());
+        let _ = self.rt.remove(self.path.as_str());
     }
 
     /// Syncs the names of all files of its folder.
@@ -202,7 +202,7 @@ where
 {
     fn make(&mut self, name: &[u8], bytes: &[u8]) -> io::Result<()> {
         let mut file = self.make_file(name)?;
-        file.put_over(bytes, 0)?;
+        file.write_over(bytes, 0)?;
         file.sync_whole()
     }
 }

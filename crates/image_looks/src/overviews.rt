@@ -15,7 +15,7 @@ use command_faults::CommandFault;
 use disk_layout::Fault;
 use disk_reports::check_among;
 use image_file::{HostFiles, Locks, ShownPath};
-use line_text::put_named;
+use line_text::print_named;
 use opened_files::end;
 use std::alloc::Global;
 use std::fs::OpenFile;
@@ -25,11 +25,11 @@ use std::io::{Read, Write};
 const ROOM: usize = 32768;
 
 /// Prints a text line by line, each after the image's name. `File` if the output failed.
-fn put_text<W: Write>(name: &[u8], text: &[u8], out: &mut W) -> Result<(), CommandFault>
+fn print_text<W: Write>(name: &[u8], text: &[u8], out: &mut W) -> Result<(), CommandFault>
     ensures ok { OnOk result (Appends (W.contents out.old) (W.contents out.new) (named name.now text.now)) }
     ensures err { IfErr result (λ fault. fault ≡ faults.File) }
 {
-    match put_named(out, name, text) {
+    match print_named(out, name, text) {
         Ok(()) => Ok(()),
         Err(_) => Err(CommandFault::File),
     }
@@ -50,7 +50,7 @@ fn tell_named<W: Write>(
     let Ok(()) = ending.told else {
         return Err(CommandFault::File);
     };
-    put_text(name, text.as_slice(), out)?;
+    print_text(name, text.as_slice(), out)?;
     Ok(ending.status)
 }
 

@@ -16,7 +16,7 @@ use std::io::{Read, Write};
 
 /// Prints the tile of an image that can't be read, with what the command would report of it alone. Returns its exit
 /// status.
-fn put_unread<W: Write>(
+fn print_unread<W: Write>(
     alloc: Global,
     path: &str,
     refusal: CommandFault,
@@ -36,7 +36,7 @@ fn put_unread<W: Write>(
 /// have.
 // Out of line: its frame is large, and a frame touches each page of it.
 #[inline(never)]
-fn put_tile_of<W: Write>(
+fn print_tile_of<W: Write>(
     alloc: Global,
     path: &str,
     read: Result<Vec<u8>, CommandFault>,
@@ -47,7 +47,7 @@ fn put_tile_of<W: Write>(
 {
     match read {
         Ok(image) => sheet_tile(alloc, path, image.as_slice(), out),
-        Err(refusal) => put_unread(alloc, path, refusal, out),
+        Err(refusal) => print_unread(alloc, path, refusal, out),
     }
 }
 
@@ -65,12 +65,12 @@ impl<R: HostFiles + AllocGlobal, W: Write> PrintsImage<R, W> for Tiled {
         read: Result<Vec<u8>, CommandFault>,
         out: &mut W,
     ) -> Result<u8, CommandFault> {
-        put_tile_of(rt.alloc(), path, read, out)
+        print_tile_of(rt.alloc(), path, read, out)
     }
 }
 
 /// Prints the sheet of the images at these paths, and returns the greatest exit status of theirs.
-fn put_sheet<F, R, W>(rt: &R, paths: &[&str], out: &mut W) -> Result<u8, CommandFault>
+fn print_sheet<F, R, W>(rt: &R, paths: &[&str], out: &mut W) -> Result<u8, CommandFault>
 where
     F: Read + Locks + OpenFile + Drop,
     R: HostFiles<File = F> + Input + AllocGlobal,
@@ -98,6 +98,6 @@ where
     requires { All (λ path. MayReadImage R.rights rt.now path.now) paths.now }
     ensures { AreDrawnOnSheet R.rights R.stands W.contents rt.now (map (λ path. path.now) paths.now) out.old out.new result }
 {
-    let greatest = put_sheet(rt, paths, out)?;
+    let greatest = print_sheet(rt, paths, out)?;
     status_end(greatest)
 }

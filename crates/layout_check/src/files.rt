@@ -9,7 +9,7 @@ ghost use Rattle.layout_check.specs.SurveyedEntry.{SurveysEntry, TellsOrClashes}
 use crate::blocks::claim_blocks;
 use crate::entry::judge_entry;
 use crate::owners::Owners;
-use crate::parts::Parts;
+use crate::parts::FileSectors;
 use crate::sides::survey_sides;
 use arrayvec::ArrayVec;
 use d64_image::{Place, Sectors};
@@ -55,7 +55,7 @@ fn survey_relative<D: Sectors>(
     slot: &Slot,
     number: u8,
     owners: &mut Owners,
-    parts: &mut Parts,
+    parts: &mut FileSectors,
 ) -> Result<Option<Fault>, Fault>
     requires closed { IsClosed (D.history.image disk.old) slot.now.sector slot.now }
     requires proper { IsProper slot.now }
@@ -83,7 +83,7 @@ pub(crate) fn survey_entry<D: Sectors>(
     slot: &Slot,
     number: u8,
     owners: &mut Owners,
-    parts: &mut Parts,
+    parts: &mut FileSectors,
 ) -> Result<Option<Fault>, Fault>
     requires entry { IsEntry (D.history.image disk.old) slot.now }
     requires some { number < 255 }

@@ -11,7 +11,7 @@ ghost use Rattle.layout_check.specs.Mending.{MakesSide, MendsEntries, MendsEntry
 
 use crate::maps::check_bits;
 use crate::owners::Owners;
-use crate::parts::Parts;
+use crate::parts::FileSectors;
 use crate::sides::find_parts;
 use arrayvec::ArrayVec;
 use d64_image::{Place, Sectors, TRACKS};
@@ -93,7 +93,11 @@ fn mend_sides<D: Sectors>(
 
 /// Gives the side sectors of a relative entry of a sound disk the bytes that they should have. Fills `parts` with what
 /// the entry owns.
-fn mend_relative<D: Sectors>(disk: &mut D, slot: &Slot, parts: &mut Parts) -> Result<(), Fault>
+fn mend_relative<D: Sectors>(
+    disk: &mut D,
+    slot: &Slot,
+    parts: &mut FileSectors,
+) -> Result<(), Fault>
     requires filed { IsFiled (D.history.image disk.old) slot.now }
     requires rel { IsTrue (is_rel slot.now) }
     ensures { MendsEntry D.history disk.old disk.new slot.now result }
@@ -111,7 +115,7 @@ pub(crate) fn mend_entries<D: Sectors>(disk: &mut D) -> Result<(), Fault>
     ensures { MendsEntries D.history disk.old disk.new result }
 {
     let mut slots = ArrayVec::new();
-    let mut parts = Parts::new();
+    let mut parts = FileSectors::new();
     read_directory(disk, &mut slots)?;
     for slot in slots.as_slice() {
         if EntryView::new(&slot.bytes).is_relative() {

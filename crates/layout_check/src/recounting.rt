@@ -15,7 +15,7 @@ use crate::owners::Owners;
 use arrayvec::ArrayVec;
 use d64_image::{Place, Sectors};
 use disk_layout::{
-    EntryView, Fault, MOST_BLOCKS, Slot, directory_start, put_count, read_sector, walk_chain,
+    EntryView, Fault, MOST_BLOCKS, Slot, directory_start, read_sector, set_count, walk_chain,
     write_other,
 };
 
@@ -35,7 +35,7 @@ fn recount_slot(bytes: &mut [u8; 256], place: Place, number: u8, owners: &Owners
         return;
     }
     if let Some(first) = entry.first_block() {
-        put_count(bytes, number, owners.owned_with(first));
+        set_count(bytes, number, owners.owned_with(first));
     }
 }
 

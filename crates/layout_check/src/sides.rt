@@ -8,7 +8,7 @@ ghost use Rattle.layout_check.specs.Sides.{IsMisnamed, IsRelEntry, IsSoundSide, 
 ghost use Rattle.layout_check.specs.SurveyedSides.{FindsParts, SurveysSides};
 
 use crate::blocks::survey_blocks;
-use crate::parts::Parts;
+use crate::parts::FileSectors;
 use arrayvec::ArrayVec;
 use d64_image::{Place, Sectors};
 use disk_layout::{
@@ -153,7 +153,7 @@ pub(crate) fn survey_sides<D: Sectors>(
 pub(crate) fn find_parts<D: Sectors>(
     disk: &mut D,
     slot: &Slot,
-    parts: &mut Parts,
+    parts: &mut FileSectors,
 ) -> Result<Option<Place>, Fault>
     requires closed { IsClosed (D.history.image disk.old) slot.now.sector slot.now }
     requires rel { IsTrue (is_rel slot.now) }

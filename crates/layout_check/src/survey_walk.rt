@@ -9,7 +9,7 @@ ghost use Rattle.layout_check.specs.Survey.{IsSurveyOf, Surveys};
 
 use crate::files::survey_entry;
 use crate::owners::Owners;
-use crate::parts::Parts;
+use crate::parts::FileSectors;
 use crate::survey_outcome::{Findings, Survey};
 use arrayvec::ArrayVec;
 use d64_image::{Place, Sectors};
@@ -37,7 +37,7 @@ pub(crate) fn survey_files<D: Sectors>(disk: &mut D) -> Result<Findings, Fault>
 {
     let mut slots = ArrayVec::new();
     // the directory's places are kept in the room for blocks: a list of their own would take time to clear
-    let mut parts = Parts::new();
+    let mut parts = FileSectors::new();
     survey_directory(disk, &mut slots, &mut parts.blocks)?;
     let mut owners = Owners::of_directory(parts.blocks.as_slice());
     let mut unclean = None;

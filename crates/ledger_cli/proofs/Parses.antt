@@ -14,7 +14,7 @@ use Rattle.ledger_cli.specs.Numbers.{tills_in}
 use Rattle.ledger_jobs.specs.Jobs.{IsFit}
 use Rattle.image_edits.specs.declared.edit.Edit.TheVariants as edits
 use Rattle.ledger_jobs.specs.declared.jobs.Job.{Job}
-use Rattle.opened_files.specs.declared.losses.Loss.{Loss}
+use Rattle.damaged_files.specs.declared.sides.planning.Loss.{Loss}
 use Rattle.ledger_jobs.specs.declared.jobs.Job.TheVariants as jobs
 use Rattle.ledger_cli.specs.declared.faults.JobFault.{JobFault}
 use Rattle.ledger_cli.specs.declared.faults.JobFault.TheVariants as faults

@@ -4,12 +4,12 @@ use Rattle.std.specs.Borrow.{Bor}
 use Rattle.clap.specs.Words.{Row, Text}
 use Rattle.image_edits.specs.declared.edit.Effect.{Effect}
 use Rattle.ledger_jobs.specs.declared.jobs.Job.{Job}
-use Rattle.opened_files.specs.declared.losses.Loss.{Loss}
+use Rattle.damaged_files.specs.declared.sides.planning.Loss.{Loss}
 use Rattle.image_edits.specs.declared.edit.Unowned.{Unowned}
-use Rattle.keeper_commands.specs.declared.rescue.choices.Choice.{Choice}
-use Rattle.keeper_commands.specs.declared.finding.Candidates.{Candidates}
-use Rattle.keeper_commands.specs.declared.forms.ByteForm.{ByteForm}
-use Rattle.keeper_commands.specs.declared.forms.RecordForm.{RecordForm}
+use Rattle.file_rescues.specs.declared.rescue.choices.Choice.{Choice}
+use Rattle.file_rescues.specs.declared.finding.Candidates.{Candidates}
+use Rattle.file_rescues.specs.declared.forms.ByteForm.{ByteForm}
+use Rattle.file_rescues.specs.declared.forms.RecordForm.{RecordForm}
 use Rattle.image_edits.specs.declared.edit.Columns.{Columns}
 use Rattle.line_text.specs.declared.petscii.characters.CharacterSet.{CharacterSet}
 use Rattle.line_text.specs.declared.petscii.characters.CharacterSet.TheVariants.{Graphics, Mixed}
@@ -20,11 +20,11 @@ use Rattle.ledger_cli.specs.declared.faults.JobFault.{JobFault}
 use Rattle.image_edits.specs.declared.edit.Edit.TheVariants as edits
 use Rattle.image_edits.specs.declared.edit.Effect.TheVariants as effects
 use Rattle.ledger_jobs.specs.declared.jobs.Job.TheVariants as jobs
-use Rattle.opened_files.specs.declared.losses.Loss.TheVariants as losses
+use Rattle.damaged_files.specs.declared.sides.planning.Loss.TheVariants as losses
 use Rattle.image_edits.specs.declared.edit.Unowned.TheVariants as unowneds
-use Rattle.keeper_commands.specs.declared.finding.Candidates.TheVariants.{All, Closed}
-use Rattle.keeper_commands.specs.declared.forms.ByteForm.TheVariants as bytes
-use Rattle.keeper_commands.specs.declared.forms.RecordForm.TheVariants as records
+use Rattle.file_rescues.specs.declared.finding.Candidates.TheVariants.{All, Closed}
+use Rattle.file_rescues.specs.declared.forms.ByteForm.TheVariants as bytes
+use Rattle.file_rescues.specs.declared.forms.RecordForm.TheVariants as records
 use Rattle.image_edits.specs.declared.edit.Columns.TheVariants as columns
 use Rattle.disk_reports.specs.declared.texts.NameForm.TheVariants as names
 

@@ -6,7 +6,7 @@ use Rattle.clap.specs.Words.{Row, Text}
 use Rattle.line_text.specs.bytes.Texts.{AreBytes, text_of}
 use Rattle.file_changes.specs.declared.file_type.FileType.{FileType}
 use Rattle.file_changes.specs.declared.file_type.FileType.TheVariants.{Prg, Seq, Usr}
-use Rattle.keeper_commands.specs.Makes.{IsNewName}
+use Rattle.file_changes.specs.NewNames.{IsNewName}
 use Rattle.rel_records.specs.File.{IsLength}
 use Rattle.command_table.specs.Grammar.{value}
 use Rattle.ledger_jobs.specs.declared.jobs.Job.{Job}
@@ -16,7 +16,7 @@ use Rattle.opened_files.specs.declared.names.Name.{Name}
 use Rattle.ledger_cli.specs.Numbers.{length_in}
 use Rattle.ledger_cli.specs.Forms.{AreColumns, IsRecordForm, candidates_in, effect_in, loss_in}
 use Rattle.ledger_cli.specs.Positions.{HasNoColumns}
-use Rattle.keeper_commands.specs.declared.forms.RecordForm.{RecordForm}
+use Rattle.file_rescues.specs.declared.forms.RecordForm.{RecordForm}
 use Rattle.image_edits.specs.declared.edit.Columns.{Columns}
 use Rattle.image_edits.specs.declared.edit.Edit.TheVariants as edits
 use Rattle.image_looks.specs.declared.kinds.Look.TheVariants as looks

@@ -4,8 +4,8 @@ use Rattle.std.specs.List.{AllByRecursion}
 use Rattle.clap.specs.Words.{Row, Text, first_of}
 use Rattle.request_cards.specs.Texts.{commas}
 use Rattle.line_text.specs.columns.Positions.{ArePositions, starts}
-use Rattle.keeper_commands.specs.declared.forms.ColumnForm.{ColumnForm}
-use Rattle.keeper_commands.specs.declared.forms.ColumnForm.TheVariants as forms
+use Rattle.file_rescues.specs.declared.forms.ColumnForm.{ColumnForm}
+use Rattle.file_rescues.specs.declared.forms.ColumnForm.TheVariants as forms
 use Rattle.ledger_cli.specs.Flags.{is_given}
 use Rattle.ledger_cli.specs.declared.faults.JobFault.{JobFault}
 use Rattle.ledger_cli.specs.declared.faults.JobFault.TheVariants as faults

@@ -8,7 +8,7 @@ use command_faults::CommandFault;
 use disk_changes::{Change, change};
 use folder_changes::show_change;
 use image_edits::{Effect, change_end};
-use shop_commands::put_whole;
+use shop_commands::print_whole;
 use std::alloc::Global;
 use std::io::{Seek, Write};
 
@@ -31,7 +31,7 @@ fn write_changed<F: Write + Seek, W: Write>(
     if write_over(file, made.disk.bytes()).is_err() {
         return Err(CommandFault::Device);
     }
-    match put_whole(out, made.text.as_slice()) {
+    match print_whole(out, made.text.as_slice()) {
         Ok(()) => Ok(made.left),
         Err(_) => Err(CommandFault::File),
     }

@@ -8,7 +8,7 @@ use crate::faults::JobFault;
 use crate::values::{is_given, optional_value};
 use arrayvec::ArrayVec;
 use clap::ArgMatches;
-use keeper_commands::ColumnForm;
+use file_rescues::ColumnForm;
 use line_text::{MOST_PIECES, Positions, number, number_before_comma};
 
 /// Appends a position, or returns that there are 32 already.

@@ -142,7 +142,7 @@ where
 
 /// Does a job over an output, and over standard error if it reports there. A person who waits for long work sees how far
 /// it is.
-fn do_watched<F, R, W, E>(
+fn run_with_progress<F, R, W, E>(
     rt: &NotedRuntime<'_, '_, R>,
     job: &Job<'_>,
     told: Audience,
@@ -169,7 +169,7 @@ where
 }
 
 /// Does a job over an output that is gathered, and keeps why calls of the system failed.
-fn do_noted<'a, F, R, E>(
+fn run_keeping_causes<'a, F, R, E>(
     rt: &R,
     job: &Job<'a>,
     told: Audience,
@@ -185,7 +185,7 @@ where
     let files = files_of(job);
     let noted = NotedRuntime::new(rt, files.as_slice(), failures);
     match BufWriter::with_capacity(rt.alloc(), OUTPUT_ROOM, io::writer(&noted)) {
-        Ok(mut out) => do_watched(&noted, job, told, &mut out, err),
+        Ok(mut out) => run_with_progress(&noted, job, told, &mut out, err),
         Err(_) => Err(CommandFault::NoMemory),
     }
 }
@@ -221,7 +221,10 @@ where
         announce(rt, job, err);
     }
     let failures = Failures::none();
-    let ended = awaited(do_noted(rt, job, told, &failures, err), failures.cause());
+    let ended = awaited(
+        run_keeping_causes(rt, job, told, &failures, err),
+        failures.cause(),
+    );
     let status = end(ended, err).status;
     if told == Audience::Program {
         return status;

@@ -55,7 +55,7 @@ fn obey<F: Write + Seek + Drop, W: Write>(
 ///
 /// Bytes that the job doesn't read are empty. `image` has the bytes of IMAGE. `script` has those of SCRIPT, RECORDS
 /// or FILE. For `Compare` they have the first image and the second one. Lines with a column for
-/// each field, or at positions, are made plain before the call (`plain_lines` of `keeper_commands`).
+/// each field, or at positions, are made plain before the call (`plain_lines` of `file_rescues`).
 ///
 /// `file` is IMAGE for writing, at its start, for a job that writes it, and the copy for `Copy`. If it is missing, such
 /// a job ends with 3 and `FILE`, and nothing is printed. A job that only reads leaves it as it was. There are no logs:

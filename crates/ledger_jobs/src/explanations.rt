@@ -7,7 +7,7 @@ use crate::failure_lines::{tell_device, tell_files, tell_of, tell_of_image};
 use crate::job_files::{first_file, image_of, text_of};
 use crate::jobs::Job;
 use crate::near_names::tell_name;
-use crate::refusal_subjects::{About, subject_of};
+use crate::refusal_subjects::{Advice, subject_of};
 use crate::size_lines::{missized_of, tell_size};
 use command_faults::CommandFault;
 use image_file::{Failure, HostFiles, Locks};
@@ -73,21 +73,21 @@ where
 {
     let image = image_of(job);
     match subject_of(job, refusal) {
-        About::Files => tell_files(rt, job, cause, err),
-        About::Size => {
+        Advice::Files => tell_files(rt, job, cause, err),
+        Advice::Size => {
             if let Some(image) = missized_of(rt, job) {
                 tell_size(rt, image, err);
             }
         }
-        About::Device => tell_device(job, cause, err),
-        About::Image(said) => tell_of_image(err, job, said),
-        About::Name => {
+        Advice::Device => tell_device(job, cause, err),
+        Advice::Image(said) => tell_of_image(err, job, said),
+        Advice::Name => {
             if let Some(image) = first_file(job) {
                 tell_name(rt, job, image, err);
             }
         }
-        About::Text(said) => tell_of(err, text_of(job).unwrap_or(image), said),
-        About::Made => tell_made(rt, job, err),
-        About::Nothing => {}
+        Advice::Text(said) => tell_of(err, text_of(job).unwrap_or(image), said),
+        Advice::Made => tell_made(rt, job, err),
+        Advice::Nothing => {}
     }
 }

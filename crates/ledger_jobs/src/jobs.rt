@@ -1,8 +1,8 @@
 //! What the program can be asked to do.
 
+use file_rescues::Choice;
 use image_edits::{Edit, Effect};
 use image_looks::Look;
-use keeper_commands::Choice;
 use opened_files::{Loss, Name};
 
 /// What the words of a command line ask for.

@@ -2,8 +2,8 @@
 
 use crate::near_names::NO_SUCH_FILE;
 use crate::refusal_subjects::{
-    BAD_LINE, CUT_SHORT, FEWER, FOREIGN_LOG, FORMAT, GEOS, KEPT, LOCKED, LOG_AWAY, NAMED, NO_MEMORY,
-    NO_ROOM, NO_SHOP, SECOND_NAME, SHOP_FILE, TAKEN, said_of_fault,
+    BAD_LINE, CUT_SHORT, FEWER, FOREIGN_LOG, FORMAT, GEOS, KEPT, LOCKED, LOG_AWAY, NAMED,
+    NO_MEMORY, NO_ROOM, NO_SHOP, SECOND_NAME, SHOP_FILE, TAKEN, said_of_fault,
 };
 use crate::size_lines::SIZE;
 use d64_image::Place;
@@ -44,7 +44,9 @@ pub fn meaning_of(word: &str) -> Option<&'static str> {
         "DISK FULL" => Some(NO_ROOM),
         "LOCKED" => Some(LOCKED),
         "SHOP FILE" => Some(SHOP_FILE),
-        "NO STOCK" | "NO REQUESTS" | "BAD CARD" | "BAD REQUEST CARD" | "TWO INTENTS" => Some(NO_SHOP),
+        "NO STOCK" | "NO REQUESTS" | "BAD CARD" | "BAD REQUEST CARD" | "TWO INTENTS" => Some(
+            NO_SHOP,
+        ),
         "SCRIPT LINE" | "RECORDS LINE" => Some(BAD_LINE),
         "LOG" => Some(FOREIGN_LOG),
         "LOG AWAY" => Some(LOG_AWAY),

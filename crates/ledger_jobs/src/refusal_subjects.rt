@@ -6,7 +6,7 @@ use d64_image::Place;
 use disk_layout::{Fault, map_place};
 
 /// What a line for a person is about.
-pub(crate) enum About {
+pub(crate) enum Advice {
     /// A file that couldn't be opened or read, or the output.
     Files,
     /// The image's size.
@@ -98,9 +98,11 @@ pub(crate) const TAKEN: &str = "another program has it; end that one first";
 
 pub(crate) const NAMED: &str = "a file has this name; `ledger list` shows them";
 
-pub(crate) const NO_ROOM: &str = "it has too few free blocks, or no room in its directory; nothing was done";
+pub(crate) const NO_ROOM: &str =
+    "it has too few free blocks, or no room in its directory; nothing was done";
 
-pub(crate) const NO_MEMORY: &str = "memory was refused; what was answered stays in it, or in its log";
+pub(crate) const NO_MEMORY: &str =
+    "memory was refused; what was answered stays in it, or in its log";
 
 pub(crate) const LOCKED: &str = "the file is locked: `ledger list` prints `<` after its type";
 
@@ -114,41 +116,41 @@ pub(crate) const GEOS: &str = "it is a disk of GEOS, which keeps sectors that no
 pub(crate) const FORMAT: &str = "its format byte isn't $41; it may be no disk of the 1541";
 
 /// What a fault of a command is about.
-fn about_fault(fault: CommandFault) -> About {
+fn about_fault(fault: CommandFault) -> Advice {
     match fault {
-        CommandFault::File => About::Files,
-        CommandFault::ImageSize => About::Size,
-        CommandFault::Layout(fault) => About::Image(said_of_fault(fault)),
-        CommandFault::NoFile => About::Name,
-        CommandFault::FileExists => About::Image(NAMED),
-        CommandFault::DiskFull => About::Image(NO_ROOM),
-        CommandFault::Locked => About::Image(LOCKED),
-        CommandFault::NoStock | CommandFault::NoRequests => About::Image(NO_SHOP),
-        CommandFault::BadCard(_) | CommandFault::BadRequestCard(_) => About::Image(NO_SHOP),
-        CommandFault::TwoIntents => About::Image(NO_SHOP),
-        CommandFault::ScriptLine(_) | CommandFault::RecordsLine(_) => About::Text(BAD_LINE),
-        CommandFault::Geos => About::Image(GEOS),
-        CommandFault::Format => About::Image(FORMAT),
-        CommandFault::Device => About::Device,
-        CommandFault::NoMemory => About::Image(NO_MEMORY),
-        CommandFault::NotReady => About::Files,
-        CommandFault::InUse => About::Image("another program has it; end that one first"),
-        CommandFault::Kept(_) => About::Image(KEPT),
-        CommandFault::PathExists => About::Made,
-        CommandFault::Log => About::Image(FOREIGN_LOG),
-        CommandFault::LogAway => About::Image(LOG_AWAY),
-        CommandFault::TwoNames => About::Image(SECOND_NAME),
-        CommandFault::Short(_) => About::Image(CUT_SHORT),
-        CommandFault::ShopFile => About::Image(SHOP_FILE),
-        CommandFault::Trimmed => About::Image(JUDGED),
-        CommandFault::Several(_) => About::Nothing,
+        CommandFault::File => Advice::Files,
+        CommandFault::ImageSize => Advice::Size,
+        CommandFault::Layout(fault) => Advice::Image(said_of_fault(fault)),
+        CommandFault::NoFile => Advice::Name,
+        CommandFault::FileExists => Advice::Image(NAMED),
+        CommandFault::DiskFull => Advice::Image(NO_ROOM),
+        CommandFault::Locked => Advice::Image(LOCKED),
+        CommandFault::NoStock | CommandFault::NoRequests => Advice::Image(NO_SHOP),
+        CommandFault::BadCard(_) | CommandFault::BadRequestCard(_) => Advice::Image(NO_SHOP),
+        CommandFault::TwoIntents => Advice::Image(NO_SHOP),
+        CommandFault::ScriptLine(_) | CommandFault::RecordsLine(_) => Advice::Text(BAD_LINE),
+        CommandFault::Geos => Advice::Image(GEOS),
+        CommandFault::Format => Advice::Image(FORMAT),
+        CommandFault::Device => Advice::Device,
+        CommandFault::NoMemory => Advice::Image(NO_MEMORY),
+        CommandFault::NotReady => Advice::Files,
+        CommandFault::InUse => Advice::Image("another program has it; end that one first"),
+        CommandFault::StraysLeft(_) => Advice::Image(KEPT),
+        CommandFault::PathExists => Advice::Made,
+        CommandFault::Log => Advice::Image(FOREIGN_LOG),
+        CommandFault::LogAway => Advice::Image(LOG_AWAY),
+        CommandFault::TwoNames => Advice::Image(SECOND_NAME),
+        CommandFault::Short(_) => Advice::Image(CUT_SHORT),
+        CommandFault::ShopFile => Advice::Image(SHOP_FILE),
+        CommandFault::Trimmed => Advice::Image(JUDGED),
+        CommandFault::Several(_) => Advice::Nothing,
     }
 }
 
 /// What a refusal of this job is about.
-pub(crate) fn subject_of(job: &Job<'_>, refusal: CommandFault) -> About {
+pub(crate) fn subject_of(job: &Job<'_>, refusal: CommandFault) -> Advice {
     match (job, refusal) {
-        (Job::Salvage { .. }, CommandFault::Log) => About::Image(NO_BASE),
+        (Job::Salvage { .. }, CommandFault::Log) => Advice::Image(NO_BASE),
         (_, fault) => about_fault(fault),
     }
 }

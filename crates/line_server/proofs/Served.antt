@@ -21,11 +21,11 @@ use Rattle.host_session.specs.declared.runs.event_loop.LoopFault.{LoopFault}
 use Rattle.host_session.specs.declared.runs.event_loop.LoopFault.TheVariants as faults
 use Rattle.line_text.specs.scripts.Lines.{lines}
 use Rattle.line_server.specs.Answering.{Answering, answered}
-use Rattle.line_server.specs.Flushing.{lent}
+use Rattle.line_server.specs.FlushedReplies.{lent}
 use Rattle.line_server.specs.Giving.{Input}
 use Rattle.line_server.specs.Inputs.{HasTaken, asked_in, instants_in, line_messages, of_input}
 use Rattle.line_server.specs.Serves.{AreAskedFor, AreServed, AreServedToDevice, AreServedToOutput, IsServed, IsUnwritten}
-use Rattle.line_server.specs.declared.flushing.Flushing.{Flushing}
+use Rattle.line_server.specs.declared.flushing.FlushedReplies.{FlushedReplies}
 use Rattle.line_server.specs.declared.inputs.InputEvents.{InputEvents}
 use Rattle.line_server.proofs.Handled.{handled_run}
 use Rattle.line_server.proofs.Same.{same_instants, same_run, same_run_to_failure, same_within, uncut_same}
@@ -36,14 +36,14 @@ all_uncut [] = tt
 all_uncut (l ∷ ls) = (refl, all_uncut ls)
 
 module _ {D R T : Type 0} (h : History D) (i : Input R) (a : Answering T) (disk : D)
-    (asked asks : InputEvents R) (old new : Flushing T) where
+    (asked asks : InputEvents R) (old new : FlushedReplies T) where
   abbrev Ran : Result D (LoopFault × D) → Type 0
   Ran r = IsRun h (of_input i) (lent (answered a)) disk asked asks old new r
 
   -- the output is still the one that was lent
   still_lent : (r : Result D (LoopFault × D)) → Ran r → new.out.ghost_name ≡ old.out.ghost_name
   still_lent (Ok left) k = let s = k.shop.0 in (k.ok s.0 s.1).0.told.0
-  still_lent (Err (faults.Open f, left)) k = ap (λ (x : Flushing T). x.out.ghost_name) (k.«open» f refl).3
+  still_lent (Err (faults.Open f, left)) k = ap (λ (x : FlushedReplies T). x.out.ghost_name) (k.«open» f refl).3
   still_lent (Err (faults.Input, left)) k = let s = k.after (inl refl) in (k.input s.0 s.1 refl).1.0.told.0
   still_lent (Err (faults.Output, left)) k = let s = k.after (inr refl) in (k.output s.0 s.1 refl).0.told.0
   still_lent (Err (faults.Device, left)) k =
@@ -218,7 +218,7 @@ module _ {D R T : Type 0} (h : History D) (i : Input R) (a : Answering T) (disk 
     «open» = λ f is. (
       (k.«open» f is).0,
       ap (λ (a : InputEvents R). a.input.now) (k.«open» f is).2,
-      ap (λ (a : Flushing T). a.out.now) (k.«open» f is).3,
+      ap (λ (a : FlushedReplies T). a.out.now) (k.«open» f is).3,
     );
     cause = k.cause;
     after = k.after;

@@ -5,8 +5,8 @@ use Rattle.request_cards.specs.declared.reply.Reply.{Reply}
 use Rattle.host_session.specs.events.Instants.{Instant}
 use Rattle.host_session.specs.events.Telling.{BreaksOff, IsTold, Output, TellsNone, TellsOne}
 use Rattle.line_server.specs.Answering.{HandedOnInTurn, answered, at_once, of_output}
-use Rattle.line_server.specs.Flushing.{lent}
-use Rattle.line_server.specs.declared.flushing.Flushing.{Flushing}
+use Rattle.line_server.specs.FlushedReplies.{lent}
+use Rattle.line_server.specs.declared.flushing.FlushedReplies.{FlushedReplies}
 
 module _ {T : Type 0} (o : Output T) where
   -- one reply more, told and then handed on
@@ -60,7 +60,7 @@ module _ {T : Type 0} (o : Output T) where
   told_so a d reply at (Err _) x = (λ first xs k. (x.0 first xs k.0, refl), x.1)
 
   -- the same of the output that was lent
-  pub lent_told : {E : Type 0} (old new : Flushing T) (reply : Reply) (at : Instant) (result : Result Unit E)
+  pub lent_told : {E : Type 0} (old new : FlushedReplies T) (reply : Reply) (at : Instant) (result : Result Unit E)
       → new.out.ghost_name ≡ old.out.ghost_name → IsTold o old.out.now new.out.now reply at result
       → IsTold (lent o) old new reply at result
   lent_told old new reply at (Ok _) same x = (λ first xs k. (same ∙ k.0, x.0 first.out.now xs k.1), x.1)

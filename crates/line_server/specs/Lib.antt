@@ -1,7 +1,7 @@
 pub mod logged
 pub mod Answering
 pub mod Batches
-pub mod Flushing
+pub mod FlushedReplies
 pub mod Giving
 pub mod Inputs
 pub mod Read

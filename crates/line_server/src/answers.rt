@@ -4,12 +4,12 @@ ghost use Rattle.host_session.specs.events.Telling.{IsTold};
 ghost use Rattle.line_server.specs.Answering.{Answering, answered, of_output};
 
 use d64_image::Sectors;
-use host_session::ReplySink;
+use host_session::Replies;
 use line_text::NotTaken;
 use request_cards::Reply;
 
 /// An output of answers. Every output that replies can be passed to is one, and says only which replies it was passed.
-pub trait Answers<D: Sectors> {
+pub trait ServedReplies<D: Sectors> {
     /// What this output says of itself: what it was passed, and whether it may have failed.
     ghost answering: { Answering Self };
 
@@ -19,7 +19,7 @@ pub trait Answers<D: Sectors> {
         ensures { IsTold (answered answering) self.old self.new reply.now (instant_of D.history disk.now) result };
 }
 
-impl<D: Sectors, T: ReplySink<D>> Answers<D> for T {
+impl<D: Sectors, T: Replies<D>> ServedReplies<D> for T {
     ghost answering = { of_output T.output };
 
     fn answer(&mut self, reply: &Reply, disk: &D) -> Result<(), NotTaken> {

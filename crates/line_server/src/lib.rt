@@ -13,12 +13,12 @@ mod scripts;
 mod serving;
 mod sources;
 
-pub use answers::Answers;
+pub use answers::ServedReplies;
 pub use batches::{BatchSource, MOST_LINES};
-pub use flushing::Flushing;
+pub use flushing::FlushedReplies;
 pub use inputs::InputEvents;
 pub use logged::batching::serve_batches;
-pub use logged::reporting::Reports;
+pub use logged::reporting::BatchReplies;
 pub use logged::room::Room;
 pub use scripts::ScriptBatches;
 pub use serving::serve;

@@ -19,7 +19,7 @@ mod scripts;
 
 pub use bytes::laws::{lines_give_records, texts_differ};
 pub use bytes::line_reading::read_line;
-pub use bytes::line_writing::{LINE_ROOM, put_line, write_line};
+pub use bytes::line_writing::{LINE_ROOM, append_line, write_line};
 pub use bytes::reading::{MOST_BYTES, read_text};
 pub use bytes::text::Text;
 pub use bytes::trimming::trim;
@@ -35,7 +35,7 @@ pub use columns::reading::{Column, push_columns};
 pub use columns::writing::write_fields;
 pub use digits::{number, number_before_comma};
 pub use handing::{NotTaken, hand_whole};
-pub use naming::put_named;
+pub use naming::print_named;
 pub use petscii::characters::{CharacterSet, character};
 pub use petscii::file_names::{Ending, FileName, NAME_ROOM, file_name};
 pub use petscii::name_laws::{names_are_safe, names_differ};

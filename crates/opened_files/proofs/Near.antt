@@ -4,10 +4,10 @@ use Rattle.std.specs.Prelude.{IfErr, IsErr}
 use Rattle.opened_files.specs.Ends.{JobEnd}
 use Rattle.opened_files.specs.HostFiles.{IsUnbegun, IsUnread}
 use Rattle.opened_files.specs.Losses.{IsAwayFault, IsTagFault, NearRunEnds}
-use Rattle.opened_files.specs.declared.losses.Loss.{Loss}
+use Rattle.damaged_files.specs.declared.sides.planning.Loss.{Loss}
 use Rattle.command_faults.specs.declared.faults.CommandFault.{CommandFault}
 use Rattle.command_faults.specs.declared.faults.CommandFault.TheVariants as faults
-use Rattle.shop_log.specs.life.Tags.{SaysLogAway}
+use Rattle.image_log.specs.life.Tags.{SaysLogAway}
 
 -- an image that still says so isn't changed
 pub tag-fault : (loss : Loss) (image : List ℕ) (Says : Type 0) (refusal : CommandFault) → (SaysLogAway image → Says)

@@ -5,8 +5,8 @@ use Rattle.command_faults.specs.Faults.{command_status, command_text, io_fault, 
 use Rattle.command_faults.specs.declared.faults.CommandFault.{CommandFault}
 use Rattle.disk_layout.specs.declared.faults.Fault.{Fault}
 use Rattle.command_faults.specs.declared.faults.CommandFault.TheVariants as faults
-use Rattle.shop_log.specs.declared.life.landing.LogFault.{LogFault}
-use Rattle.shop_log.specs.declared.life.landing.LogFault.TheVariants as logs
+use Rattle.image_log.specs.declared.life.landing.LogFault.{LogFault}
+use Rattle.image_log.specs.declared.life.landing.LogFault.TheVariants as logs
 
 -- the line in which it is reported
 abbrev pub refusal_line : CommandFault → List ℕ

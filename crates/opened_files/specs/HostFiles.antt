@@ -6,7 +6,7 @@ use Rattle.image_file.specs.paths.Standing.{Holds, IsMissing, Stands}
 use Rattle.opened_files.specs.Ends.{JobEnd}
 use Rattle.opened_files.specs.Rights.{standard_input}
 use Rattle.command_faults.specs.declared.faults.CommandFault.{CommandFault}
-use Rattle.shop_log.specs.life.LogRights.{WhereItLeads, log_of}
+use Rattle.image_log.specs.life.LogRights.{WhereItLeads, log_of}
 
 module _ {H : Type 0} (stands : H → List ℕ → Stands) (host : H) where
   -- this holds of the bytes of the script or the text at a path, if the host says them

@@ -1,9 +1,7 @@
 -- What becomes of a disk that has lost a part of a file. All of it is our own.
 use Rattle.std.specs.Prelude.{◌≡◌, ℕ, IfErr, IsErr, List, ◌⊎◌, Option, Some, None, Result, Err, length}
-use Rattle.damaged_files.specs.declared.sides.planning.Shortened.{Shortened}
-use Rattle.damaged_files.specs.declared.sides.planning.Shortened.TheVariants as cuts
-use Rattle.opened_files.specs.declared.losses.Loss.{Loss}
-use Rattle.opened_files.specs.declared.losses.Loss.TheVariants as losses
+use Rattle.damaged_files.specs.declared.sides.planning.Loss.{Loss}
+use Rattle.damaged_files.specs.declared.sides.planning.Loss.TheVariants as losses
 use Rattle.d64_image.specs.declared.place.Place.{Place}
 use Rattle.command_faults.specs.declared.faults.CommandFault.{CommandFault}
 use Rattle.damaged_files.specs.cut.Told.{IsCutShort, IsShortfallOf}
@@ -13,7 +11,7 @@ use Rattle.d64_image.specs.Memory.{sectors_in}
 use Rattle.command_faults.specs.declared.faults.CommandFault.TheVariants as faults
 use Rattle.opened_files.specs.Ends.{JobEnd, as_run}
 use Rattle.opened_files.specs.HostFiles.{RunEnds}
-use Rattle.shop_log.specs.life.Tags.{SaysLogAway}
+use Rattle.image_log.specs.life.Tags.{SaysLogAway}
 
 -- what is seen of an image, if it has the size of a disk
 abbrev pub IsSeen : (image : List ℕ) → Option Shortfall → Type 0
@@ -72,8 +70,3 @@ IsGuarded image loss Untouched IsRun end =
 -- a run that prints no fault and ended so is reported as this end
 abbrev pub IsEndOfRun : (Result Unit CommandFault → Type 0) → JobEnd → Type 0
 IsEndOfRun IsRun end = (ended : Result Unit CommandFault) × (end ≡ as_run ended) × IsRun ended
-
--- what is done with a file that is cut short, if this is done with what is lost
-abbrev pub shortened : Loss → Shortened
-shortened losses.Refused = cuts.Refused
-shortened losses.Accepted = cuts.Accepted

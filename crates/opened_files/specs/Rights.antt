@@ -1,7 +1,7 @@
 -- What a job may do with the files that its words name, and with the logs beside them. Our own.
 use Rattle.std.specs.Prelude.{◌≡◌, ◌≢◌, ℕ, List, ◌++◌, codes}
-use Rattle.keeper_commands.specs.rescue.Folders.{StaysInside}
-use Rattle.shop_log.specs.life.LogRights.{MayForgetLog, MayKeepLog, MayReadLog}
+use Rattle.file_rescues.specs.rescue.Folders.{StaysInside}
+use Rattle.image_log.specs.life.LogRights.{MayForgetLog, MayKeepLog, MayReadLog}
 use Rattle.image_file.specs.paths.Rights.{Look, Make, May, MayRead, MayWrite, Read, Remove, Rights}
 
 -- the path that stands for standard input, which is never opened

@@ -122,7 +122,7 @@ impl<'a, R: HostFiles> Aside<'a, R> {
             self.name.as_str(),
             Identity::sized(&found, found.len()),
         ) {
-            let _ = self.rt.take_name(self.name.as_str());
+            let _ = self.rt.remove(self.name.as_str());
         }
     }
 }

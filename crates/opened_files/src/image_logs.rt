@@ -3,7 +3,7 @@ ghost use Rattle.std.specs.Prelude.{◌≡◌, IfErr, IfOk, IsNone, false, strin
 ghost use Rattle.opened_files.specs.Ends.{log_refusal as refusal_of};
 ghost use Rattle.opened_files.specs.HostFiles.{HasNoLog, IsUnbegun, IsUnopened, IsUnread, IsUntaken};
 ghost use Rattle.opened_files.specs.Rights.{MayChangeImage, MayReadFile};
-ghost use Rattle.shop_log.specs.life.LogRights.{MayKeepLogOf, MayReadLogOf, log_of};
+ghost use Rattle.image_log.specs.life.LogRights.{MayKeepLogOf, MayReadLogOf, log_of};
 ghost use Rattle.image_file.specs.paths.Rights.{Look, May, MayRead, MayWrite};
 ghost use Rattle.image_file.specs.paths.Standing.{AreOf, IsMissing};
 ghost use Rattle.image_file.specs.paths.Traces.{IsOpened};
@@ -13,7 +13,7 @@ use crate::losses::Loss;
 use command_faults::CommandFault;
 use d64_image::IMAGE_BYTES;
 use image_file::{EndedFile, HostFiles, Locks, opened_to_change, opened_to_read};
-use shop_log::{
+use image_log::{
     ImageFolder, ImageView, LogFault, LogNames, land_in, sync_names, untag_file, view_in,
 };
 use std::fs::OpenFile;

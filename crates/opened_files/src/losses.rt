@@ -1,36 +1,16 @@
 //! What a disk has lost of its files.
 ghost use Rattle.std.specs.Prelude.{◌≡◌, IfErr, IfOk, OnOk};
-ghost use Rattle.opened_files.specs.Losses.{shortened as shortened_of, IsAwayFault, IsJudged, IsNear, IsSeen, IsTagFault, short_refusal as refused_short};
+ghost use Rattle.opened_files.specs.Losses.{IsAwayFault, IsJudged, IsNear, IsSeen, IsTagFault, short_refusal as refused_short};
 ghost use Rattle.command_faults.specs.declared.faults.CommandFault.TheVariants.{NoMemory};
-ghost use Rattle.shop_log.specs.life.Tags.{SaysLogAway};
+ghost use Rattle.image_log.specs.life.Tags.{SaysLogAway};
 
 use command_faults::CommandFault;
 use d64_image::ImageFault;
-use damaged_files::{Shortened, Shortfall, find_image_shortfall};
+pub use damaged_files::Loss;
+use damaged_files::{Shortfall, find_image_shortfall};
 use disk_layout::Fault;
-use shop_log::is_log_away;
+use image_log::is_log_away;
 use std::alloc::Global;
-
-/// What a job does on a disk that has lost a part of a file.
-#[derive(Clone, Copy, Debug, PartialEq, Eq)]
-pub enum Loss {
-    /// It leaves the disk as it is.
-    Refused,
-    /// It goes on, and what is lost stays lost.
-    Accepted,
-}
-
-impl Loss {
-    /// The same, of a file that is cut short.
-    pub fn shortened(self) -> Shortened
-        ensures { result ≡ shortened_of self }
-    {
-        match self {
-            Loss::Refused => Shortened::Refused,
-            Loss::Accepted => Shortened::Accepted,
-        }
-    }
-}
 
 /// Refuses an image that says that its log has the rest of it, unless that loss is accepted: `LogAway`.
 pub fn see_log_away(image: &[u8], loss: Loss) -> Result<(), CommandFault>

@@ -1,11 +1,11 @@
 //! Names of files, as they are typed.
 ghost use Rattle.std.specs.Prelude.{◌≡◌, ◌-◌, ◌↔◌, ℕ, List, IfSome, IsNone, IsTrue, Some, length, slice_get};
 ghost use Rattle.line_text.specs.bytes.Texts.{AreBytes};
-ghost use Rattle.keeper_commands.specs.Makes.{IsNewName};
+ghost use Rattle.file_changes.specs.NewNames.{IsNewName};
 ghost use Rattle.opened_files.specs.Names.{IsNameOf, name_bytes};
 
 use arrayvec::ArrayVec;
-use keeper_commands::is_new_name;
+use file_changes::is_new_name;
 use line_text::read_text;
 
 /// How many bytes a name has at most.

@@ -4,14 +4,14 @@ ghost use Rattle.image_file.specs.Replacing.{NowAll};
 ghost use Rattle.image_file.specs.paths.Rights.{Look, Make, May};
 ghost use Rattle.opened_files.specs.Makings.{IsMadeAt};
 ghost use Rattle.opened_files.specs.Rights.{MayMakeImage, aside_of};
-ghost use Rattle.shop_log.specs.life.LogRights.{MayForget, log_of};
+ghost use Rattle.image_log.specs.life.LogRights.{MayForget, log_of};
 
 use crate::asides::Aside;
 use crate::image_logs::is_there;
 use crate::locks::lock_exclusive;
 use command_faults::CommandFault;
 use image_file::{EndedFile, HostFiles, Identity, Locks, private_mode, regular, replace_image};
-use shop_log::{LogNames, forget_log};
+use image_log::{LogNames, forget_log};
 use std::fs::{Metadata, OpenFile};
 use std::io;
 

@@ -4,7 +4,7 @@ ghost use Rattle.image_file.specs.paths.Rights.{MayWrite};
 ghost use Rattle.image_file.specs.paths.Traces.{IsWrittenOver};
 ghost use Rattle.opened_files.specs.Makings.{IsMadeAt, IsPutAt};
 ghost use Rattle.opened_files.specs.Rights.{MayMakeImage};
-ghost use Rattle.shop_log.specs.life.LogRights.{MayForget};
+ghost use Rattle.image_log.specs.life.LogRights.{MayForget};
 
 use crate::asides::Aside;
 use crate::files::is_file_at;
@@ -12,7 +12,7 @@ use crate::image_logs::see_one_place;
 use crate::new_images::{clear, fill, take};
 use command_faults::CommandFault;
 use image_file::{EndedFile, HostFiles, Identity, Locks, replace_image};
-use shop_log::{LogNames, find_log, forget_log};
+use image_log::{LogNames, find_log, forget_log};
 use std::fs::OpenFile;
 
 /// Makes the image at a path where nothing stands. `log` stays, if it stands there.

@@ -18,7 +18,7 @@ mod steps;
 use crate::faults::RelFault;
 use crate::growth::filling::fill_up;
 use crate::growth::gathering::read_parts;
-use crate::growth::step_parts::Parts;
+use crate::growth::step_parts::Growing;
 use crate::growth::steps::add_block;
 use crate::reading::counting::{has_records, records};
 use crate::rel_file::RelFile;
@@ -36,7 +36,7 @@ fn sectors_needed(blocks: u16, wanted: u16) -> u16
 }
 
 /// Gives blocks, one after another, to a file that is filled up, until it has `wanted`.
-fn add_blocks<D: Sectors>(disk: &mut D, parts: &mut Parts, wanted: u16) -> Result<(), DeviceFault>
+fn add_blocks<D: Sectors>(disk: &mut D, parts: &mut Growing, wanted: u16) -> Result<(), DeviceFault>
     requires at { StandsFilled (D.history.image disk.old) parts.old }
     requires more { length parts.old.blocks.items ≤ wanted }
     requires few { wanted ≤ 720 }
@@ -55,13 +55,13 @@ fn add_blocks<D: Sectors>(disk: &mut D, parts: &mut Parts, wanted: u16) -> Resul
 }
 
 /// The file as growth leaves it.
-fn renew(file: &mut RelFile, parts: Parts)
+fn renew(file: &mut RelFile, parts: Growing)
     requires some { 1 ≤ length parts.blocks.items }
     requires sides { length parts.sides.items ≡ sides_for (length parts.blocks.items) }
     ensures kept { IsKeptOf file.new parts }
     ensures entry { entry_of file.new ≡ entry_of file.old }
 {
-    let Parts {
+    let Growing {
         map: _,
         sector,
         number,

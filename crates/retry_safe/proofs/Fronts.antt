@@ -7,7 +7,7 @@ use Rattle.line_server.proofs.lemmas.logged.Lines.{behind_none}
 use Rattle.line_server.specs.logged.Serves.{HoldsFirst, StayFrom, shop_behind}
 use Rattle.request_cards.specs.declared.reply.Reply.{Reply}
 use Rattle.retry_safe.specs.RetrySafeOver.{AreKept}
-use Rattle.shop_log.specs.ImageLogs.{LogHistory}
+use Rattle.image_log.specs.ImageLogs.{LogHistory}
 
 -- The image is the shop's after some first lines, of which there are so many at least.
 pub record Front (s : Shop) (ls : List (List ℕ)) (n : ℕ) (image : Image) : Type 0 where

@@ -36,7 +36,7 @@ use Rattle.retry_safe.specs.Left.{IsReceived, shop_after_both}
 use Rattle.retry_safe.specs.RetrySafe.{IsOpened, Reopened, left_of}
 use Rattle.retry_safe.specs.Turns.{asks_in}
 use Rattle.line_text.specs.scripts.Lines.{lines}
-use Rattle.shop_log.specs.ImageLogs.{LogHistory}
+use Rattle.image_log.specs.ImageLogs.{LogHistory}
 
 -- the cards once the message was answered
 cards_after : (s : Shop) (ls : List (List ℕ)) (again : List ℕ)

@@ -23,7 +23,7 @@ use Rattle.retry_safe.specs.Left.{IsReceived, shop_after, shop_after_both}
 use Rattle.retry_safe.specs.RetrySafe.{IfAnswered, Reopened}
 use Rattle.retry_safe.specs.Turns.{Applied, EachTurn, IsLastOfTill, Turn, counted_in}
 use Rattle.line_text.specs.scripts.Lines.{lines}
-use Rattle.shop_log.specs.ImageLogs.{LogHistory}
+use Rattle.image_log.specs.ImageLogs.{LogHistory}
 
 -- the first n lines count, and with them each line from the k-th on whose reply was reported by that moment
 abbrev pub AreKept : {L : Type 0} → LogHistory L → ℕ → ℕ → ℕ → List (Reply × L) → Type 0

@@ -8,9 +8,9 @@ use crate::power::PowerLoss;
 use crate::power_loss::ask;
 use d64_image::MemDisk;
 use host_session::{PlayFault, Session};
-use line_server::{BatchSource, Reports, Room, serve_batches};
+use image_log::ImageLog;
+use line_server::{BatchReplies, BatchSource, Room, serve_batches};
 use request_cards::Reply;
-use shop_log::ImageLog;
 
 /// Serves the shop of a disk over a log until the input ends or something fails, lets power go, opens what is left, and
 /// has a message asked again.
@@ -20,7 +20,7 @@ use shop_log::ImageLog;
 ///
 /// `NoMemory`: the disk that is left couldn't be had. `Open`: it is no shop's, as if the one that was served was none.
 /// `Device` is never returned. It takes no memory but the room, and as much stack as an opening (docs/EMBED.md).
-pub fn retry_after_log_loss<L: ImageLog, R: BatchSource, T: Reports<L>, P: PowerLoss<L>>(
+pub fn retry_after_log_loss<L: ImageLog, R: BatchSource, T: BatchReplies<L>, P: PowerLoss<L>>(
     disk: MemDisk,
     log: &mut L,
     input: &mut R,

@@ -5,7 +5,7 @@ ghost use Rattle.d64_image.specs.Memory.{disk_image};
 ghost use Rattle.retry_safe.specs.RetrySafeOver.{image_had};
 
 use d64_image::{ImageFault, MemDisk};
-use shop_log::ImageLog;
+use image_log::ImageLog;
 
 /// Power that goes at a moment of a log, and what is left then.
 pub trait PowerLoss<L: ImageLog> {

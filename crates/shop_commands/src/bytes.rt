@@ -10,7 +10,7 @@ use std::io::Write;
 
 /// Passes all of these bytes to the writer, and flushes it. `File` if it failed; then it has the first of these bytes, or
 /// all.
-pub fn put_whole<W: Write>(out: &mut W, bytes: &[u8]) -> Result<(), CommandFault>
+pub fn print_whole<W: Write>(out: &mut W, bytes: &[u8]) -> Result<(), CommandFault>
     ensures ok { OnOk result (Appends (W.contents out.old) (W.contents out.new) bytes.now) }
     ensures err { IfErr result (λ fault.
         (fault ≡ faults.File) × AppendsPart (W.contents out.old) (W.contents out.new) bytes.now) }

@@ -10,7 +10,7 @@ mod playing;
 mod showing;
 mod shows;
 
-pub use bytes::put_whole;
+pub use bytes::print_whole;
 pub use dry_run::{DryFault, dry};
 pub use faults::{of_opening, of_script};
 pub use formatting::fresh_disk;

@@ -9,11 +9,11 @@ ghost use Rattle.shop_commands.specs.Plays.{IsFileFault, IsPlayEnd, IsPlayedFile
 use crate::faults::of_script;
 use command_faults::{CommandFault, file_of, load};
 use d64_image::{KeptMirror, SectorFile, Sectors};
-use host_session::{ReplySink, ScriptFault, play_script};
+use host_session::{Replies, ScriptFault, play_script};
 use std::alloc::Global;
 
 /// The outcome of a run that this fault ended. Replies that were passed before it are handed on.
-fn told<D: Sectors, T: ReplySink<D>>(fault: ScriptFault, out: &mut T) -> CommandFault
+fn told<D: Sectors, T: Replies<D>>(fault: ScriptFault, out: &mut T) -> CommandFault
     ensures value { result ≡ script_fault fault }
     ensures silent { (fault ≢ ScriptFault.Output) → (fault ≢ ScriptFault.Device) → out.new ≡ out.old }
     ensures told { TellsNone T.output out.old out.new }
@@ -34,7 +34,7 @@ fn told<D: Sectors, T: ReplySink<D>>(fault: ScriptFault, out: &mut T) -> Command
 /// `BadLine`, the first bad line, and the faults of an opening, in its order: nothing was done then. After `File` the
 /// output failed; the lines that were played stand. `Device` if the device failed: the last reply is `MEDIA`, or
 /// `CUT` if it failed in the recovery.
-pub fn play_image<D: Sectors, T: ReplySink<D>>(
+pub fn play_image<D: Sectors, T: Replies<D>>(
     disk: D,
     script: &[u8],
     out: &mut T,
@@ -59,7 +59,7 @@ pub fn play_image<D: Sectors, T: ReplySink<D>>(
 /// `Device` if the file failed.
 // Out of line: a session is large, and a frame that has its room touches each page of it.
 #[inline(never)]
-pub fn play_file<F: SectorFile, T: ReplySink<KeptMirror<F>>>(
+pub fn play_file<F: SectorFile, T: Replies<KeptMirror<F>>>(
     alloc: Global,
     image: &[u8],
     script: &[u8],

@@ -7,7 +7,7 @@ ghost use Rattle.shop_commands.specs.Shows.{card_lines, cards_to, shown_shop, ti
 ghost use Rattle.command_faults.specs.declared.faults.CommandFault.TheVariants as faults;
 
 use crate::faults::of_opening;
-use crate::shows::{put_till, put_top, write_item};
+use crate::shows::{print_till, print_top, write_item};
 use command_faults::{CommandFault, flush, load, put};
 use d64_image::Sectors;
 use host_session::Session;
@@ -53,7 +53,7 @@ fn write_cards<D: Sectors>(
 }
 
 /// Prints the cards of the shop, in the order of the items.
-fn put_cards<D: Sectors, W: Write>(session: &Session<D>, out: &mut W) -> Result<(), CommandFault>
+fn print_cards<D: Sectors, W: Write>(session: &Session<D>, out: &mut W) -> Result<(), CommandFault>
     requires alive { session.now.dead ≡ false }
     ensures ok { (s : Shop) → IsShop (D.history.image session.now.disk) s
         → OnOk result (Appends (W.contents out.old) (W.contents out.new) (card_lines s.state)) }
@@ -68,7 +68,7 @@ fn put_cards<D: Sectors, W: Write>(session: &Session<D>, out: &mut W) -> Result<
 }
 
 /// Prints the last two requests of each till, in the order of the tills.
-fn put_tills<D: Sectors, W: Write>(session: &Session<D>, out: &mut W) -> Result<(), CommandFault>
+fn print_tills<D: Sectors, W: Write>(session: &Session<D>, out: &mut W) -> Result<(), CommandFault>
     requires alive { session.now.dead ≡ false }
     ensures ok { (s : Shop) → IsShop (D.history.image session.now.disk) s
         → OnOk result (Appends (W.contents out.old) (W.contents out.new) (till_lines s.state)) }
@@ -79,13 +79,13 @@ fn put_tills<D: Sectors, W: Write>(session: &Session<D>, out: &mut W) -> Result<
         let (Ok(kept), Ok(prior)) = (session.kept(till), session.prior(till)) else {
             return Err(CommandFault::Device);
         };
-        put_till(out, kept, prior)?;
+        print_till(out, kept, prior)?;
     }
     Ok(())
 }
 
 /// Prints all that is shown of an open shop, and hands it over. `File` if the output failed.
-pub(crate) fn put_shop<D: Sectors, W: Write>(
+pub(crate) fn print_shop<D: Sectors, W: Write>(
     session: &Session<D>,
     out: &mut W,
 ) -> Result<(), CommandFault>
@@ -94,9 +94,9 @@ pub(crate) fn put_shop<D: Sectors, W: Write>(
         → OnOk result (Appends (W.contents out.old) (W.contents out.new) (shown_shop s.top s.state)) }
     ensures err { IfErr result (λ fault. fault ≡ faults.File) }
 {
-    put_top(out, session.top())?;
-    put_cards(session, out)?;
-    put_tills(session, out)?;
+    print_top(out, session.top())?;
+    print_cards(session, out)?;
+    print_tills(session, out)?;
     flush(out)
 }
 
@@ -120,7 +120,7 @@ pub fn show_image<W: Write>(alloc: Global, image: &[u8], out: &mut W) -> Result<
     let disk = load(alloc, image)?;
     match Session::open(disk) {
         Ok(session) => {
-            let shown = put_shop(&session, out);
+            let shown = print_shop(&session, out);
             let _ = session.close();
             shown
         }

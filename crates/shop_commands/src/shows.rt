@@ -5,7 +5,7 @@ ghost use Rattle.shop_commands.specs.Shows.{card_line, card_part, told_line, tol
 ghost use Rattle.command_faults.specs.declared.faults.CommandFault.TheVariants as faults;
 ghost use Rattle.request_cards.specs.Texts.{answer_text};
 
-use command_faults::{CommandFault, put, put_line};
+use command_faults::{CommandFault, print_line, put};
 use itoa::write_digits;
 use request_cards::{Answer, Request, write_before};
 use std::fmt::{self, Display, Formatter};
@@ -32,7 +32,7 @@ impl Display for AnswerText {
 }
 
 /// Prints how far new cards may go.
-pub(crate) fn put_top<W: Write>(out: &mut W, top: u16) -> Result<(), CommandFault>
+pub(crate) fn print_top<W: Write>(out: &mut W, top: u16) -> Result<(), CommandFault>
     ensures ok { OnOk result (Appends (W.contents out.old) (W.contents out.new) (top_line top)) }
     ensures err { IfErr result (λ fault. fault ≡ faults.File) }
 {
@@ -80,7 +80,7 @@ pub(crate) fn write_item(item: u16, quantity: Option<u32>, room: &mut [u8], end:
 }
 
 /// Prints a request and its answer after a word.
-fn put_line_of<W: Write>(
+fn print_line_of<W: Write>(
     out: &mut W,
     word: &[u8],
     request: Request,
@@ -93,11 +93,11 @@ fn put_line_of<W: Write>(
     put(out, word)?;
     put(out, request.print().as_slice())?;
     put(out, b",")?;
-    put_line(out, AnswerText(answer))
+    print_line(out, AnswerText(answer))
 }
 
 /// Prints the line of a request, if there is one.
-fn put_told<W: Write>(
+fn print_told<W: Write>(
     out: &mut W,
     word: &[u8],
     told: Option<(Request, Answer)>,
@@ -106,13 +106,13 @@ fn put_told<W: Write>(
     ensures err { IfErr result (λ fault. fault ≡ faults.File) }
 {
     match told {
-        Some((request, answer)) => put_line_of(out, word, request, answer),
+        Some((request, answer)) => print_line_of(out, word, request, answer),
         None => Ok(()),
     }
 }
 
 /// Prints a till's last request and the one before it, each with its answer, as far as there are such.
-pub(crate) fn put_till<W: Write>(
+pub(crate) fn print_till<W: Write>(
     out: &mut W,
     kept: Option<(Request, Answer)>,
     prior: Option<(Request, Answer)>,
@@ -120,6 +120,6 @@ pub(crate) fn put_till<W: Write>(
     ensures ok { OnOk result (Appends (W.contents out.old) (W.contents out.new) (till_part kept prior)) }
     ensures err { IfErr result (λ fault. fault ≡ faults.File) }
 {
-    put_told(out, b"TILL ", kept)?;
-    put_told(out, b"PRIOR ", prior)
+    print_told(out, b"TILL ", kept)?;
+    print_told(out, b"PRIOR ", prior)
 }

@@ -8,7 +8,7 @@ use Rattle.host_session.specs.events.Telling.{Output}
 use Rattle.image_file.specs.Durable.{AllStays}
 use Rattle.image_file.specs.Lasting.{Whole, seen}
 use Rattle.image_file.specs.LastingImages.{are_image, image_of}
-use Rattle.image_file.specs.ImageFile.{IsTakenUp, placed, placed_file}
+use Rattle.image_file.specs.ImageFile.{IsLoaded, placed, placed_file}
 use Rattle.shop_commands.specs.Plays.{IsFileFault, IsUntouched}
 use Rattle.image_file.specs.declared.durability.WritesAt.{Ghosts}
 use Rattle.command_faults.specs.declared.faults.CommandFault.{CommandFault}
@@ -29,7 +29,7 @@ image_left held lasting W false f g same stays c e = none_kept e
 module _ {F : Type 0} {G : Ghosts F} (image : List ℕ) (file after : F)
     (first left last : ImageFile F G) (end ended : JobEnd) (IsRun : ImageFile F G → ImageFile F G → JobEnd → Type 0) where
   -- whatever the run was, its file was taken up, brought to the disk and handed back
-  pub durable_run : IsTakenUp image file first → after ≡ placed_file last → IsRun first left end
+  pub durable_run : IsLoaded image file first → after ≡ placed_file last → IsRun first left end
       → IsFinished end left last ended → IsDurableRun image file after ended IsRun
   durable_run taken is_last run finished = record {
     first = first;

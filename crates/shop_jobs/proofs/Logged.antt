@@ -14,7 +14,7 @@ use Rattle.line_server.specs.logged.Serves.{IsServedOver}
 use Rattle.shop_commands.specs.Faults.{opening_fault}
 use Rattle.command_faults.specs.Faults.{IsLoadFault}
 use Rattle.command_faults.specs.declared.faults.CommandFault.{CommandFault}
-use Rattle.shop_log.specs.ImageLogs.{LogHistory}
+use Rattle.image_log.specs.ImageLogs.{LogHistory}
 use Rattle.shop_jobs.specs.LoggedRuns.{IsLoggedFault, IsLoggedTo, IsUnlogged, loop_fault}
 use Rattle.command_faults.proofs.Loads.{by-load}
 

@@ -3,19 +3,19 @@ use Rattle.std.proofs.Common.{◌≡◌, ◌∙◌, ℕ, Bool, true, false, List
 use Rattle.std.specs.Prelude.{IfOk}
 use Rattle.command_faults.specs.declared.faults.CommandFault.{CommandFault}
 use Rattle.command_faults.specs.declared.faults.CommandFault.TheVariants as faults
-use Rattle.shop_log.specs.life.Folders.{FolderHistory}
-use Rattle.shop_log.specs.declared.life.live_log.LiveLog.{LiveLog}
+use Rattle.image_log.specs.life.Folders.{FolderHistory}
+use Rattle.image_log.specs.declared.life.live_log.LiveLog.{LiveLog}
 use Rattle.line_server.specs.Batches.{BatchInput}
 use Rattle.line_server.specs.logged.Reporting.{LogOutput}
-use Rattle.shop_log.specs.ImageLogs.{LogHistory}
-use Rattle.shop_log.specs.declared.log_file.LogFile.{Ghosts}
+use Rattle.image_log.specs.ImageLogs.{LogHistory}
+use Rattle.image_log.specs.declared.log_file.LogFile.{Ghosts}
 use Rattle.shop_jobs.specs.ServiceEnds.{IsLoggedEnd, IsQuietEnd}
 use Rattle.opened_files.specs.Ends.{JobEnd, as_run}
 use Rattle.shop_jobs.specs.LandedRuns.{IsDoneAndLanded, watched_end}
 use Rattle.shop_jobs.specs.LoggedRuns.{IsLoggedRun, IsUnlogged}
 use Rattle.opened_files.specs.Losses.{IsEndOfRun, IsGuarded}
-use Rattle.opened_files.specs.declared.losses.Loss.{Loss}
-use Rattle.shop_jobs.specs.declared.watched_files.WhileThere.{WhileThere}
+use Rattle.damaged_files.specs.declared.sides.planning.Loss.{Loss}
+use Rattle.shop_jobs.specs.declared.watched_files.RepliesWhileNamed.{RepliesWhileNamed}
 
 -- before its log is landed, a service that is done printed no fault; one that isn't printed nothing, unless the input, the
 -- output or the log failed
@@ -65,13 +65,13 @@ module _ {T : Type 0} (old new : T) where
       x.landed.told
 
 -- an output to which replies go while a file is there, and which was lent and is given back
-pub watched-back : {N T : Type 0} (before behind : WhileThere N T) (old new : T) → before.out.now ≡ old
+pub watched-back : {N T : Type 0} (before behind : RepliesWhileNamed N T) (old new : T) → before.out.now ≡ old
     → (before.out.ghost_name ≡ behind.out.ghost_name → new ≡ behind.out.now) → behind ≡ before → new ≡ old
 watched-back before behind old new begun back same =
     back (ap (λ w. w.out.ghost_name) (sym same)) ∙ ap (λ w. w.out.now) same ∙ begun
 
 -- what was passed to it was passed to the caller's
-pub passed-back : {N T : Type 0} (before behind : WhileThere N T) (old new : T) → before.out.now ≡ old
+pub passed-back : {N T : Type 0} (before behind : RepliesWhileNamed N T) (old new : T) → before.out.now ≡ old
     → (before.out.ghost_name ≡ behind.out.ghost_name → new ≡ behind.out.now) → (P : T → T → Type 0)
     → behind.out.ghost_name ≡ before.out.ghost_name → P before.out.now behind.out.now → P old new
 passed-back before behind old new begun back P same x =

@@ -7,11 +7,11 @@ use Rattle.opened_files.proofs.Near.{unbegun-near}
 use Rattle.opened_files.specs.Ends.{JobEnd}
 use Rattle.opened_files.specs.HostFiles.{IsUnbegun, OfWritten}
 use Rattle.opened_files.specs.Losses.{IsAwayFault}
-use Rattle.opened_files.specs.declared.losses.Loss.{Loss}
+use Rattle.damaged_files.specs.declared.sides.planning.Loss.{Loss}
 use Rattle.command_faults.specs.declared.faults.CommandFault.{CommandFault}
 use Rattle.command_faults.specs.declared.faults.CommandFault.TheVariants as faults
 use Rattle.shop_jobs.specs.ServiceEnds.{IsNearEnd, IsNearFault}
-use Rattle.shop_log.specs.life.Tags.{SaysLogAway}
+use Rattle.image_log.specs.life.Tags.{SaysLogAway}
 
 module _ {H : Type 0} (stands : H → List ℕ → Stands) (host : H) (path : List ℕ) (loss : Loss) where
   -- why it isn't begun

@@ -31,7 +31,7 @@ use Rattle.shop_jobs.specs.LoggedPlays.{IsLoggedPlayEnd}
 use Rattle.shop_jobs.specs.Replies.{AreAnswered, AreAnsweredBy, AreReplyLines, IsLoggedService, IsPlainPlayed}
 use Rattle.shop_jobs.specs.Replies.{IsShopOf, lines_to}
 use Rattle.shop_jobs.specs.Runs.{IsPlayRun}
-use Rattle.shop_jobs.specs.declared.reply_lines.ReplyLines.{ReplyLines}
+use Rattle.shop_jobs.specs.declared.reply_lines.WatchedReplies.{WatchedReplies}
 
 -- no opening fails because a log is away
 not-away : (opening : OpenFault) → opening_fault opening ≡ faults.LogAway → ⊥
@@ -43,7 +43,7 @@ not-away (openings.BadRequestCard till) is = cc
 not-away openings.TwoIntents is = cc
 not-away openings.Device is = cc
 
-module _ {F W : Type 0} (contents : W → Option (List ℕ)) (file after : F) (before behind : ReplyLines W) (old new : W)
+module _ {F W : Type 0} (contents : W → Option (List ℕ)) (file after : F) (before behind : WatchedReplies W) (old new : W)
     (begun : before.out.now ≡ old) (back : before.out.ghost_name ≡ behind.out.ghost_name → new ≡ behind.out.now) where
   -- one that isn't done printed nothing
   pub play-quiet : (end : JobEnd)
@@ -93,7 +93,7 @@ module _ {F W : Type 0} (contents : W → Option (List ℕ)) (file after : F) (b
         (run-some placed (lines_to contents) image script x.first x.left before behind x.end x.run)
 
 module _ {F W : Type 0} {G : Ghosts F} (contents : W → Option (List ℕ)) (image script : List ℕ) (file after : F)
-    (before behind : ReplyLines W) where
+    (before behind : WatchedReplies W) where
   abbrev Plays : ImageFile F G → ImageFile F G → JobEnd → Type 0
   Plays start left end = IsPlayRun placed (lines_to contents) image script start left before behind end
 

@@ -12,9 +12,9 @@ use Rattle.host_session.specs.shop.Shop.{IsSettled, IsShop, Shop, start_of}
 use Rattle.line_server.specs.Scripts.{crlf_text, of_script, text_left}
 use Rattle.line_server.specs.declared.scripts.ScriptBatches.{ScriptBatches}
 use Rattle.line_server.proofs.LinesGiven.{all_handled}
-use Rattle.shop_log.specs.life.Folders.{FolderHistory}
-use Rattle.shop_log.specs.life.LiveLogs.{of_live}
-use Rattle.shop_log.specs.declared.life.live_log.LiveLog.{LiveLog}
+use Rattle.image_log.specs.life.Folders.{FolderHistory}
+use Rattle.image_log.specs.life.LiveLogs.{of_live}
+use Rattle.image_log.specs.declared.life.live_log.LiveLog.{LiveLog}
 use Rattle.line_server.specs.logged.Reporting.{IsToldTo, LogOutput}
 use Rattle.line_server.specs.logged.Serves.{AreFirst, shop_behind}
 use Rattle.line_server.proofs.lemmas.logged.UnderWay.{as_many_replies}
@@ -22,8 +22,8 @@ use Rattle.request_cards.specs.Ledgers.{replies}
 use Rattle.request_cards.specs.declared.reply.Reply.{Reply}
 use Rattle.line_text.specs.scripts.Lines.{lines}
 use Rattle.command_faults.specs.declared.faults.CommandFault.{CommandFault}
-use Rattle.shop_log.specs.ImageLogs.{LogHistory}
-use Rattle.shop_log.specs.declared.log_file.LogFile.{Ghosts}
+use Rattle.image_log.specs.ImageLogs.{LogHistory}
+use Rattle.image_log.specs.declared.log_file.LogFile.{Ghosts}
 use Rattle.opened_files.specs.Ends.{JobEnd, as_run}
 use Rattle.shop_jobs.specs.LandedRuns.{HasLanded, IsDoneAndLanded, IsLandedEnd, watched_end}
 use Rattle.shop_jobs.specs.LoggedPlays.{IsLoggedPlay, IsPlayedWhole}

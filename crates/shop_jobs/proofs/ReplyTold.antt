@@ -15,25 +15,25 @@ use Rattle.host_session.specs.runs.Chains.{told_in}
 use Rattle.host_session.specs.runs.Outputs.{line_of, written}
 use Rattle.host_session.specs.shop.Shop.{IsShop}
 use Rattle.line_server.specs.Batches.{BatchInput}
-use Rattle.shop_log.specs.life.Folders.{FolderHistory}
-use Rattle.shop_log.specs.life.LiveLogs.{of_live}
-use Rattle.shop_log.specs.declared.life.live_log.LiveLog.{LiveLog}
+use Rattle.image_log.specs.life.Folders.{FolderHistory}
+use Rattle.image_log.specs.life.LiveLogs.{of_live}
+use Rattle.image_log.specs.declared.life.live_log.LiveLog.{LiveLog}
 use Rattle.line_server.specs.logged.Reporting.{IsToldTo, LogOutput, of_output}
 use Rattle.request_cards.specs.Ledgers.{report}
 use Rattle.request_cards.specs.declared.reply.Reply.{Reply}
 use Rattle.line_text.specs.scripts.Lines.{lines}
-use Rattle.shop_log.specs.ImageLogs.{LogHistory}
-use Rattle.shop_log.specs.declared.log_file.LogFile.{Ghosts}
+use Rattle.image_log.specs.ImageLogs.{LogHistory}
+use Rattle.image_log.specs.declared.log_file.LogFile.{Ghosts}
 use Rattle.opened_files.specs.Ends.{JobEnd, as_run}
 use Rattle.shop_jobs.specs.LandedRuns.{IsDoneAndLanded, IsLandedEnd, watched_end}
 use Rattle.shop_jobs.specs.LoggedPlays.{IsLoggedPlay}
 use Rattle.shop_jobs.specs.LoggedRuns.{IsLoggedRun}
 use Rattle.opened_files.specs.Losses.{IsEndOfRun}
 use Rattle.shop_jobs.specs.Replies.{AreAnswered, AreReplyLines, IsShopOf, lines_to}
-use Rattle.shop_jobs.specs.declared.reply_lines.ReplyLines.{ReplyLines}
+use Rattle.shop_jobs.specs.declared.reply_lines.WatchedReplies.{WatchedReplies}
 
 -- a writer that is lent was passed a reply as any writer
-pub is-lent : {W E : Type 0} (contents : W → Option (List ℕ)) (old new : ReplyLines W) (reply : Reply) (i : Instant)
+pub is-lent : {W E : Type 0} (contents : W → Option (List ℕ)) (old new : WatchedReplies W) (reply : Reply) (i : Instant)
     (r : Result Unit E) → new.out.ghost_name ≡ old.out.ghost_name
     → IsTold (written contents) old.out.now new.out.now reply i r → IsTold (lines_to contents) old new reply i r
 is-lent contents old new reply i (Ok x) same told = (λ first xs k. (same ∙ k.0, told.0 first.out.now xs k.1), told.1)
@@ -93,7 +93,7 @@ landed-ok h left false (Err refusal) folder (Ok found) landed ok = elim landed.t
 landed-ok h left gone (Err refusal) folder (Err other) landed ok = cc
 
 module _ {F D W : Type 0} {G : Ghosts F} (h : FolderHistory D) (contents : W → Option (List ℕ)) (image script : List ℕ)
-    (log : LiveLog F D G) (old new : ReplyLines W) (first final : W) (begun : old.out.now ≡ first)
+    (log : LiveLog F D G) (old new : WatchedReplies W) (first final : W) (begun : old.out.now ≡ first)
     (back : old.out.ghost_name ≡ new.out.ghost_name → final ≡ new.out.now) where
   abbrev Play : LiveLog F D G → Result Unit CommandFault → Type 0
   Play left ended = IsLoggedPlay (of_live h) (of_output (lines_to contents)) image script log left old new ended

@@ -11,15 +11,15 @@ use Rattle.host_session.specs.runs.Outputs.{line_of}
 use Rattle.host_session.specs.shop.Shop.{IsShop, Shop, start_of}
 use Rattle.host_session.specs.events.Telling.{Output}
 use Rattle.line_server.specs.Batches.{BatchInput}
-use Rattle.shop_log.specs.life.Folders.{FolderHistory}
-use Rattle.shop_log.specs.life.LiveLogs.{of_live}
-use Rattle.shop_log.specs.declared.life.live_log.LiveLog.{LiveLog}
+use Rattle.image_log.specs.life.Folders.{FolderHistory}
+use Rattle.image_log.specs.life.LiveLogs.{of_live}
+use Rattle.image_log.specs.declared.life.live_log.LiveLog.{LiveLog}
 use Rattle.line_server.proofs.lemmas.logged.UnderWay.{as_many_replies}
 use Rattle.line_server.specs.logged.Reporting.{IsToldTo, of_output}
 use Rattle.request_cards.specs.Ledgers.{replies, report}
 use Rattle.request_cards.specs.declared.reply.Reply.{Reply}
 use Rattle.line_text.specs.scripts.Lines.{lines}
-use Rattle.shop_log.specs.declared.log_file.LogFile.{Ghosts}
+use Rattle.image_log.specs.declared.log_file.LogFile.{Ghosts}
 use Rattle.shop_jobs.proofs.LoggedTold.{passed-back, watched-back}
 use Rattle.shop_jobs.proofs.PlayedOver.{all_told}
 use Rattle.shop_jobs.proofs.ReplyTold.{cut-lines, landed-ok, run-told}
@@ -30,12 +30,12 @@ use Rattle.shop_jobs.specs.LoggedRuns.{IsLoggedRun, IsUnlogged}
 use Rattle.opened_files.specs.Losses.{IsEndOfRun, IsGuarded}
 use Rattle.shop_jobs.specs.Replies.{AreAnsweredBy, AreReplyLines, IsShopOf, IsToldAll, IsToldSome, lines_to}
 use Rattle.shop_jobs.specs.WatchedFiles.{while_there}
-use Rattle.opened_files.specs.declared.losses.Loss.{Loss}
-use Rattle.shop_jobs.specs.declared.reply_lines.ReplyLines.{ReplyLines}
-use Rattle.shop_jobs.specs.declared.watched_files.WhileThere.{WhileThere}
+use Rattle.damaged_files.specs.declared.sides.planning.Loss.{Loss}
+use Rattle.shop_jobs.specs.declared.reply_lines.WatchedReplies.{WatchedReplies}
+use Rattle.shop_jobs.specs.declared.watched_files.RepliesWhileNamed.{RepliesWhileNamed}
 
 module _ {F D N R T : Type 0} {G : Ghosts F} (h : FolderHistory D) (i : BatchInput R) (o : Output T) (image : List ℕ)
-    (log : LiveLog F D G) (loss : Loss) (old_in new_in : R) (old new : WhileThere N T) (first final : T)
+    (log : LiveLog F D G) (loss : Loss) (old_in new_in : R) (old new : RepliesWhileNamed N T) (first final : T)
     (begun : old.out.now ≡ first) (back : old.out.ghost_name ≡ new.out.ghost_name → final ≡ new.out.now) where
   abbrev Run : LiveLog F D G → Result Unit CommandFault → Type 0
   Run left ended = IsLoggedRun (of_live h) i (of_output (while_there o)) image log left old_in new_in old new ended
@@ -102,7 +102,7 @@ module _ {F D N R T : Type 0} {G : Ghosts F} (h : FolderHistory D) (i : BatchInp
       of-run (inr (may, (ended, is, run))) = run-all x.left ended run (subst (λ (e : JobEnd). IsOk e) is ok)
 
 -- what was passed to a writer that was lent was printed
-module _ {W : Type 0} (contents : W → Option (List ℕ)) (old new : ReplyLines W) (first final : W)
+module _ {W : Type 0} (contents : W → Option (List ℕ)) (old new : WatchedReplies W) (first final : W)
     (begun : old.out.now ≡ first) (back : old.out.ghost_name ≡ new.out.ghost_name → final ≡ new.out.now) where
   pub given-back : (bytes : List ℕ) → new.out.ghost_name ≡ old.out.ghost_name
       → Appends (contents old.out.now) (contents new.out.now) bytes → Appends (contents first) (contents final) bytes

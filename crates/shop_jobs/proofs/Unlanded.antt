@@ -1,7 +1,7 @@
 -- The end of a service whose log can't be landed.
 use Rattle.std.proofs.Common.{◌≡◌, ◌⊎◌, Err, Ok, inl, inr, refl}
 use Rattle.std.proofs.lemmas.Bool.{false≢true}
-use Rattle.shop_log.specs.declared.life.landing.LogFault.{LogFault}
+use Rattle.image_log.specs.declared.life.landing.LogFault.{LogFault}
 use Rattle.command_faults.specs.declared.faults.CommandFault.TheVariants as faults
 use Rattle.opened_files.specs.Ends.{JobEnd, log_refusal}
 use Rattle.shop_jobs.specs.LandedRuns.{landing_fault, unlanded}

@@ -4,9 +4,9 @@ use Rattle.request_cards.specs.declared.reply.Reply.{Reply}
 use Rattle.host_session.specs.events.Instants.{Instant}
 use Rattle.host_session.specs.events.Telling.{IsTold, Output, TellsNone}
 use Rattle.shop_jobs.specs.WatchedFiles.{media_for, while_there}
-use Rattle.shop_jobs.specs.declared.watched_files.WhileThere.{WhileThere}
+use Rattle.shop_jobs.specs.declared.watched_files.RepliesWhileNamed.{RepliesWhileNamed}
 
-module _ {N T : Type 0} (o : Output T) (old new : WhileThere N T) (reply : Reply) (at : Instant)
+module _ {N T : Type 0} (o : Output T) (old new : RepliesWhileNamed N T) (reply : Reply) (at : Instant)
     (same : new.out.ghost_name ≡ old.out.ghost_name) where
   -- the file was there
   pub told_there : {E : Type 0} (result : Result Unit E) → old.gone ≡ false → new.gone ≡ false

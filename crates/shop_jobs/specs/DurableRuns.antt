@@ -3,7 +3,7 @@ use Rattle.std.specs.Prelude.{◌≡◌, ◌≢◌, ◌⊎◌, ◌≤◌, List, 
 use Rattle.d64_image.specs.Images.{Image}
 use Rattle.image_file.specs.Durable.{AllStays}
 use Rattle.image_file.specs.LastingImages.{image_of}
-use Rattle.image_file.specs.ImageFile.{IsTakenUp, KeepsOn, placed, placed_file}
+use Rattle.image_file.specs.ImageFile.{IsLoaded, KeepsOn, placed, placed_file}
 use Rattle.image_file.specs.declared.durability.WritesAt.{Ghosts}
 use Rattle.command_faults.specs.declared.faults.CommandFault.TheVariants as faults
 use Rattle.image_file.specs.declared.sectors.ImageFile.{ImageFile}
@@ -35,7 +35,7 @@ pub record IsDurableRun {F : Type 0} {G : Ghosts F} (image : List ℕ) (file aft
   pub first : ImageFile F G
   pub left : ImageFile F G
   pub last : ImageFile F G
-  pub taken : IsTakenUp image file first
+  pub taken : IsLoaded image file first
   -- how the run itself ended
   pub end : JobEnd
   pub run : IsRun first left end

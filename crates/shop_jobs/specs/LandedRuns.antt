@@ -1,15 +1,15 @@
 -- How a service over a log ends, whose log is landed then. All of it is our own.
 use Rattle.std.specs.Prelude.{◌≡◌, Bool, if◌then◌else◌, Option, Some, None, Ok, Err, ◌≢◌, ◌⊎◌, IfSome, IsOk, IsSome}
 use Rattle.command_faults.specs.declared.faults.CommandFault.TheVariants as faults
-use Rattle.shop_log.specs.declared.life.landing.LogFault.{LogFault}
+use Rattle.image_log.specs.declared.life.landing.LogFault.{LogFault}
 use Rattle.command_faults.specs.declared.faults.CommandFault.{CommandFault}
 use Rattle.d64_image.specs.Images.{Image}
 use Rattle.host_session.specs.shop.Shop.{IsSettled, Shop}
-use Rattle.shop_log.specs.life.Bringing.{RestsAlone}
-use Rattle.shop_log.specs.life.Folders.{FolderHistory}
-use Rattle.shop_log.specs.life.LiveLogs.{of_live}
-use Rattle.shop_log.specs.declared.life.live_log.LiveLog.{LiveLog}
-use Rattle.shop_log.specs.declared.log_file.LogFile.{Ghosts}
+use Rattle.image_log.specs.life.Bringing.{RestsAlone}
+use Rattle.image_log.specs.life.Folders.{FolderHistory}
+use Rattle.image_log.specs.life.LiveLogs.{of_live}
+use Rattle.image_log.specs.declared.life.live_log.LiveLog.{LiveLog}
+use Rattle.image_log.specs.declared.log_file.LogFile.{Ghosts}
 use Rattle.opened_files.specs.Ends.{JobEnd, log_refusal}
 
 -- it ended well, or only its input or output failed

@@ -12,7 +12,7 @@ use Rattle.request_cards.specs.Ledgers.{replies}
 use Rattle.request_cards.specs.declared.reply.Reply.{Reply}
 use Rattle.line_text.specs.scripts.Lines.{first_reset, lines}
 use Rattle.command_faults.specs.declared.faults.CommandFault.{CommandFault}
-use Rattle.shop_log.specs.ImageLogs.{LogHistory}
+use Rattle.image_log.specs.ImageLogs.{LogHistory}
 use Rattle.opened_files.specs.Ends.{JobEnd}
 use Rattle.shop_jobs.specs.ServiceEnds.{IsRefusedAt}
 use Rattle.shop_jobs.specs.LoggedRuns.{IsLoggedRun}

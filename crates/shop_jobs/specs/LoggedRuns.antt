@@ -11,7 +11,7 @@ use Rattle.shop_commands.specs.Faults.{opening_fault}
 use Rattle.shop_commands.specs.Shops.{IsOpenRefusal}
 use Rattle.command_faults.specs.declared.faults.CommandFault.{CommandFault}
 use Rattle.command_faults.specs.declared.faults.CommandFault.TheVariants as faults
-use Rattle.shop_log.specs.ImageLogs.{LogHistory}
+use Rattle.image_log.specs.ImageLogs.{LogHistory}
 
 -- what is reported of a shop whose service this fault ended
 abbrev pub loop_fault : LoopFault → CommandFault

@@ -15,11 +15,11 @@ use Rattle.request_cards.specs.Ledgers.{replies, report}
 use Rattle.request_cards.specs.declared.reply.Reply.{Reply}
 use Rattle.line_text.specs.scripts.Lines.{lines}
 use Rattle.shop_jobs.specs.ServiceEnds.{IsLoggedEnd}
-use Rattle.shop_jobs.specs.declared.reply_lines.ReplyLines.{ReplyLines}
+use Rattle.shop_jobs.specs.declared.reply_lines.WatchedReplies.{WatchedReplies}
 use Rattle.opened_files.specs.HostFiles.{OfWritten}
 
 -- what a writer that was lent says of the replies that it was passed: it is the same one, and was passed them as any writer
-abbrev pub lines_to : {W : Type 0} → (W → Option (List ℕ)) → Output (ReplyLines W)
+abbrev pub lines_to : {W : Type 0} → (W → Option (List ℕ)) → Output (WatchedReplies W)
 lines_to contents = record {
   told = λ old new turns. (new.out.ghost_name ≡ old.out.ghost_name)
       × (written contents).told old.out.now new.out.now turns;

@@ -4,10 +4,10 @@ use Rattle.command_faults.specs.declared.faults.CommandFault.TheVariants as faul
 use Rattle.opened_files.specs.Ends.{JobEnd}
 use Rattle.command_faults.specs.declared.faults.CommandFault.{CommandFault}
 use Rattle.opened_files.specs.HostFiles.{IsUnopened, OfWritten}
-use Rattle.opened_files.specs.declared.losses.Loss.{Loss}
-use Rattle.opened_files.specs.declared.losses.Loss.TheVariants as losses
+use Rattle.damaged_files.specs.declared.sides.planning.Loss.{Loss}
+use Rattle.damaged_files.specs.declared.sides.planning.Loss.TheVariants as losses
 use Rattle.image_file.specs.paths.Standing.{Stands}
-use Rattle.shop_log.specs.life.Tags.{SaysLogAway}
+use Rattle.image_log.specs.life.Tags.{SaysLogAway}
 
 -- a job that isn't done printed nothing, unless the output or the file failed
 abbrev pub IsQuietEnd : {W : Type 0} → W → W → JobEnd → Type 0

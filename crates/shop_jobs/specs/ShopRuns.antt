@@ -9,11 +9,11 @@ use Rattle.opened_files.specs.Ends.{JobEnd}
 use Rattle.shop_jobs.specs.Replies.{IsShopAt, AreReplyLines, IsPlainPlayed}
 use Rattle.opened_files.specs.HostFiles.{OfText, OfWritten, RunEnds}
 use Rattle.opened_files.specs.Losses.{NearRunEnds}
-use Rattle.opened_files.specs.declared.losses.Loss.{Loss}
+use Rattle.damaged_files.specs.declared.sides.planning.Loss.{Loss}
 use Rattle.shop_jobs.specs.FilePlays.{IsPlayedAt}
 use Rattle.shop_jobs.specs.LoggedPlays.{IsLoggedPlayEnd}
 use Rattle.shop_jobs.specs.Runs.{IsDryRun}
-use Rattle.shop_log.specs.life.Tags.{SaysLogAway}
+use Rattle.image_log.specs.life.Tags.{SaysLogAway}
 
 -- The replies to the script at a path were printed, from no cards on and without a disk.
 abbrev pub IsDryOver : {H W : Type 0} → (H → List ℕ → Stands) → (W → Option (List ℕ)) → H → List ℕ → W → W → JobEnd → Type 0

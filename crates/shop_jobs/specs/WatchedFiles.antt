@@ -5,7 +5,7 @@ use Rattle.request_cards.specs.declared.reply.Reply.TheVariants.{Cut, Syntax, To
 use Rattle.request_cards.specs.declared.reply.Word.TheVariants.{Media}
 use Rattle.host_session.specs.events.Instants.{Instant}
 use Rattle.host_session.specs.events.Telling.{Output}
-use Rattle.shop_jobs.specs.declared.watched_files.WhileThere.{WhileThere}
+use Rattle.shop_jobs.specs.declared.watched_files.RepliesWhileNamed.{RepliesWhileNamed}
 
 -- MEDIA to the same request; a message that is no request hears what it is
 abbrev pub media_for : Reply → Reply
@@ -25,7 +25,7 @@ IsBrokenOff o gone old new turns last =
 
 -- What an output to which replies go while a file is there says of itself. The file was there before the first of those
 -- that were handed on together.
-abbrev pub while_there : {N T : Type 0} → Output T → Output (WhileThere N T)
+abbrev pub while_there : {N T : Type 0} → Output T → Output (RepliesWhileNamed N T)
 while_there o = record {
   told = λ old new turns. (new.out.ghost_name ≡ old.out.ghost_name) × (new.gone ≡ old.gone)
       × o.told old.out.now new.out.now turns;

@@ -10,13 +10,13 @@ use crate::shop_runs::play_run;
 use command_faults::CommandFault;
 use d64_image::KeptMirror;
 use disk_layout::Fault;
-use host_session::ReplySink;
+use host_session::Replies;
 use image_file::{ImageFile, WritesAt};
 use std::alloc::Global;
 
 /// Plays the script on the shop of the image that the file has, as `play_run` does, and hands the file back. All its
 /// sectors are synced at the end. `Device` also if that failed.
-pub fn play_durably<F: WritesAt, T: ReplySink<KeptMirror<ImageFile<F>>>>(
+pub fn play_durably<F: WritesAt, T: Replies<KeptMirror<ImageFile<F>>>>(
     alloc: Global,
     image: &[u8],
     script: &[u8],

@@ -9,9 +9,9 @@ use d64_image::IMAGE_BYTES;
 use disk_layout::Fault;
 use folder_changes::HostImages;
 use image_file::{EndedFile, HostFiles, Locks};
+use image_log::{LogNames, find_log};
 use opened_files::{opened_alone, put_image, run_end, see_size, size_of};
-use shop_commands::{fresh_disk, put_whole};
-use shop_log::{LogNames, find_log};
+use shop_commands::{fresh_disk, print_whole};
 use std::fs::OpenFile;
 use std::io::Write;
 
@@ -91,5 +91,5 @@ where
         Err(fault) => return Err(fault),
     };
     place(rt, path, disk.bytes())?;
-    run_end(put_whole(out, b"FORMATTED\n"))
+    run_end(print_whole(out, b"FORMATTED\n"))
 }

@@ -5,14 +5,14 @@ ghost use Rattle.shop_jobs.specs.LoggedRuns.{IsLoggedRun, IsUnlogged};
 use crate::logged_runs::serve_logged;
 use command_faults::CommandFault;
 use disk_layout::Fault;
-use line_server::{BatchSource, Reports};
+use image_log::ImageLog;
+use line_server::{BatchReplies, BatchSource};
 use opened_files::{Loss, loss_refusal, run_end};
-use shop_log::ImageLog;
 use std::alloc::Global;
 
 /// Serves the shop of an image over a log that stands for it, as `serve_logged` does. If a file of the image is cut short
 /// and no loss is accepted, the error is `Short`, and nothing was read, written or reported.
-pub fn serve_logged_guarded<L: ImageLog, R: BatchSource, T: Reports<L>>(
+pub fn serve_logged_guarded<L: ImageLog, R: BatchSource, T: BatchReplies<L>>(
     alloc: Global,
     image: &[u8],
     log: &mut L,

@@ -24,4 +24,4 @@ pub use playing::{do_dry, do_playing};
 pub use playing_logs::do_logged_playing;
 pub use serving_logs::do_logged_serving;
 pub use shop_runs::{dry_run, play_run};
-pub use watched_files::WhileThere;
+pub use watched_files::RepliesWhileNamed;

@@ -6,9 +6,9 @@ ghost use Rattle.command_faults.specs.declared.faults.CommandFault.TheVariants a
 
 use crate::logged_runs::serve_logged;
 use command_faults::CommandFault;
-use line_server::{Reports, ScriptBatches};
+use image_log::ImageLog;
+use line_server::{BatchReplies, ScriptBatches};
 use line_text::first_reset_line;
-use shop_log::ImageLog;
 use std::alloc::Global;
 
 /// Plays the lines of a script on the shop of an image, over a log that stands for that image: in batches of 512 lines,
@@ -16,7 +16,7 @@ use std::alloc::Global;
 ///
 /// `BadLine`: the first line that begins with `@`, since a log has no resets. Nothing was done then. Otherwise the
 /// faults of `serve_logged`, of which `File` means the output, since a script never fails.
-pub fn play_logged<L: ImageLog, T: Reports<L>>(
+pub fn play_logged<L: ImageLog, T: BatchReplies<L>>(
     alloc: Global,
     image: &[u8],
     script: &[u8],

@@ -4,9 +4,9 @@ ghost use Rattle.shop_jobs.specs.LoggedRuns.{IsLoggedRun, loop_fault};
 
 use command_faults::{CommandFault, load};
 use host_session::LoopFault;
-use line_server::{BatchSource, Reports, Room, serve_batches};
+use image_log::ImageLog;
+use line_server::{BatchReplies, BatchSource, Room, serve_batches};
 use shop_commands::of_opening;
-use shop_log::ImageLog;
 use std::alloc::Global;
 
 /// What is reported of a shop whose service this fault ended: `File` for its input and for its output.
@@ -29,7 +29,7 @@ fn told(fault: LoopFault) -> CommandFault
 /// counts whole or not, and no reply of it was reported.
 // Out of line: a session is large, and a frame that has its room touches each page of it.
 #[inline(never)]
-pub fn serve_logged<L: ImageLog, R: BatchSource, T: Reports<L>>(
+pub fn serve_logged<L: ImageLog, R: BatchSource, T: BatchReplies<L>>(
     alloc: Global,
     image: &[u8],
     log: &mut L,

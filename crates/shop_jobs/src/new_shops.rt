@@ -7,7 +7,7 @@ use command_faults::CommandFault;
 use disk_layout::Fault;
 use image_file::{EndedFile, HostFiles, Locks};
 use opened_files::{make_image, run_end};
-use shop_commands::{fresh_disk, put_whole};
+use shop_commands::{fresh_disk, print_whole};
 use std::fs::OpenFile;
 use std::io::Write;
 
@@ -31,5 +31,5 @@ where
 {
     let disk = fresh_disk(rt.alloc(), tills)?;
     make_image(rt, path, None, disk.bytes())?;
-    run_end(put_whole(out, b"FORMATTED\n"))
+    run_end(print_whole(out, b"FORMATTED\n"))
 }

@@ -6,10 +6,10 @@ ghost use Rattle.opened_files.specs.Losses.{IsAwayFault};
 ghost use Rattle.opened_files.specs.Rights.{MayChangeImage, MayReadText};
 ghost use Rattle.shop_jobs.specs.ServiceEnds.{IsNearEnd};
 ghost use Rattle.shop_jobs.specs.ShopRuns.{IsDryOver, IsLeftPlayed, IsPlayedOverFile};
-ghost use Rattle.shop_log.specs.life.Tags.{SaysLogAway};
+ghost use Rattle.image_log.specs.life.Tags.{SaysLogAway};
 
 use crate::durable_runs::play_durably;
-use crate::reply_lines::ReplyLines;
+use crate::reply_lines::WatchedReplies;
 use crate::shop_runs::dry_run;
 use command_faults::CommandFault;
 use disk_layout::Fault;
@@ -68,7 +68,7 @@ where
         result }
 {
     let (image, script, file) = taken_to_play(rt, path, script, loss)?;
-    let mut printer = ReplyLines::new(out);
+    let mut printer = WatchedReplies::new(out);
     let (_, ended) = play_durably(
         rt.alloc(),
         image.as_slice(),

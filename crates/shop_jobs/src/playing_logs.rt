@@ -9,23 +9,23 @@ ghost use Rattle.shop_jobs.specs.ShopRuns.{IsPlayedOverLog};
 ghost use Rattle.shop_jobs.specs.LandedRuns.{HasLanded, IsDoneAndLanded};
 ghost use Rattle.shop_jobs.specs.LoggedPlays.{IsLoggedPlay};
 ghost use Rattle.opened_files.specs.Losses.{IsEndOfRun};
-ghost use Rattle.shop_log.specs.life.LiveLogs.{of_live};
+ghost use Rattle.image_log.specs.life.LiveLogs.{of_live};
 ghost use Rattle.line_server.specs.logged.Serves.{shop_behind};
 ghost use Rattle.line_text.specs.scripts.Lines.{first_reset, lines};
 ghost use Rattle.opened_files.specs.Rights.{MayChangeImage, MayReadText};
 ghost use Rattle.image_file.specs.paths.Standing.{AreOf};
 
 use crate::logged_plays::play_logged;
-use crate::reply_lines::ReplyLines;
+use crate::reply_lines::WatchedReplies;
 use crate::serving_logs::{begun_beside, cleared_end, landed_end};
 use crate::watched_files::{name_of, served_end};
 use command_faults::CommandFault;
 use disk_layout::Fault;
-use image_file::{EndedFile, HostFiles, Locks, Stays};
-use line_server::Reports;
+use image_file::{EndedFile, HostFiles, Locks, NameStays};
+use image_log::{LiveLog, LogFile, LogFolder, LogNames};
+use line_server::BatchReplies;
 use line_text::first_reset_line;
 use opened_files::{Loss, opened_alone, run_end, script_to_play, see_size};
-use shop_log::{LiveLog, LogFile, LogFolder, LogNames};
 use std::alloc::Global;
 use std::fs::OpenFile;
 use std::io::Write;
@@ -43,8 +43,8 @@ fn play_begun<L, D, N, T>(
 where
     L: LogFile,
     D: LogFolder<L> + Drop,
-    N: Stays,
-    T: Reports<LiveLog<L, D>>,
+    N: NameStays,
+    T: BatchReplies<LiveLog<L, D>>,
     requires plain { first_reset (lines script.now) ≡ None }
     ensures played { (gone : Bool) × IsDoneAndLanded D.history (λ left ended. IsEndOfRun
         (IsLoggedPlay (of_live D.history) T.output image.now script.now log left out.old out.new) ended)
@@ -56,7 +56,7 @@ where
 {
     let mut log = log;
     let ended = run_end(play_logged(alloc, image, script, &mut log, out));
-    landed_end(log, served_end(ended, !name.is_there()))
+    landed_end(log, served_end(ended, !name.is_still_named()))
 }
 
 /// Plays a script as `play_begun` does, and prints its replies.
@@ -71,14 +71,14 @@ fn play_printed<L, D, N, W>(
 where
     L: LogFile,
     D: LogFolder<L> + Drop,
-    N: Stays,
+    N: NameStays,
     W: Write,
     requires plain { first_reset (lines script.now) ≡ None }
     ensures quiet { IsLoggedEnd out.old out.new result }
     ensures lines { AreReplyLines W.contents out.old out.new }
     ensures done { OnOk result (AreAnswered W.contents (IsShopOf image.now) (lines script.now) out.old out.new) }
 {
-    let mut printer = ReplyLines::new(out);
+    let mut printer = WatchedReplies::new(out);
     let (_, ended) = play_begun(alloc, image, script, log, name, &mut printer);
     ended
 }

@@ -6,30 +6,30 @@ ghost use Rattle.line_text.specs.Handed.{AppendsPart};
 ghost use Rattle.shop_jobs.specs.Replies.{lines_to};
 
 use d64_image::Sectors;
-use host_session::ReplySink;
+use host_session::Replies;
 use line_text::{NotTaken, hand_whole};
 use request_cards::Reply;
 use std::io::Write;
 
 /// A writer that was lent, to which replies are printed: each on a line of its own, with its LF, in one write.
 #[derive(Drop)]
-pub(crate) struct ReplyLines<'a, W> {
+pub(crate) struct WatchedReplies<'a, W> {
     out: &'a mut W,
 }
 
-impl<'a, W> ReplyLines<'a, W> {
+impl<'a, W> WatchedReplies<'a, W> {
     /// Replies go to this writer.
-    pub(crate) fn new(out: &'a mut W) -> ReplyLines<'a, W>
+    pub(crate) fn new(out: &'a mut W) -> WatchedReplies<'a, W>
         ensures same { result.out.ghost_name ≡ out.entry.ghost_name }
         ensures out { result.out.now ≡ out.old }
     {
-        ReplyLines { out }
+        WatchedReplies { out }
     }
 }
 
 /// Prints a reply on a line of its own, with its LF, in one write.
 #[inline(always)]
-fn put_reply<W: Write>(out: &mut W, reply: &Reply) -> Result<(), NotTaken>
+fn print_reply<W: Write>(out: &mut W, reply: &Reply) -> Result<(), NotTaken>
     ensures ok { OnOk result (Appends (W.contents out.old) (W.contents out.new) (line_of reply.now)) }
     ensures err { OnErr result (AppendsPart (W.contents out.old) (W.contents out.new) (line_of reply.now)) }
 {
@@ -38,11 +38,11 @@ fn put_reply<W: Write>(out: &mut W, reply: &Reply) -> Result<(), NotTaken>
     hand_whole(out, &room[start..])
 }
 
-impl<'a, D: Sectors, W: Write> ReplySink<D> for ReplyLines<'a, W> {
+impl<'a, D: Sectors, W: Write> Replies<D> for WatchedReplies<'a, W> {
     ghost output = { lines_to W.contents };
 
     fn tell(&mut self, reply: &Reply, _disk: &D) -> Result<(), NotTaken> {
-        put_reply(self.out, reply)
+        print_reply(self.out, reply)
     }
 
     // No contract says what a flush does with the bytes that the writer has buffered.

@@ -7,30 +7,30 @@ ghost use Rattle.opened_files.specs.HostFiles.{OfWritten};
 ghost use Rattle.shop_jobs.specs.LoggedRuns.{IsLoggedRun, IsUnlogged};
 ghost use Rattle.opened_files.specs.Losses.{IsEndOfRun, IsGuarded};
 ghost use Rattle.shop_jobs.specs.WatchedFiles.{while_there};
-ghost use Rattle.shop_log.specs.life.LiveLogs.{of_live};
-ghost use Rattle.shop_log.specs.life.Tags.{SaysLogAway};
+ghost use Rattle.image_log.specs.life.LiveLogs.{of_live};
+ghost use Rattle.image_log.specs.life.Tags.{SaysLogAway};
 ghost use Rattle.line_server.specs.logged.Reporting.{of_output};
 ghost use Rattle.opened_files.specs.Rights.{MayChangeImage};
 ghost use Rattle.image_file.specs.paths.Rights.{Look, May, MayWrite};
 ghost use Rattle.image_file.specs.paths.Standing.{AreOf};
-ghost use Rattle.shop_log.specs.life.LogRights.{MayForget, MayKeepLogOf};
+ghost use Rattle.image_log.specs.life.LogRights.{MayForget, MayKeepLogOf};
 
 use crate::guarding::serve_logged_guarded;
-use crate::reply_lines::ReplyLines;
-use crate::watched_files::{WhileThere, name_of, served_end};
+use crate::reply_lines::WatchedReplies;
+use crate::watched_files::{RepliesWhileNamed, name_of, served_end};
 use command_faults::CommandFault;
 use d64_image::MemDisk;
 use disk_layout::Fault;
-use host_session::ReplySink;
-use image_file::{EndedFile, HostFiles, Locks, Stays, opened_to_change};
+use host_session::Replies;
+use image_file::{EndedFile, HostFiles, Locks, NameStays, opened_to_change};
+use image_log::{
+    ImageFolder, LiveLog, LogFault, LogFile, LogFolder, LogNames, LogRoom, SystemLog, TouchedDisk,
+    forget_making, land_in,
+};
 use line_server::BatchSource;
 use opened_files::{
     Loss, accept_loss, log_refusal, loss_refusal, opened_alone, read_shared, see_no_lost_log,
     see_size, see_untagged,
-};
-use shop_log::{
-    ImageFolder, LiveLog, LogFault, LogFile, LogFolder, LogNames, LogRoom, SystemLog, TouchedDisk,
-    forget_making, land_in,
 };
 use std::alloc::Global;
 use std::fs::OpenFile;
@@ -117,14 +117,14 @@ fn serve_begun<L, D, N, I, T>(
     log: LiveLog<L, D>,
     loss: Loss,
     input: &mut I,
-    answers: &mut WhileThere<'_, N, T>,
+    answers: &mut RepliesWhileNamed<'_, N, T>,
 ) -> (Option<D>, Result<Option<Fault>, CommandFault>)
 where
     L: LogFile,
     D: LogFolder<L> + Drop,
-    N: Stays,
+    N: NameStays,
     I: BatchSource,
-    T: ReplySink<TouchedDisk<MemDisk>>,
+    T: Replies<TouchedDisk<MemDisk>>,
     ensures { (gone : Bool) × (answers.new.gone ≡ true → gone ≡ true)
         × IsDoneAndLanded D.history (λ left ended. IsGuarded image.now loss
         (IsUnlogged log left input.old input.new answers.old answers.new)
@@ -149,14 +149,14 @@ fn serve_watched<L, D, N, I, T>(
 where
     L: LogFile,
     D: LogFolder<L> + Drop,
-    N: Stays + Drop,
+    N: NameStays + Drop,
     I: BatchSource,
-    T: ReplySink<TouchedDisk<MemDisk>>,
+    T: Replies<TouchedDisk<MemDisk>>,
     ensures quiet { IsLoggedEnd out.old out.new result }
     ensures some { IsToldSome T.output out.old out.new }
     ensures all { OnOk result (IsToldAll T.output image.now out.old out.new) }
 {
-    let mut answers = WhileThere::new(&name, out);
+    let mut answers = RepliesWhileNamed::new(&name, out);
     let (_, ended) = serve_begun(alloc, image, log, loss, input, &mut answers);
     ended
 }
@@ -175,12 +175,12 @@ fn serve_printed<L, D, N, I, W>(
 where
     L: LogFile,
     D: LogFolder<L> + Drop,
-    N: Stays + Drop,
+    N: NameStays + Drop,
     I: BatchSource,
     W: Write,
     ensures { IsLoggedService W.contents (IsShopOf image.now) out.old out.new result }
 {
-    let mut printer = ReplyLines::new(out);
+    let mut printer = WatchedReplies::new(out);
     serve_watched(alloc, image, log, loss, input, name, &mut printer)
 }
 

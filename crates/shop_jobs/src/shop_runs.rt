@@ -7,7 +7,7 @@ ghost use Rattle.shop_jobs.specs.Runs.{dry_end, IsDryRun, IsPlayRun};
 use command_faults::CommandFault;
 use d64_image::{KeptMirror, SectorFile};
 use disk_layout::Fault;
-use host_session::ReplySink;
+use host_session::Replies;
 use shop_commands::{DryFault, dry, play_file};
 use std::alloc::Global;
 use std::io::Write;
@@ -37,7 +37,7 @@ pub fn dry_run<W: Write>(script: &[u8], out: &mut W) -> Result<Option<Fault>, Co
 /// `File` if the output did; and the other refusals of `play_file`, at which nothing was done.
 // Out of line: a session is large, and a frame that has its room touches each page of it.
 #[inline(never)]
-pub fn play_run<F: SectorFile, T: ReplySink<KeptMirror<F>>>(
+pub fn play_run<F: SectorFile, T: Replies<KeptMirror<F>>>(
     alloc: Global,
     image: &[u8],
     script: &[u8],

@@ -7,8 +7,8 @@ ghost use Rattle.image_file.specs.paths.Rights.{Look, May};
 use command_faults::CommandFault;
 use d64_image::Sectors;
 use disk_layout::Fault;
-use host_session::ReplySink;
-use image_file::{FileName, HostFiles, Stays};
+use host_session::Replies;
+use image_file::{FileName, HostFiles, NameStays};
 use line_text::NotTaken;
 use request_cards::{Reply, Word};
 use std::fs::OpenFile;
@@ -22,7 +22,7 @@ pub(crate) fn name_of<'a, F: OpenFile, R: HostFiles<File = F>>(
     requires { May R.rights rt.now Look path.now }
 {
     let name = FileName::of(rt, path, file)?;
-    if !name.is_there() {
+    if !name.is_still_named() {
         return Err(CommandFault::Device);
     }
     Ok(name)
@@ -47,7 +47,7 @@ fn media_for(reply: &Reply) -> Reply
 /// An output to which replies are passed while a file stays. The file is looked for before the first of those that are
 /// handed on together. After it has gone, MEDIA is passed in the place of the reply, and handed on, and no other reply.
 #[derive(Drop)]
-pub struct WhileThere<'a, N, T> {
+pub struct RepliesWhileNamed<'a, N, T> {
     file: &'a N,
     out: &'a mut T,
     /// Whether it was there at the first reply that wasn't handed on yet.
@@ -55,13 +55,13 @@ pub struct WhileThere<'a, N, T> {
     gone: bool,
 }
 
-impl<'a, N, T> WhileThere<'a, N, T> {
+impl<'a, N, T> RepliesWhileNamed<'a, N, T> {
     /// Replies go to this output while the file is there.
-    pub fn new(file: &'a N, out: &'a mut T) -> WhileThere<'a, N, T>
+    pub fn new(file: &'a N, out: &'a mut T) -> RepliesWhileNamed<'a, N, T>
         ensures same { result.out.ghost_name ≡ out.entry.ghost_name }
         ensures out { result.out.now ≡ out.old }
     {
-        WhileThere {
+        RepliesWhileNamed {
             file,
             out,
             seen: false,
@@ -70,20 +70,20 @@ impl<'a, N, T> WhileThere<'a, N, T> {
     }
 }
 
-impl<N: Stays, T> WhileThere<'_, N, T> {
+impl<N: NameStays, T> RepliesWhileNamed<'_, N, T> {
     /// Whether the file had gone when a reply was to be passed, or has gone by now: it is looked for once more.
     pub fn has_gone(&self) -> bool
         ensures { self.now.gone ≡ true → result ≡ true }
     {
-        self.gone || !self.file.is_there()
+        self.gone || !self.file.is_still_named()
     }
 }
 
-impl<'a, D: Sectors, N: Stays, T: ReplySink<D>> ReplySink<D> for WhileThere<'a, N, T> {
+impl<'a, D: Sectors, N: NameStays, T: Replies<D>> Replies<D> for RepliesWhileNamed<'a, N, T> {
     ghost output = { while_there T.output };
 
     fn tell(&mut self, reply: &Reply, disk: &D) -> Result<(), NotTaken> {
-        if !self.gone && (self.seen || self.file.is_there()) {
+        if !self.gone && (self.seen || self.file.is_still_named()) {
             self.seen = true;
             return self.out.tell(reply, disk);
         }

@@ -6,7 +6,7 @@ use Rattle.std.proofs.lemmas.Slice.Eq.{bytes_eq-Decides}
 use Rattle.image_file.specs.paths.Standing.{IsMissing}
 use Rattle.opened_files.specs.HostFiles.{OfImage, OfText, OfWritten}
 use Rattle.opened_files.specs.Rights.{standard_input}
-use Rattle.shop_log.specs.life.LogRights.{log_of}
+use Rattle.image_log.specs.life.LogRights.{log_of}
 use Rattle.test_files.specs.Snapshots.{image_path, log_stands, snapshot_rights, snapshot_stands, text_path}
 use Rattle.test_files.specs.declared.snapshots.host.Snapshot.{Snapshot}
 

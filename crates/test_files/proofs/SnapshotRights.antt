@@ -10,7 +10,7 @@ use Rattle.ledger_jobs.specs.JobRights.{MayDo}
 use Rattle.ledger_jobs.specs.declared.jobs.Job.{Job}
 use Rattle.ledger_jobs.specs.declared.jobs.Job.TheVariants as jobs
 use Rattle.opened_files.specs.Rights.{MayChangeImage, MayFill, MayMakeImage, MayMakeNew, MayReadImage}
-use Rattle.shop_log.specs.life.LogRights.{MayForget, MayKeepLogOf}
+use Rattle.image_log.specs.life.LogRights.{MayForget, MayKeepLogOf}
 use Rattle.test_files.specs.Snapshots.{snapshot_rights}
 use Rattle.test_files.specs.declared.snapshots.host.Snapshot.{Snapshot}
 

@@ -229,7 +229,7 @@ impl Read for DiskFile {
 }
 
 impl EndedFile for DiskFile {
-    fn put_over(&mut self, bytes: &[u8], at: u64) -> io::Result<()> {
+    fn write_over(&mut self, bytes: &[u8], at: u64) -> io::Result<()> {
         self.write_noted(bytes, at)
     }
 

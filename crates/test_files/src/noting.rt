@@ -6,7 +6,7 @@ ghost use Rattle.test_files.specs.Noted.{IsNoted, asked_for, noted_lines, noted_
 use arrayvec::ArrayVec;
 use d64_image::MemDisk;
 use host_session::Next;
-use line_server::{Answers, LineSource};
+use line_server::{LineSource, ServedReplies};
 use line_text::NotTaken;
 use request_cards::Reply;
 use std::alloc::Global;
@@ -126,7 +126,7 @@ impl NotedReplies {
     }
 }
 
-impl Answers<MemDisk> for NotedReplies {
+impl ServedReplies<MemDisk> for NotedReplies {
     ghost answering = { noted_replies };
 
     fn answer(&mut self, reply: &Reply, disk: &MemDisk) -> Result<(), NotTaken> {

@@ -12,14 +12,14 @@ use crate::whole_file::WholeFile;
 use command_faults::CommandFault;
 use d64_image::KeptMirror;
 use disk_layout::Fault;
-use host_session::ReplySink;
+use host_session::Replies;
 use image_file::ImageFile;
 use shop_jobs::play_durably;
 use std::alloc::Global;
 
 /// Plays a script on the shop of the image that the file holds, and syncs it at the end: the file then, and how that
 /// ended. If the program dies at any point of it, the file has the shop after a prefix of the lines.
-pub fn play_in_file<T: ReplySink<KeptMirror<ImageFile<WholeFile>>>>(
+pub fn play_in_file<T: Replies<KeptMirror<ImageFile<WholeFile>>>>(
     alloc: Global,
     image: &[u8],
     script: &[u8],

@@ -1,6 +1,6 @@
 //! Days on files of which it is known what they hold: played whole, and with a call that fails.
 use crate::images::formatted;
-use host_session::Printer;
+use host_session::PrintedReplies;
 use shop_commands::show_image;
 use std::process::Abort;
 use test_files::{DiskFile, IMAGE_BYTES, WholeFile, play_in_file};
@@ -43,7 +43,7 @@ fn shops_in_file(
     }
     let file = DiskFile::new(rt.alloc(), image.as_slice());
     let file = WholeFile::new(file.expect(rt, "a file").failing(calls, 0, false));
-    let mut out = Printer::new(Vec::new(rt.alloc()));
+    let mut out = PrintedReplies::new(Vec::new(rt.alloc()));
     let (file, ended) = play_in_file(rt.alloc(), image.as_slice(), SCRIPT, file, &mut out);
     let file = file.into_inner();
     let there = shop_of(rt, file.disk().bytes());

@@ -12,12 +12,12 @@ use disk_layout::{
     side_bytes, walk_chain,
 };
 
-/// What is done with a file that is shorter than its side sectors or its block count say.
+/// What is done with a disk that has lost a part of a file, or of its log.
 #[derive(Clone, Copy, Debug, PartialEq, Eq)]
-pub enum Shortened {
-    /// Its disk is left as it is.
+pub enum Loss {
+    /// It is left as it is.
     Refused,
-    /// Its side sectors list the blocks that it has.
+    /// The work goes on with what is there, and what is lost stays lost.
     Accepted,
 }
 
@@ -74,7 +74,7 @@ fn build_sides(
     before: &mut MemDisk,
     after: &mut MemDisk,
     slot: &Slot,
-    shortened: Shortened,
+    shortened: Loss,
     plan: &mut Plan,
 )
     ensures same { disk_image before.new ≡ disk_image before.old }
@@ -85,7 +85,7 @@ fn build_sides(
         return;
     }
     let unowned = unowned_places(plan.taken.as_slice());
-    if shortened == Shortened::Refused
+    if shortened == Loss::Refused
         && is_shortened(before, unowned.as_slice(), slot, plan.blocks.as_slice())
     {
         return;
@@ -104,7 +104,7 @@ fn build_sides(
 
 /// Builds the side sectors that aren't in order anew in `after`, a copy of `before`. Whether the disk is sound then, the
 /// caller sees.
-pub(crate) fn plan_sides(before: &mut MemDisk, after: &mut MemDisk, shortened: Shortened)
+pub(crate) fn plan_sides(before: &mut MemDisk, after: &mut MemDisk, shortened: Loss)
     ensures same { disk_image before.new ≡ disk_image before.old }
 {
     let mut slots = ArrayVec::new();

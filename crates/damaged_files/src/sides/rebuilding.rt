@@ -4,7 +4,7 @@ ghost use Rattle.d64_image.specs.Memory.{disk_image};
 ghost use Rattle.damaged_files.specs.sides.Rebuilt.{RebuildsSides};
 
 use crate::sides::judging::is_rebuilt;
-use crate::sides::planning::{Shortened, plan_sides};
+use crate::sides::planning::{Loss, plan_sides};
 use crate::sides::writing::write_changes;
 use d64_image::{MemDisk, Sectors};
 use disk_layout::Fault;
@@ -26,7 +26,7 @@ use layout_check::survey;
 pub fn rebuild_sides<D: Sectors>(
     before: &mut MemDisk,
     after: &mut MemDisk,
-    shortened: Shortened,
+    shortened: Loss,
     disk: &mut D,
 ) -> Result<(), Fault>
     requires holds { disk_image before.old ≡ D.history.image disk.old }

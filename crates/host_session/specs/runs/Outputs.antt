@@ -7,12 +7,12 @@ use Rattle.std.specs.declared.alloc.Global.{Global}
 use Rattle.request_cards.specs.Ledgers.{report}
 use Rattle.request_cards.specs.Texts.{reply_text}
 use Rattle.request_cards.specs.declared.reply.Reply.{Reply}
-use Rattle.host_session.specs.declared.events.printing.Printer.{Printer}
+use Rattle.host_session.specs.declared.events.printing.PrintedReplies.{PrintedReplies}
 use Rattle.host_session.specs.events.Telling.{Output, output_in}
 use Rattle.host_session.specs.runs.Chains.{told_in}
 
 -- the writer of a printer
-abbrev pub printer_out : {W : Type 0} → Printer W → W
+abbrev pub printer_out : {W : Type 0} → PrintedReplies W → W
 printer_out p = p.out
 
 -- the line of a reply
@@ -32,7 +32,7 @@ written contents = record {
 }
 
 -- the same for a printer, over its writer
-abbrev pub printed : {W : Type 0} → (W → Option (List ℕ)) → Output (Printer W)
+abbrev pub printed : {W : Type 0} → (W → Option (List ℕ)) → Output (PrintedReplies W)
 printed contents = output_in printer_out (written contents)
 
 -- Replies were put in a list, after those that it had, and nowhere else.

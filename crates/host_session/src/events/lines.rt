@@ -3,7 +3,7 @@ ghost use Rattle.std.specs.Prelude.{◌≡◌};
 ghost use Rattle.host_session.specs.runs.Lent.{written_to};
 
 use crate::events::printing::write_line;
-use crate::events::sinks::ReplySink;
+use crate::events::sinks::Replies;
 use d64_image::Sectors;
 use line_text::NotTaken;
 use request_cards::Reply;
@@ -11,21 +11,21 @@ use std::io::Write;
 
 /// A borrowed writer, which takes replies as that of a printer does.
 #[derive(Drop)]
-pub(crate) struct Lines<'a, W> {
+pub(crate) struct LentReplies<'a, W> {
     out: &'a mut W,
 }
 
-impl<'a, W> Lines<'a, W> {
+impl<'a, W> LentReplies<'a, W> {
     /// Replies go to this writer.
-    pub(crate) fn new(out: &'a mut W) -> Lines<'a, W>
+    pub(crate) fn new(out: &'a mut W) -> LentReplies<'a, W>
         ensures same { result.out.ghost_name ≡ out.entry.ghost_name }
         ensures out { result.out.now ≡ out.old }
     {
-        Lines { out }
+        LentReplies { out }
     }
 }
 
-impl<'a, D: Sectors, W: Write> ReplySink<D> for Lines<'a, W> {
+impl<'a, D: Sectors, W: Write> Replies<D> for LentReplies<'a, W> {
     ghost output = { written_to W.contents };
 
     fn tell(&mut self, reply: &Reply, _disk: &D) -> Result<(), NotTaken> {

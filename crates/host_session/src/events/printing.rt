@@ -4,7 +4,7 @@ ghost use Rattle.std.specs.Io.KnownBytes.{Appends};
 ghost use Rattle.host_session.specs.runs.Outputs.{line_of, printed, printer_out};
 ghost use Rattle.line_text.specs.Handed.{AppendsPart};
 
-use crate::events::sinks::ReplySink;
+use crate::events::sinks::Replies;
 use d64_image::Sectors;
 use line_text::{NotTaken, hand_whole};
 use request_cards::Reply;
@@ -12,16 +12,16 @@ use std::io::Write;
 
 /// A writer of replies: each on a line of its own, with its LF, in one write.
 #[derive(Drop)]
-pub struct Printer<W> {
+pub struct PrintedReplies<W> {
     out: W,
 }
 
-impl<W> Printer<W> {
+impl<W> PrintedReplies<W> {
     /// Replies go to this writer.
-    pub fn new(out: W) -> Printer<W>
+    pub fn new(out: W) -> PrintedReplies<W>
         ensures { printer_out result ≡ out }
     {
-        Printer { out }
+        PrintedReplies { out }
     }
 
     /// The writer.
@@ -43,7 +43,7 @@ pub(crate) fn write_line<W: Write>(out: &mut W, reply: &Reply) -> Result<(), Not
     hand_whole(out, &room[start..])
 }
 
-impl<D: Sectors, W: Write> ReplySink<D> for Printer<W> {
+impl<D: Sectors, W: Write> Replies<D> for PrintedReplies<W> {
     ghost output = { printed W.contents };
 
     fn tell(&mut self, reply: &Reply, _disk: &D) -> Result<(), NotTaken> {

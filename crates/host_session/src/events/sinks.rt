@@ -8,7 +8,7 @@ use line_text::NotTaken;
 use request_cards::Reply;
 
 /// A receiver of a run's replies, one by one, each with the disk that its message left.
-pub trait ReplySink<D: Sectors> {
+pub trait Replies<D: Sectors> {
     /// What is known of the replies that this output was passed.
     ghost output: { Output Self };
 

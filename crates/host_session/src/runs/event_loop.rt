@@ -3,7 +3,7 @@ ghost use Rattle.std.specs.Prelude.{◌≡◌, ◌<◌, IsSome, false};
 ghost use Rattle.host_session.specs.runs.Loops.{Ends, HasCome, HasComeBut, IsRun, IsStretch, Origin, with_disk};
 
 use crate::events::cuts::{cut_event, is_media};
-use crate::events::sinks::ReplySink;
+use crate::events::sinks::Replies;
 use crate::events::sources::{EventSource, Next};
 use crate::faults::OpenFault;
 use crate::session::Session;
@@ -32,7 +32,7 @@ enum Stopped {
 }
 
 /// Handles messages up to the next event with a reset, and passes each reply on before the next event is taken.
-fn whole_messages<D: Sectors, A: EventSource<D>, T: ReplySink<D>>(
+fn whole_messages<D: Sectors, A: EventSource<D>, T: Replies<D>>(
     session: &mut Session<D>,
     asks: &mut A,
     out: &mut T,
@@ -76,7 +76,7 @@ fn ended<D>(disk: D, end: Result<(), LoopFault>) -> Result<D, (LoopFault, D)>
 /// The run from an event with a reset on, which was taken and isn't handled yet.
 // Out of line: a run without a reset doesn't use these sessions.
 #[inline(never)]
-fn run_on<D: Sectors, A: EventSource<D>, T: ReplySink<D>>(
+fn run_on<D: Sectors, A: EventSource<D>, T: Replies<D>>(
     session: Session<D>,
     asks: &mut A,
     out: &mut T,
@@ -108,7 +108,7 @@ fn run_on<D: Sectors, A: EventSource<D>, T: ReplySink<D>>(
 
 /// Runs the events one after another on a disk that is opened first, and passes each reply on before the next event is
 /// taken. The clauses of `IsRun` say what it does. docs/EMBED.md says how much stack it takes.
-pub fn run<D: Sectors, A: EventSource<D>, T: ReplySink<D>>(
+pub fn run<D: Sectors, A: EventSource<D>, T: Replies<D>>(
     disk: D,
     asks: &mut A,
     out: &mut T,

@@ -4,8 +4,8 @@ ghost use Rattle.host_session.specs.runs.Outputs.{written};
 ghost use Rattle.host_session.specs.runs.Faults.{script_fault_of, script_number};
 ghost use Rattle.host_session.specs.runs.ScriptRuns.{IsScriptRun};
 
-use crate::events::lines::Lines;
-use crate::events::sinks::ReplySink;
+use crate::events::lines::LentReplies;
+use crate::events::sinks::Replies;
 use crate::events::sources::ScriptEvents;
 use crate::faults::OpenFault;
 use crate::runs::event_loop::{LoopFault, run};
@@ -62,7 +62,7 @@ fn fault_of(fault: LoopFault) -> ScriptFault
 /// All lines are checked before anything else is done. No memory is allocated. After `Output` the lines played stand,
 /// the one whose reply wasn't fully taken among them. If the device failed, the last reply is passed on before `Device`
 /// is returned; whether the output took that reply isn't reported. docs/EMBED.md says how much stack it takes.
-pub fn play_script<D: Sectors, T: ReplySink<D>>(
+pub fn play_script<D: Sectors, T: Replies<D>>(
     disk: D,
     script: &[u8],
     out: &mut T,
@@ -97,6 +97,6 @@ pub fn run_script<D: Sectors, W: Write>(
 ) -> Result<D, (ScriptFault, D)>
     ensures { IsScriptRun D.history (written W.contents) disk script.now out.old out.new result }
 {
-    let mut lines = Lines::new(out);
+    let mut lines = LentReplies::new(out);
     play_script(disk, script, &mut lines)
 }

@@ -9,14 +9,14 @@ ghost use Rattle.rel_records.specs.growth.Growth.{growth_writes};
 
 use crate::shop::completion::{complete_with, mark_answered};
 use crate::shop::growth::grow_stock;
-use crate::shop::records::put_answer;
+use crate::shop::records::write_answer;
 use crate::shop::shop_drive::ShopDrive;
 use d64_image::Sectors;
 use drive_channels::Dead;
 use request_cards::{Request, RequestCard};
 
 /// Writes the card of an answer that changes no quantity.
-fn put_refusal<D: Sectors>(
+fn write_refusal<D: Sectors>(
     drive: &mut ShopDrive<D>,
     request: &Request,
     card: &RequestCard,
@@ -28,13 +28,13 @@ fn put_refusal<D: Sectors>(
         (λ f p. 1) }
     ensures counted { IsAfterCounted D.history drive.old drive.new request.now card.now }
 {
-    put_answer(drive, request.till(), &card.print())
+    write_answer(drive, request.till(), &card.print())
 }
 
 /// Writes a request's intent, and completes it. The records of its items are there.
 // In line, as all on the way to a device's write is: a return right after a system call is slow.
 #[inline(always)]
-fn put_intent<D: Sectors>(
+fn write_intent<D: Sectors>(
     drive: &mut ShopDrive<D>,
     request: &Request,
     card: &RequestCard,
@@ -49,14 +49,14 @@ fn put_intent<D: Sectors>(
 {
     let till = request.till();
     let mut text = card.print();
-    put_answer(drive, till, &text)?;
+    write_answer(drive, till, &text)?;
     // the answer differs from its intent by one byte
     mark_answered(&mut text);
     complete_with(drive, till, card, &text)
 }
 
 /// Grows STOCK for the item of a first set, then writes the intent and completes it.
-fn put_first_set<D: Sectors>(
+fn write_first_set<D: Sectors>(
     drive: &mut ShopDrive<D>,
     request: &Request,
     card: &RequestCard,
@@ -69,7 +69,7 @@ fn put_first_set<D: Sectors>(
         (λ f p. growth_writes p.0.stock_file request.now.body.item + 2 + card_writes (results_of card.now.newest)) }
 {
     grow_stock(drive, request.item())?;
-    put_intent(drive, request, card)
+    write_intent(drive, request, card)
 }
 
 /// Keeps a till's next request with its answer. `on_hand` is what its item had before. If the answer changes no
@@ -91,10 +91,10 @@ pub(crate) fn store_answer<D: Sectors>(
     ensures refused { card.now.pending ≡ false → IsAfterCounted D.history drive.old drive.new request.now card.now }
 {
     if !card.pending() {
-        return put_refusal(drive, request, card);
+        return write_refusal(drive, request, card);
     }
     match on_hand {
-        Some(_) => put_intent(drive, request, card),
-        None => put_first_set(drive, request, card),
+        Some(_) => write_intent(drive, request, card),
+        None => write_first_set(drive, request, card),
     }
 }

@@ -6,7 +6,7 @@ ghost use Rattle.host_session.specs.shop.Selecting.{IsReady};
 ghost use Rattle.host_session.specs.shop.Shop.{IsShop, Shop, any_old, is_old};
 ghost use Rattle.request_cards.specs.Tables.{nth};
 
-use crate::shop::records::put_answer;
+use crate::shop::records::write_answer;
 use crate::shop::shop_drive::ShopDrive;
 use d64_image::Sectors;
 use drive_channels::Dead;
@@ -35,7 +35,7 @@ fn migrate_till<D: Sectors>(
         return Ok(());
     }
     let new = card.to_v2();
-    put_answer(drive, till, &new.print())?;
+    write_answer(drive, till, &new.print())?;
     requests[place] = Some(new);
     Ok(())
 }

@@ -8,7 +8,7 @@ ghost use Rattle.host_session.specs.shop.Shop.{IsSettled, IsShop, Shop};
 use crate::faults::OpenFault;
 use crate::session::Session;
 use crate::session::settling::settle;
-use crate::shop::judgment::{LoadedShop, judge};
+use crate::shop::judgment::{LoadedShop, load_shop};
 use d64_image::Sectors;
 
 impl<D: Sectors> Session<D> {
@@ -44,7 +44,7 @@ impl<D: Sectors> Session<D> {
     {
         let mut disk = disk;
         let mut found = LoadedShop::nothing();
-        if let Err(fault) = judge(&mut disk, &mut found) {
+        if let Err(fault) = load_shop(&mut disk, &mut found) {
             return Err((fault, disk));
         }
         let drive = settle(disk, &mut found)?;

@@ -39,7 +39,7 @@ fn bring_to_rest<D: Sectors>(
 }
 
 /// Repairs a shop's disk that was checked, and brings it to rest. `found` then is as the disk has it at rest.
-// Out of line, as `judge` is.
+// Out of line, as `load_shop` is.
 #[inline(never)]
 pub(crate) fn settle<D: Sectors>(
     disk: D,

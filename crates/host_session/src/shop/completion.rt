@@ -11,7 +11,7 @@ ghost use Rattle.rel_records.specs.Written.{touched};
 ghost use Rattle.request_cards.specs.CardTexts.{Card, IsCard, IsStock, card_text, stock_text};
 
 use crate::shop::intents::new_quantities;
-use crate::shop::records::{put_answer, put_card};
+use crate::shop::records::{write_answer, write_card};
 use crate::shop::shop_drive::ShopDrive;
 use d64_image::Sectors;
 use drive_channels::Dead;
@@ -39,7 +39,11 @@ pub(crate) fn mark_answered(text: &mut [u8; REQUEST_CARD_LENGTH])
 /// Writes the quantity on hand of an item whose record is there.
 // In line, as all on the way to a device's write is: a return right after a system call is slow.
 #[inline(always)]
-fn put_quantity<D: Sectors>(drive: &mut ShopDrive<D>, item: u16, quantity: u32) -> Result<(), Dead>
+fn write_quantity<D: Sectors>(
+    drive: &mut ShopDrive<D>,
+    item: u16,
+    quantity: u32,
+) -> Result<(), Dead>
     requires ready { IsReady D.history drive.old }
     requires there { (f : Files) × HasFiles (D.history.image drive.old.disk) f × (item ≤ length f.stock) }
     requires fits { IsStock (record { item = item; quantity = quantity }) }
@@ -49,11 +53,11 @@ fn put_quantity<D: Sectors>(drive: &mut ShopDrive<D>, item: u16, quantity: u32) 
         (λ f. HasCard f item (stock_text (record { item = item; quantity = quantity }))) }
 {
     let card = StockCard::new(item, quantity).unwrap();
-    put_card(drive, item, &card.print())
+    write_card(drive, item, &card.print())
 }
 
 /// Writes the cards of an open intent's results, whole, whatever their records hold.
-fn put_results<D: Sectors>(
+fn write_results<D: Sectors>(
     drive: &mut ShopDrive<D>,
     till: u8,
     card: &RequestCard,
@@ -71,14 +75,14 @@ fn put_results<D: Sectors>(
         return Ok(());
     };
     let Some((to, to_quantity)) = new.second else {
-        return put_quantity(drive, item, quantity);
+        return write_quantity(drive, item, quantity);
     };
-    put_quantity(drive, item, quantity)?;
-    put_quantity(drive, to, to_quantity)
+    write_quantity(drive, item, quantity)?;
+    write_quantity(drive, to, to_quantity)
 }
 
 /// Completes an open intent: writes the cards of its results, and then its answer, which has this text.
-// In line, as `put_quantity` is.
+// In line, as `write_quantity` is.
 #[inline(always)]
 pub(crate) fn complete_with<D: Sectors>(
     drive: &mut ShopDrive<D>,
@@ -95,8 +99,8 @@ pub(crate) fn complete_with<D: Sectors>(
         (λ f p. card_writes (results_of card.now.newest) + 1) (λ f i. IsShop i (shop_of f))
         (λ f. IsCompleted f till card.now) }
 {
-    put_results(drive, till, card)?;
-    put_answer(drive, till, text)
+    write_results(drive, till, card)?;
+    write_answer(drive, till, text)
 }
 
 /// Completes an open intent of either version.

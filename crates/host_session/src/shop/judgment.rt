@@ -223,7 +223,7 @@ fn judge_tills<D: Sectors>(
 // Out of line, as `settle` is: an opening is then so short that the compiler makes the tables once, in the session, and
 // not a second time for a fault.
 #[inline(never)]
-pub(crate) fn judge<D: Sectors>(disk: &mut D, found: &mut LoadedShop) -> Result<(), OpenFault>
+pub(crate) fn load_shop<D: Sectors>(disk: &mut D, found: &mut LoadedShop) -> Result<(), OpenFault>
     requires nothing { IsNothing found.old }
     ensures ok { OnOk result ((f : Files) × HasFiles (D.history.image disk.old) f × IsJudged f found.new) }
     ensures err { IfErr result (Refuses (Failed D.history disk.old disk.new) (D.history.image disk.old)) }

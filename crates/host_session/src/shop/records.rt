@@ -18,7 +18,7 @@ use drive_channels::Dead;
 /// Writes a record that is there, whole.
 // In line: if the file and the length of the text are known, the compiler works out most of a `P`.
 #[inline(always)]
-fn put_record<D: Sectors>(
+fn write_record<D: Sectors>(
     drive: &mut ShopDrive<D>,
     file: ShopFile,
     number: u16,
@@ -46,7 +46,7 @@ fn put_record<D: Sectors>(
 }
 
 /// Writes a stock card whose record is there.
-pub(crate) fn put_card<D: Sectors>(
+pub(crate) fn write_card<D: Sectors>(
     drive: &mut ShopDrive<D>,
     item: u16,
     text: &[u8],
@@ -57,11 +57,11 @@ pub(crate) fn put_card<D: Sectors>(
     ensures { Puts D.history drive.old drive.new result (HasFiles (D.history.image drive.old.disk))
         (λ f h. touched 18 item 1) (λ f. IsPuttingCard f item text.now) (λ f. HasCard f item text.now) }
 {
-    put_record(drive, ShopFile::Stock, item, text)
+    write_record(drive, ShopFile::Stock, item, text)
 }
 
 /// Writes a till's card whose record is there.
-pub(crate) fn put_answer<D: Sectors>(
+pub(crate) fn write_answer<D: Sectors>(
     drive: &mut ShopDrive<D>,
     till: u8,
     text: &[u8],
@@ -75,5 +75,5 @@ pub(crate) fn put_answer<D: Sectors>(
     // at an error no write was counted
     ensures uncounted { OnErr result (D.history.writes drive.new.disk ≡ D.history.writes drive.old.disk) }
 {
-    put_record(drive, ShopFile::Requests, u16::from(till), text)
+    write_record(drive, ShopFile::Requests, u16::from(till), text)
 }

@@ -136,9 +136,9 @@ impl<F: OpenFile> OpenFile for NotedFile<'_, '_, F> {
 }
 
 impl<F: EndedFile> EndedFile for NotedFile<'_, '_, F> {
-    fn put_over(&mut self, bytes: &[u8], at: u64) -> io::Result<()> {
+    fn write_over(&mut self, bytes: &[u8], at: u64) -> io::Result<()> {
         self.see_end(end_of(bytes, at))?;
-        let outcome = self.file.put_over(bytes, at);
+        let outcome = self.file.write_over(bytes, at);
         self.noted_at(bytes.len(), at, outcome)
     }
 

@@ -128,12 +128,12 @@ impl<'n, 'a, R: HostFiles> HostFiles for NotedRuntime<'n, 'a, R> {
         self.noted(path, self.rt.make_folder(path))
     }
 
-    fn give_name(&self, from: &str, to: &str) -> io::Result<()> {
-        self.noted(to, self.rt.give_name(from, to))
+    fn rename(&self, from: &str, to: &str) -> io::Result<()> {
+        self.noted(to, self.rt.rename(from, to))
     }
 
-    fn take_name(&self, path: &str) -> io::Result<()> {
-        self.noted(path, self.rt.take_name(path))
+    fn remove(&self, path: &str) -> io::Result<()> {
+        self.noted(path, self.rt.remove(path))
     }
 
     fn give_free_name(&self, from: &str, to: &str) -> io::Result<()> {

@@ -92,12 +92,12 @@ pub trait HostFiles {
         requires { May rights self.now Make path.now };
 
     /// Gives the file at a path another name, in the place of the file that had it.
-    fn give_name(&self, from: &str, to: &str) -> io::Result<()>
+    fn rename(&self, from: &str, to: &str) -> io::Result<()>
         requires from { May rights self.now Remove from.now }
         requires to { May rights self.now Replace to.now };
 
     /// Takes the name of the file at a path away.
-    fn take_name(&self, path: &str) -> io::Result<()>
+    fn remove(&self, path: &str) -> io::Result<()>
         requires { May rights self.now Remove path.now };
 }
 
@@ -182,11 +182,11 @@ impl<R: Files> HostFiles for R {
         self.create_dir(path)
     }
 
-    fn give_name(&self, from: &str, to: &str) -> io::Result<()> {
+    fn rename(&self, from: &str, to: &str) -> io::Result<()> {
         self.rename(from, to)
     }
 
-    fn take_name(&self, path: &str) -> io::Result<()> {
+    fn remove(&self, path: &str) -> io::Result<()> {
         self.remove_file(path)
     }
 

@@ -45,9 +45,9 @@ pub fn leads_to<R: HostFiles>(rt: &R, path: &str, file: Identity) -> bool
 }
 
 /// Something that may go.
-pub trait Stays {
+pub trait NameStays {
     /// Whether it is still there.
-    fn is_there(&self) -> bool;
+    fn is_still_named(&self) -> bool;
 }
 
 /// The name of an open file, by which others find it.
@@ -74,9 +74,9 @@ impl<'a, R: HostFiles> FileName<'a, R> {
     }
 }
 
-impl<R: HostFiles> Stays for FileName<'_, R> {
+impl<R: HostFiles> NameStays for FileName<'_, R> {
     /// Whether the path leads to the same file, and that has as many bytes. False if the system can't say.
-    fn is_there(&self) -> bool {
+    fn is_still_named(&self) -> bool {
         leads_to(self.rt, self.path, self.file)
     }
 }

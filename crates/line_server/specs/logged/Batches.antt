@@ -17,9 +17,9 @@ use Rattle.host_session.specs.session.Standing.{View}
 use Rattle.host_session.specs.shop.Shop.{IsSettled, IsShop, Shop, start_of}
 use Rattle.line_server.specs.Batches.{BatchInput}
 use Rattle.line_server.specs.Read.{AreWhole, LacksLf}
-use Rattle.shop_log.specs.ImageLogs.{IsEither, LeavesImages, LogHistory}
-use Rattle.shop_log.specs.Marks.{Covers}
-use Rattle.shop_log.specs.Touched.{touched_of}
+use Rattle.image_log.specs.ImageLogs.{IsEither, LeavesImages, LogHistory}
+use Rattle.image_log.specs.Marks.{Covers}
+use Rattle.image_log.specs.Touched.{touched_of}
 use Rattle.line_server.specs.logged.Handling.{AreHandled, AskNone, IsAtRest}
 use Rattle.line_server.specs.logged.Memory.{Memory, image_of}
 use Rattle.line_server.specs.logged.Reporting.{LogOutput, ReportsPart, ReportsWhole, over_log}

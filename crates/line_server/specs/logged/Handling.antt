@@ -8,7 +8,7 @@ use Rattle.host_session.specs.session.Standing.{View}
 use Rattle.host_session.specs.shop.Shop.{IsSettled, Shop, start_of}
 use Rattle.d64_image.specs.Memory.{memory}
 use Rattle.disk_layout.specs.Whole.{IsWhole}
-use Rattle.shop_log.specs.Touched.{KeepsCover}
+use Rattle.image_log.specs.Touched.{KeepsCover}
 use Rattle.std.specs.List.{AllByRecursion}
 use Rattle.std.specs.Prelude.{ℕ}
 use Rattle.line_server.specs.logged.Memory.{Memory, image_of}

@@ -1,9 +1,9 @@
 -- A disk in memory, committed to a log. All of it is our own.
 use Rattle.std.specs.Prelude.{◌≡◌, OnErr, OnOk, Result, true}
 use Rattle.d64_image.specs.Images.{Image}
-use Rattle.shop_log.specs.ImageLogs.{IsEither, LeavesImages, LogHistory}
-use Rattle.shop_log.specs.Marks.{Covers}
-use Rattle.shop_log.specs.Touched.{touched_of}
+use Rattle.image_log.specs.ImageLogs.{IsEither, LeavesImages, LogHistory}
+use Rattle.image_log.specs.Marks.{Covers}
+use Rattle.image_log.specs.Touched.{touched_of}
 use Rattle.line_server.specs.logged.Memory.{Memory, image_of}
 
 -- The disk was committed to a log that stood for the image `before`, of which a copy was kept.

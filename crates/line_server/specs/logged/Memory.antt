@@ -3,8 +3,8 @@ use Rattle.d64_image.specs.History.{History}
 use Rattle.d64_image.specs.Images.{Image}
 use Rattle.d64_image.specs.Memory.{disk_image, memory}
 use Rattle.d64_image.specs.declared.mem_disk.MemDisk.{MemDisk}
-use Rattle.shop_log.specs.Touched.{touched_disk, touching}
-use Rattle.shop_log.specs.declared.touched_disk.TouchedDisk.{TouchedDisk}
+use Rattle.image_log.specs.Touched.{touched_disk, touching}
+use Rattle.image_log.specs.declared.touched_disk.TouchedDisk.{TouchedDisk}
 
 -- a disk in memory that notes which sectors are written
 abbrev pub Memory : Type 0

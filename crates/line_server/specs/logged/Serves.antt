@@ -18,7 +18,7 @@ use Rattle.host_session.specs.session.Opening.{IsAShop, Refuses}
 use Rattle.host_session.specs.shop.Shop.{IsSettled, IsShop, Shop, start_of, with_state}
 use Rattle.line_server.specs.Batches.{BatchInput}
 use Rattle.line_server.specs.Read.{AreWhole, LacksLf}
-use Rattle.shop_log.specs.ImageLogs.{LeavesImages, LogHistory}
+use Rattle.image_log.specs.ImageLogs.{LeavesImages, LogHistory}
 use Rattle.line_server.specs.logged.Handling.{AskNone}
 use Rattle.line_server.specs.logged.Reporting.{IsToldTo, LogOutput}
 

@@ -8,17 +8,17 @@ ghost use Rattle.line_server.specs.logged.Serves.{IsServedOver};
 
 use crate::batches::BatchSource;
 use crate::logged::handling::handle_batch;
-use crate::logged::keeping::keep;
-use crate::logged::reporting::{Reports, report_all};
+use crate::logged::keeping::commit_changes;
+use crate::logged::reporting::{BatchReplies, report_all};
 use crate::logged::room::Room;
 use arrayvec::ArrayVec;
 use d64_image::MemDisk;
 use host_session::{LoopFault, Next, Session};
+use image_log::{ImageLog, TouchedDisk};
 use request_cards::Reply;
-use shop_log::{ImageLog, TouchedDisk};
 
 /// Handles the lines that the room has, commits what they came to, and then reports their replies.
-fn serve_batch<L: ImageLog, T: Reports<L>>(
+fn serve_batch<L: ImageLog, T: BatchReplies<L>>(
     session: &mut Session<TouchedDisk<MemDisk>>,
     log: &mut L,
     out: &mut T,
@@ -35,7 +35,7 @@ fn serve_batch<L: ImageLog, T: Reports<L>>(
     ensures sized { length kept.new ≡ 683 }
 {
     handle_batch(session, lines, replies);
-    let Ok(()) = keep(session.disk(), kept, log) else {
+    let Ok(()) = commit_changes(session.disk(), kept, log) else {
         return Err(LoopFault::Device);
     };
     match report_all(out, replies.as_slice(), log, session.disk()) {
@@ -45,7 +45,7 @@ fn serve_batch<L: ImageLog, T: Reports<L>>(
 }
 
 /// Serves an open session: what its opening mended is committed first, and then batch after batch is served.
-fn serve_open<L: ImageLog, R: BatchSource, T: Reports<L>>(
+fn serve_open<L: ImageLog, R: BatchSource, T: BatchReplies<L>>(
     session: &mut Session<TouchedDisk<MemDisk>>,
     log: &mut L,
     input: &mut R,
@@ -56,7 +56,7 @@ fn serve_open<L: ImageLog, R: BatchSource, T: Reports<L>>(
         → IsServedSo L.history R.input T.output disk log.old log.new input.old input.new out.old out.new
         session.new result }
 {
-    let Ok(()) = keep(session.disk(), room.kept.as_mut_slice(), log) else {
+    let Ok(()) = commit_changes(session.disk(), room.kept.as_mut_slice(), log) else {
         return Err(LoopFault::Device);
     };
     for _ in 0..u64::MAX {
@@ -103,7 +103,7 @@ fn ended(disk: MemDisk, end: Result<(), LoopFault>) -> Result<MemDisk, (LoopFaul
 /// was reported.
 ///
 /// It takes no memory but the room, and as much stack as an opening (docs/EMBED.md).
-pub fn serve_batches<L: ImageLog, R: BatchSource, T: Reports<L>>(
+pub fn serve_batches<L: ImageLog, R: BatchSource, T: BatchReplies<L>>(
     disk: MemDisk,
     log: &mut L,
     input: &mut R,

@@ -6,8 +6,8 @@ ghost use Rattle.line_server.specs.Batches.{texts_of};
 use arrayvec::ArrayVec;
 use d64_image::MemDisk;
 use host_session::Session;
+use image_log::TouchedDisk;
 use request_cards::Reply;
-use shop_log::TouchedDisk;
 
 /// Handles a line over memory, which never fails: no till gets the reply MEDIA.
 fn handle_line(session: &mut Session<TouchedDisk<MemDisk>>, line: &[u8]) -> Reply

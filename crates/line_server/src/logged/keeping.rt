@@ -1,15 +1,19 @@
 //! What a session's disk in memory came to, committed to a log.
 ghost use Rattle.std.specs.Prelude.{◌≡◌, length};
-ghost use Rattle.shop_log.specs.Marks.{Covers, NoneTouched};
+ghost use Rattle.image_log.specs.Marks.{Covers, NoneTouched};
 ghost use Rattle.line_server.specs.logged.Keeping.{IsKept};
 
 use d64_image::{MemDisk, SECTORS};
-use shop_log::{ImageLog, TouchedDisk};
+use image_log::{ImageLog, TouchedDisk};
 use std::io;
 
 /// Copies each marked sector of the image of now into the kept image, which is the one committed last. Returns which of
 /// them changed.
-fn bring(kept: &mut [[u8; 256]], now: &[[u8; 256]], marked: &[bool; SECTORS]) -> [bool; SECTORS]
+fn take_changes(
+    kept: &mut [[u8; 256]],
+    now: &[[u8; 256]],
+    marked: &[bool; SECTORS],
+) -> [bool; SECTORS]
     requires kept { length kept.old ≡ 683 }
     requires now { length now.now ≡ 683 }
     ensures kept { length kept.new ≡ 683 }
@@ -30,7 +34,7 @@ fn bring(kept: &mut [[u8; 256]], now: &[[u8; 256]], marked: &[bool; SECTORS]) ->
 }
 
 /// Commits the disk as it is now to the log, if it isn't the image that was committed last.
-pub(crate) fn keep<L: ImageLog>(
+pub(crate) fn commit_changes<L: ImageLog>(
     disk: &TouchedDisk<MemDisk>,
     kept: &mut [[u8; 256]],
     log: &mut L,
@@ -40,6 +44,6 @@ pub(crate) fn keep<L: ImageLog>(
     ensures kept { IsKept L.history disk.now kept.old kept.new log.old log.new result }
 {
     let (now, _) = disk.disk().bytes().as_chunks::<256>();
-    let touched = bring(kept, now, disk.touched());
+    let touched = take_changes(kept, now, disk.touched());
     log.commit(now, &touched)
 }

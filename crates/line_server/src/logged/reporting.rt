@@ -4,14 +4,14 @@ ghost use Rattle.line_server.specs.logged.Reporting.{HandsOn, IsReported, LogOut
 ghost use Rattle.line_server.specs.logged.Memory.{Memory};
 
 use d64_image::MemDisk;
-use host_session::ReplySink;
+use host_session::Replies;
+use image_log::{ImageLog, TouchedDisk};
 use line_text::NotTaken;
 use request_cards::Reply;
-use shop_log::{ImageLog, TouchedDisk};
 
 /// An output of replies, each reported over a log. Every output that replies can be passed to is one, and says only which
 /// replies it was passed.
-pub trait Reports<L: ImageLog> {
+pub trait BatchReplies<L: ImageLog> {
     /// What this output says of the replies that were reported to it.
     ghost output: { LogOutput L Self };
 
@@ -30,7 +30,7 @@ pub trait Reports<L: ImageLog> {
         ensures { HandsOn output self.old self.new result };
 }
 
-impl<L: ImageLog, T: ReplySink<TouchedDisk<MemDisk>>> Reports<L> for T {
+impl<L: ImageLog, T: Replies<TouchedDisk<MemDisk>>> BatchReplies<L> for T {
     ghost output = { of_output T.output };
 
     fn report(
@@ -48,7 +48,7 @@ impl<L: ImageLog, T: ReplySink<TouchedDisk<MemDisk>>> Reports<L> for T {
 }
 
 /// Reports these replies one after another, and hands them on together.
-pub(crate) fn report_all<L: ImageLog, T: Reports<L>>(
+pub(crate) fn report_all<L: ImageLog, T: BatchReplies<L>>(
     out: &mut T,
     replies: &[Reply],
     log: &L,

@@ -8,7 +8,7 @@ use itoa::write_digits;
 
 /// Puts the bytes from `start` on, and returns where they end.
 #[inline(always)]
-pub(crate) fn put_behind(text: &[u8], room: &mut [u8], start: usize) -> usize
+pub(crate) fn append_behind(text: &[u8], room: &mut [u8], start: usize) -> usize
     requires { start + length text.now ≤ length room.old }
     ensures end { result ≡ start + length text.now }
     ensures written { take result room.new ≡ take start room.old ++ text.now }
@@ -39,7 +39,7 @@ fn count_digits(number: u32) -> usize
 
 /// Puts the number's digits, ten at most, from `start` on, and returns where they end.
 #[inline(always)]
-pub(crate) fn put_number(number: u32, room: &mut [u8], start: usize) -> usize
+pub(crate) fn append_number(number: u32, room: &mut [u8], start: usize) -> usize
     requires { start + 10 ≤ length room.old }
     ensures end { (start ≤ result) × (result ≤ start + 10) }
     ensures written { take result room.new ≡ take start room.old ++ decimal number }
@@ -64,18 +64,18 @@ fn text_start(byte: u8) -> (u8, usize)
 /// Puts a byte as text, three bytes at most, from `start` on, and returns where it ends.
 // Without a branch, which the processor would have to guess: three bytes are put, of which one counts or all do.
 #[inline(always)]
-fn put_byte(byte: u8, room: &mut [u8], start: usize) -> usize
+fn append_byte(byte: u8, room: &mut [u8], start: usize) -> usize
     requires { start + 3 ≤ length room.old }
     ensures end { (start ≤ result) × (result ≤ start + 3) }
     ensures written { take result room.new ≡ take start room.old ++ byte_text byte }
 {
     let (first, count) = text_start(byte);
-    put_behind(&[first, digit(byte / 16), digit(byte % 16)], room, start);
+    append_behind(&[first, digit(byte / 16), digit(byte % 16)], room, start);
     start + count
 }
 
 /// Puts bytes as text from `start` on, and returns where it ends.
-pub(crate) fn put_text(bytes: &[u8], room: &mut [u8], start: usize) -> usize
+pub(crate) fn append_text(bytes: &[u8], room: &mut [u8], start: usize) -> usize
     requires { start + 3 * length bytes.now ≤ length room.old }
     ensures end { (start ≤ result) × (result ≤ start + 3 * length bytes.now) }
     ensures written { take result room.new ≡ take start room.old ++ text_of bytes.now }
@@ -83,7 +83,7 @@ pub(crate) fn put_text(bytes: &[u8], room: &mut [u8], start: usize) -> usize
     let mut end = start;
     let mut rest = bytes;
     while let [byte, behind @ ..] = rest {
-        end = put_byte(*byte, room, end);
+        end = append_byte(*byte, room, end);
         rest = behind;
     }
     end

@@ -10,18 +10,18 @@ use Rattle.disk_layout.specs.Layout.{count_field}
 use Rattle.disk_layout.specs.Map.{IsMapOf}
 use Rattle.disk_layout.specs.Records.{filler}
 use Rattle.disk_layout.specs.View.{blocks_free}
-use Rattle.rel_records.specs.declared.growth.step_parts.Parts.{Parts}
+use Rattle.rel_records.specs.declared.growth.step_parts.Growing.{Growing}
 use Rattle.rel_records.specs.growth.Growth.{full}
 use Rattle.rel_records.specs.growth.Steps.{taken_next}
 
 -- a sector that nobody owned is taken for the next block, and the side sectors stay
-pub record TakesBlock (p q : Parts) (fresh : Place) : Type 0 where
+pub record TakesBlock (p q : Growing) (fresh : Place) : Type 0 where
   pub within : length p.blocks.items % 120 ≢ 0
   pub sides : q.sides.items ≡ p.sides.items
   pub owned : (owned : List Place) → IsMapOf p.map.bytes owned → IsMapOf q.map.bytes (fresh ∷ owned)
 
 -- if they are full, a second sector is taken for the next side sector
-pub record TakesSide (p q : Parts) (fresh : Place) : Type 0 where
+pub record TakesSide (p q : Growing) (fresh : Place) : Type 0 where
   pub full : length p.blocks.items % 120 ≡ 0
   pub side : Place
   pub sides : q.sides.items ≡ p.sides.items ++ side ∷ []
@@ -29,7 +29,7 @@ pub record TakesSide (p q : Parts) (fresh : Place) : Type 0 where
   pub owned : (owned : List Place) → IsMapOf p.map.bytes owned → IsMapOf q.map.bytes (side ∷ fresh ∷ owned)
 
 -- the map and the lists of places have what the next block takes; everything else is as it was
-pub record TakesPlaces (p q : Parts) (fresh : Place) : Type 0 where
+pub record TakesPlaces (p q : Growing) (fresh : Place) : Type 0 where
   pub blocks : q.blocks.items ≡ p.blocks.items ++ fresh ∷ []
   pub unowned : (owned : List Place) → IsMapOf p.map.bytes owned → ¬ (Contains owned fresh)
   pub taken : TakesBlock p q fresh ⊎ TakesSide p q fresh
@@ -54,7 +54,7 @@ pub record IsLinked (n L : ℕ) (fresh : Place) (old new : Sector) : Type 0 wher
       → slice_index new (2 + j) ≡ filler L (full L (n + 1)) (254 * (n - 1) + j)
 
 -- all that the next block needs is made: the places, its bytes, the old last block's, and the directory sector's
-pub record IsLaidOut (p q : Parts) (fresh : Place) (block : Sector) : Type 0 where
+pub record IsLaidOut (p q : Growing) (fresh : Place) (block : Sector) : Type 0 where
   pub places : TakesPlaces p q fresh
   pub made : IsFresh (length p.blocks.items) p.size block
   pub last : IsLinked (length p.blocks.items) p.size fresh p.last q.last

@@ -14,13 +14,13 @@ use Rattle.disk_layout.specs.Side.{side_sector}
 use Rattle.disk_layout.specs.View.{blocks_free}
 use Rattle.rel_records.specs.Others.{KeepsOthers, KeepsPlaces}
 use Rattle.rel_records.specs.Written.{grown_by}
-use Rattle.rel_records.specs.declared.growth.step_parts.Parts.{Parts}
+use Rattle.rel_records.specs.declared.growth.step_parts.Growing.{Growing}
 use Rattle.rel_records.specs.declared.rel_file.RelFile.{RelFile}
 use Rattle.rel_records.specs.growth.Growth.{full, records_had}
 
 -- l is the layout of the image, which is clean, f is its relative file at place n, and p is what is kept of them in
 -- memory
-pub record IsAt (img : Image) (l : Layout) (n : ℕ) (f : File) (p : Parts) : Type 0 where
+pub record IsAt (img : Image) (l : Layout) (n : ℕ) (f : File) (p : Growing) : Type 0 where
   pub clean : IsCleanLayout img l
   pub there : slice_get l.files n ≡ Some f
   pub rel : IsTrue (is_rel f.slot)
@@ -37,7 +37,7 @@ pub record IsAt (img : Image) (l : Layout) (n : ℕ) (f : File) (p : Parts) : Ty
   pub directory : p.directory ≡ sector img f.slot.sector
 
 -- p is what is kept in memory of a clean image and one of its relative files
-abbrev pub StandsAt : Image → Parts → Type 0
+abbrev pub StandsAt : Image → Growing → Type 0
 StandsAt img p = (l : Layout) × (n : ℕ) × (f : File) × IsAt img l n f p
 
 -- all whole records that fit into its blocks are there
@@ -46,7 +46,7 @@ IsFilledUp f = record_count (length f.blocks) f.last (record_length f.slot) ≡ 
     (length f.blocks)
 
 -- and the file has all whole records that fit into its blocks
-abbrev pub StandsFilled : Image → Parts → Type 0
+abbrev pub StandsFilled : Image → Growing → Type 0
 StandsFilled img p = (l : Layout) × (n : ℕ) × (f : File) × IsAt img l n f p × IsFilledUp f
 
 -- the number of sectors that the next block takes: two if the side sectors of n blocks are full
@@ -58,7 +58,7 @@ abbrev pub step_writes : ℕ → ℕ
 step_writes n = if nat_eq (n % 120) 0 then (5 + sides_for n) else 5
 
 -- the file has k blocks, all whole records that fit, and what is kept in memory is of the image
-pub record IsRunTo (old now : Image) (l : Layout) (n : ℕ) (f : File) (k : ℕ) (p : Parts) : Type 0 where
+pub record IsRunTo (old now : Image) (l : Layout) (n : ℕ) (f : File) (k : ℕ) (p : Growing) : Type 0 where
   pub layout : Layout
   pub file : File
   pub at : IsAt now layout n file p
@@ -72,13 +72,13 @@ pub record IsRunTo (old now : Image) (l : Layout) (n : ℕ) (f : File) (k : ℕ)
       (records old f))
 
 -- the last blocks are filled: the file has the blocks that it had, and the map is as it was
-pub record HasFilled (old new : Image) (l : Layout) (n : ℕ) (f : File) (p q : Parts) : Type 0 where
+pub record HasFilled (old new : Image) (l : Layout) (n : ℕ) (f : File) (p q : Growing) : Type 0 where
   pub run : IsRunTo old new l n f (length f.blocks) q
   pub blocks : run.file.blocks ≡ f.blocks
   pub map : q.map.bytes ≡ p.map.bytes
 
 -- the file has one more block, and the map has fewer free sectors, by those that the block takes
-pub record HasBlockMore (old new : Image) (l : Layout) (n : ℕ) (f : File) (p q : Parts) : Type 0 where
+pub record HasBlockMore (old new : Image) (l : Layout) (n : ℕ) (f : File) (p q : Growing) : Type 0 where
   pub run : IsRunTo old new l n f (length f.blocks + 1) q
   pub free : blocks_free q.map.bytes + taken_next (length f.blocks) ≡ blocks_free p.map.bytes
 
@@ -108,7 +108,7 @@ pub record IsSidedInOrder (old : Image) (blocks sides : List Place) (L : ℕ) (c
 
 -- before the link is written: the image, the image with the new map, or that with the fresh block too and side
 -- sectors, the last one first
-abbrev pub IsBefore : Image → Parts → Place → Sector → Image → Type 0
+abbrev pub IsBefore : Image → Growing → Place → Sector → Image → Type 0
 IsBefore old p fresh block c =
     (c ≡ old) ⊎ ((c ≡ put old map_place p.map.bytes) ⊎ IsSidedInOrder (put (put old map_place p.map.bytes) fresh block)
     p.blocks.items p.sides.items p.size c)
@@ -122,7 +122,7 @@ pub record TakesNext (old new : Sector) (p : Place) : Type 0 where
   pub owned : (owned : List Place) → IsMapOf old owned → IsMapOf new (p ∷ owned)
 
 -- what is kept of a file after growth is what growth kept in memory
-pub record IsKeptOf (v : RelFile) (p : Parts) : Type 0 where
+pub record IsKeptOf (v : RelFile) (p : Growing) : Type 0 where
   pub sector : v.sector ≡ p.sector
   pub number : v.number ≡ p.number
   pub size : v.size ≡ p.size
@@ -132,7 +132,7 @@ pub record IsKeptOf (v : RelFile) (p : Parts) : Type 0 where
 
 -- the file has w blocks and all whole records that fit, and v is of it
 pub record HasRun (old new : Image) (l : Layout) (n : ℕ) (f : File) (w : ℕ) (v : RelFile) : Type 0 where
-  pub parts : Parts
+  pub parts : Growing
   pub run : IsRunTo old new l n f w parts
   pub kept : IsKeptOf v parts
 
@@ -144,7 +144,7 @@ pub record IsTailOf (img : Image) (place : Place) (at from L total : ℕ) (bytes
   pub is_sector : IsSector bytes
 
 -- nothing was to be filled before the last block, or the block before it got its tail
-abbrev pub FillsBefore : Image → Parts → ℕ → ℕ → Image → Type 0
+abbrev pub FillsBefore : Image → Growing → ℕ → ℕ → Image → Type 0
 FillsBefore old p from total c =
     ((254 * (length p.blocks.items - 1) ≤ from) × (c ≡ old))
     ⊎ ((from < 254 * (length p.blocks.items - 1))

@@ -40,7 +40,7 @@ fn write_sectors<D: Sectors>(
 
 /// Puts the entry, bytes 2 to 31 of a slot, into the slot with this number of a directory sector. The first slot keeps the
 /// sector's link. In the others bytes 0 and 1 become 0.
-fn put_entry(bytes: &mut [u8; 256], number: u8, entry: &[u8; 30])
+fn set_entry(bytes: &mut [u8; 256], number: u8, entry: &[u8; 30])
     requires { number < 8 }
     ensures { IsEntered bytes.old bytes.new number entry.now }
 {
@@ -58,7 +58,7 @@ fn directory_with(entry: &[u8; 30]) -> [u8; 256]
 {
     let mut bytes = [0; 256];
     bytes[1] = 0xFF;
-    put_entry(&mut bytes, 0, entry);
+    set_entry(&mut bytes, 0, entry);
     bytes
 }
 
@@ -90,7 +90,7 @@ pub fn write_entry<D: Sectors>(
             disk.write(site.place, &last)
         }
         None => {
-            put_entry(&mut last, site.number, entry);
+            set_entry(&mut last, site.number, entry);
             disk.write(site.place, &last)
         }
     }

@@ -9,7 +9,7 @@ ghost use Rattle.rel_records.specs.File.{IsLength};
 ghost use Rattle.rel_records.specs.growth.Growth.{fill_writes, full, records_had};
 ghost use Rattle.rel_records.specs.growth.Steps.{FillsBefore, HasFilled, IsAt, IsEnd, StandsAt};
 
-use crate::growth::step_parts::Parts;
+use crate::growth::step_parts::Growing;
 use crate::sizes::{BLOCK, full_records, last_index};
 use d64_image::{DeviceFault, Sectors};
 use disk_layout::fill;
@@ -30,7 +30,7 @@ fn fill_tail(bytes: &mut [u8; 256], at: u32, from: u32, length: u8, total: u32)
 /// Fills the tail of the block before the last, if `from` is in that block.
 fn fill_before<D: Sectors>(
     disk: &mut D,
-    parts: &Parts,
+    parts: &Growing,
     from: u32,
     total: u32,
 ) -> Result<(), DeviceFault>
@@ -76,7 +76,7 @@ fn fill_last(bytes: &mut [u8; 256], from: u32, count: u16, length: u8)
 /// begins in the block before the last, that block is written first. The file has `had` records.
 pub(crate) fn fill_up<D: Sectors>(
     disk: &mut D,
-    parts: &mut Parts,
+    parts: &mut Growing,
     had: u32,
 ) -> Result<(), DeviceFault>
     requires at { StandsAt (D.history.image disk.old) parts.old }

@@ -9,7 +9,7 @@ ghost use Rattle.rel_records.specs.File.{IsOf, OfItsFile};
 ghost use Rattle.rel_records.specs.growth.Steps.{IsAt};
 ghost use Rattle.rel_records.specs.reading.Sides.{NamesEach};
 
-use crate::growth::step_parts::Parts;
+use crate::growth::step_parts::Growing;
 use crate::rel_file::RelFile;
 use arrayvec::ArrayVec;
 use d64_image::{DeviceFault, Place, Sectors};
@@ -61,7 +61,7 @@ pub(crate) fn read_parts<D: Sectors>(
     disk: &mut D,
     file: &RelFile,
     map: Bam,
-) -> Result<Parts, DeviceFault>
+) -> Result<Growing, DeviceFault>
     requires clean { IsClean (D.history.image disk.old) }
     requires of { IsOf (D.history.image disk.old) file.now }
     requires map { map.bytes ≡ sector (D.history.image disk.old) map_place }
@@ -77,7 +77,7 @@ pub(crate) fn read_parts<D: Sectors>(
     disk.read(file.sector, &mut directory)?;
     let mut last = [0; 256];
     disk.read(blocks[blocks.len() - 1], &mut last)?;
-    Ok(Parts {
+    Ok(Growing {
         map,
         sector: file.sector,
         number: file.number,

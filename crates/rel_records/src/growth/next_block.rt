@@ -9,10 +9,10 @@ ghost use Rattle.rel_records.specs.File.{IsLength};
 ghost use Rattle.rel_records.specs.growth.Next.{IsFresh, IsLaidOut, IsLinked, TakesPlaces};
 ghost use Rattle.rel_records.specs.growth.Steps.{TakesNext, taken_next};
 
-use crate::growth::step_parts::Parts;
+use crate::growth::step_parts::Growing;
 use crate::sizes::{BLOCK, full_records, last_index};
 use d64_image::Place;
-use disk_layout::{Bam, POINTERS, fill, put_count};
+use disk_layout::{Bam, POINTERS, fill, set_count};
 
 /// Takes the next free sector for data: the one that `Bam::pick` names. At least one is free off track 18.
 pub(crate) fn take_next(map: &mut Bam) -> Place
@@ -27,7 +27,7 @@ pub(crate) fn take_next(map: &mut Bam) -> Place
 
 /// Takes the sectors of the next block, and appends them to the lists: one for the block, and one for the next side
 /// sector if the side sectors are full. Returns the block's place.
-fn take_places(parts: &mut Parts) -> Place
+fn take_places(parts: &mut Growing) -> Place
     requires room { taken_next (length parts.old.blocks.items) ≤ blocks_free parts.old.map.bytes }
     requires map { (owned : List Place) × IsMapOf parts.old.map.bytes owned }
     requires few { length parts.old.blocks.items < 720 }
@@ -88,7 +88,7 @@ fn link_block(bytes: &mut [u8; 256], fresh: Place, blocks: u16, length: u8)
 
 /// Makes the file's next block in memory. Takes its sectors, puts its bytes into `block`, and returns its place. The
 /// old last block then links to it, and the bytes of the directory sector have the new block count.
-pub(crate) fn lay_out(parts: &mut Parts, block: &mut [u8; 256]) -> Place
+pub(crate) fn lay_out(parts: &mut Growing, block: &mut [u8; 256]) -> Place
     requires room { taken_next (length parts.old.blocks.items) ≤ blocks_free parts.old.map.bytes }
     requires map { (owned : List Place) × IsMapOf parts.old.map.bytes owned }
     requires some { 1 ≤ length parts.old.blocks.items }
@@ -101,7 +101,7 @@ pub(crate) fn lay_out(parts: &mut Parts, block: &mut [u8; 256]) -> Place
     let fresh = take_places(parts);
     link_block(&mut parts.last, fresh, count, parts.size);
     let owned = parts.blocks.len() + parts.sides.len();
-    put_count(&mut parts.directory, parts.number, owned as u16);
+    set_count(&mut parts.directory, parts.number, owned as u16);
     make_fresh(block, count, parts.size);
     fresh
 }

@@ -9,7 +9,7 @@ use disk_layout::{Bam, MOST_BLOCKS};
 /// of the directory sector with the file's slot. It has the slot's place, the record length, the side sectors, the data
 /// blocks, and the bytes of the last of these.
 #[derive(Drop)]
-pub(crate) struct Parts {
+pub(crate) struct Growing {
     pub(crate) map: Bam,
     pub(crate) sector: Place,
     pub(crate) number: u8,
@@ -23,7 +23,7 @@ pub(crate) struct Parts {
     ghost size_high: { size ≤ 254 },
 }
 
-impl Parts {
+impl Growing {
     ghost use Rattle.std.specs.Prelude.{◌≡◌, ◌++◌, ◌∷◌, [], List, length};
     ghost use Rattle.d64_image.specs.declared.place.Place.{Place};
 

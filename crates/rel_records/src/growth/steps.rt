@@ -25,7 +25,7 @@ ghost use Rattle.rel_records.specs.growth.Steps.{
 };
 
 use crate::growth::next_block::lay_out;
-use crate::growth::step_parts::Parts;
+use crate::growth::step_parts::Growing;
 use d64_image::{DeviceFault, Place, Sectors};
 use disk_layout::{POINTERS, map_place, side_bytes};
 
@@ -96,7 +96,7 @@ fn write_sides<D: Sectors>(
 /// Writes what comes before the link: the map, the fresh block, and the side sectors.
 fn prepare<D: Sectors>(
     disk: &mut D,
-    parts: &Parts,
+    parts: &Growing,
     fresh: Place,
     block: &[u8; 256],
     new: bool,
@@ -128,7 +128,7 @@ fn prepare<D: Sectors>(
 /// Gives the file one more data block, and one more side sector if its side sectors are full. Writes the map, the fresh
 /// block and the side sectors; then the old last block with its link, which makes the file longer; and then the block
 /// count.
-pub(crate) fn add_block<D: Sectors>(disk: &mut D, parts: &mut Parts) -> Result<(), DeviceFault>
+pub(crate) fn add_block<D: Sectors>(disk: &mut D, parts: &mut Growing) -> Result<(), DeviceFault>
     requires at { StandsAt (D.history.image disk.old) parts.old }
     requires few { length parts.old.blocks.items < 720 }
     requires room { taken_next (length parts.old.blocks.items) ≤ blocks_free parts.old.map.bytes }

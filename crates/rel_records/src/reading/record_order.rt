@@ -92,7 +92,7 @@ fn go_on<D: Sectors>(
 
 /// Reads the data block of this number, from 0, and keeps it. If it is kept already, nothing is read.
 #[inline(always)]
-fn bring<D: Sectors>(
+fn fetch_block<D: Sectors>(
     disk: &mut D,
     file: &RelFile,
     last: &mut LastBlock,
@@ -142,7 +142,7 @@ fn next_there<D: Sectors>(
 {
     let size = file.size as usize;
     let start = (number as usize - 1) * size;
-    bring(disk, file, last, start / DATA)?;
+    fetch_block(disk, file, last, start / DATA)?;
     if start % DATA + size <= DATA {
         fill_record(text, &last.bytes, &last.bytes, start % DATA, size);
         return Ok(());

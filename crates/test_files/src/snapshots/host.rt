@@ -141,12 +141,12 @@ impl<'a> HostFiles for Snapshot<'a> {
         Ok(())
     }
 
-    fn give_name(&self, from: &str, to: &str) -> io::Result<()> {
+    fn rename(&self, from: &str, to: &str) -> io::Result<()> {
         self.store.rename(to, "")?;
         self.store.rename(from, to)
     }
 
-    fn take_name(&self, path: &str) -> io::Result<()> {
+    fn remove(&self, path: &str) -> io::Result<()> {
         self.store.rename(path, "")
     }
 

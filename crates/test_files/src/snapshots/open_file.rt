@@ -115,7 +115,7 @@ impl Locks for SnapshotFile<'_> {
 }
 
 impl EndedFile for SnapshotFile<'_> {
-    fn put_over(&mut self, bytes: &[u8], at: u64) -> io::Result<()> {
+    fn write_over(&mut self, bytes: &[u8], at: u64) -> io::Result<()> {
         self.write_all_at(bytes, at)
     }
 

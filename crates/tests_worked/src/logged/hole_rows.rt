@@ -1,7 +1,7 @@
 //! An input that fails once: the run ends, and it isn't asked again.
 use crate::comparing::same_at;
 use crate::disks::fresh;
-use host_session::{LoopFault, Printer};
+use host_session::{LoopFault, PrintedReplies};
 use line_server::serve;
 use std::io::{self, BufRead, ErrorKind, Read};
 use std::process::Abort;
@@ -41,7 +41,7 @@ fn served(
         fails,
         left: b"1,1,S,1,5\n",
     };
-    let mut out = Printer::new(Vec::new(rt.alloc()));
+    let mut out = PrintedReplies::new(Vec::new(rt.alloc()));
     let ended = serve(fresh(rt), &mut input, &mut out);
     let fault = match ended {
         Ok(_) => None,

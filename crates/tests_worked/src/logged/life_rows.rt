@@ -2,7 +2,7 @@
 //! image a folder gives.
 use crate::comparing::same;
 use crate::logged::logs::{begun, change, commit, numbered, two_touched, without};
-use shop_log::{LogFault, LogFolder, MemFolder, Misfit, land};
+use image_log::{LogFault, LogFolder, MemFolder, Misfit, land};
 use std::process::Abort;
 
 /// What is found in a folder.

@@ -1,6 +1,6 @@
 //! The images and logs of the rows. A step that can't be had ends as a value that no row wants.
+use image_log::{Log, MemLog, read_images, salvage};
 use sha2::{Digest, Sha256};
-use shop_log::{Log, MemLog, read_images, salvage};
 use std::process::Abort;
 
 /// An image of zeros.

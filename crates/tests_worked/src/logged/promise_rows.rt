@@ -6,10 +6,10 @@ use crate::disks::fresh;
 use crate::logged::logs::begun;
 use d64_image::{ImageFault, MemDisk};
 use host_session::PlayFault;
+use image_log::{ImageLog, MemLog};
 use line_server::Room;
 use request_cards::Reply;
 use retry_safe::{PowerLoss, retry_after_log_loss};
-use shop_log::{ImageLog, MemLog};
 use std::process::Abort;
 
 /// Power whose disk can't be had.

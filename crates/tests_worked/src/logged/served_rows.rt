@@ -4,9 +4,9 @@ use crate::disks::blank;
 use crate::logged::logs::begun;
 use crate::logged::talks::{Heard, Talk};
 use d64_image::MemDisk;
-use host_session::{Printer, Session};
+use host_session::{PrintedReplies, Session};
+use image_log::{Log, MemLog, salvage};
 use line_server::{Room, serve_batches};
-use shop_log::{Log, MemLog, salvage};
 use std::cell::Cell;
 use std::process::Abort;
 
@@ -57,7 +57,7 @@ fn a_day_is_three_batches(rt: HostRuntime) {
     let before = log.file().calls();
     let handed = Cell::new(0);
     let mut input = Talk::new(DAY, &handed);
-    let mut out = Printer::new(Heard::new(Vec::new(rt.alloc()), 1000, &handed));
+    let mut out = PrintedReplies::new(Heard::new(Vec::new(rt.alloc()), 1000, &handed));
     let mut room = Room::new(rt.alloc()).expect(&rt, "there is memory");
     let end = serve_batches(disk, &mut log, &mut input, &mut out, &mut room);
     let left = end.ok().expect(&rt, "served");
@@ -85,7 +85,7 @@ fn lines_at_hand_are_one_batch(rt: HostRuntime) {
                 .expect(&rt, "there is memory");
         }
         let mut input = lines.as_slice();
-        let mut out = Printer::new(Heard::new(Vec::new(rt.alloc()), 100_000, &handed));
+        let mut out = PrintedReplies::new(Heard::new(Vec::new(rt.alloc()), 100_000, &handed));
         let mut room = Room::new(rt.alloc()).expect(&rt, "there is memory");
         let end = serve_batches(disk, &mut log, &mut input, &mut out, &mut room);
         same_at(&rt, end.is_ok(), true, count);

@@ -16,7 +16,7 @@ use Rattle.disk_layout.specs.declared.slot.Slot.{Slot}
 use Rattle.file_changes.proofs.Reslotted.{place}
 use Rattle.file_changes.specs.Entries.{FindsEntry, entries_of}
 use Rattle.command_faults.specs.declared.faults.CommandFault.{CommandFault}
-use Rattle.keeper_commands.specs.ShopFiles.{HasShopFile}
+use Rattle.disk_changes.specs.ShopFiles.{HasShopFile}
 use Rattle.rel_records.proofs.lemmas.reading.Found.{slot-file}
 use Rattle.disk_changes.proofs.locking.relocked.Goals as goal
 

@@ -1,6 +1,6 @@
 -- The repair of the disk in memory, and what it tells.
 use Rattle.std.proofs.Common.{◌∙◌, ◌++◌, List, Some, ap, refl, ℕ}
-use Rattle.keeper_commands.specs.Repairs.{mended_text}
+use Rattle.disk_changes.specs.mended.Repairs.{mended_text}
 use Rattle.d64_image.specs.Memory.{disk_image}
 use Rattle.disk_changes.proofs.Repaired.{repair-done}
 use Rattle.disk_changes.proofs.repairing.repaired.Goals as goal

@@ -1,9 +1,9 @@
 use Rattle.std.proofs.Common.{[]}
 use Rattle.disk_pictures.proofs.Markups.{html-escaped, html-none}
-use Rattle.disk_pictures.proofs.PageMarkup.{on-page}
-use Rattle.disk_pictures.proofs.PosterMarkup.{on-poster}
-use Rattle.disk_pictures.proofs.SheetMarkup.{on-refused, on-tile}
-use Rattle.disk_pictures.proofs.PetsciiMarkup.{petscii-escaped, petscii-none}
+use Rattle.disk_pictures.proofs.lemmas.pages.PageMarkup.{on-page}
+use Rattle.disk_pictures.proofs.lemmas.pages.PosterMarkup.{on-poster}
+use Rattle.disk_pictures.proofs.lemmas.sheets.SheetMarkup.{on-refused, on-tile}
+use Rattle.disk_pictures.proofs.lemmas.pages.PetsciiMarkup.{petscii-escaped, petscii-none}
 use Rattle.disk_pictures.proofs.PlainBytes.{html-short}
 use Rattle.disk_pictures.specs.Html.{html_of}
 use Rattle.disk_pictures.specs.Petscii.{petscii_of}

@@ -1,4 +1,4 @@
-use Rattle.disk_pictures.proofs.TileNumbers.{small-all, small-once, small-same}
+use Rattle.disk_pictures.proofs.lemmas.sheets.TileNumbers.{small-all, small-once, small-same}
 use Rattle.disk_pictures.proofs.laws.tiles_have_683_sectors.Goals as goal
 
 pub returns : goal.returns

@@ -7,7 +7,7 @@ use Rattle.disk_pictures.proofs.map_printing.map_image.Goals as goal
 pub returns-clause-sound : goal.returns-clause-sound
 returns-clause-sound g c =
     let old = g.W.Write.contents c.args.out.now in
-    let new = g.W.Write.contents c.put_map.new.out in
+    let new = g.W.Write.contents c.print_map.new.out in
     of-layout (λ map l. Appends old new (map_text c.in_ok-drawing.found map l)) c.args.image.now
     c.in_ok-drawing.drawing
-    c.in_ok-drawing.found c.in_ok-drawing.ensures.ok c.in_ok-put_map.ensures.ok
+    c.in_ok-drawing.found c.in_ok-drawing.ensures.ok c.in_ok-print_map.ensures.ok

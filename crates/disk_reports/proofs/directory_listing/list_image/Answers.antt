@@ -45,11 +45,11 @@ returns g c =
     let directory = has_directory c.args.image.now _ found.0 _ loaded.0 loaded.1 found.1 in
     let here = c.new-map.ensures ∙ c.sector.ensures ∙ ap (sector (disk_image c.read_directory.new.disk)) c.map_place.ensures
     ∙ ap (λ (i : Image). sector i map_place) (c.read_directory.ensures.reads.image ∙ loaded.1) in record {
-      ok = on_ok_weaker c.put_directory.result
-          (is-listed _ c.args.form c.args.image.now c.args.out.now c.put_directory.new.out directory _ _ here
-          c.as_slice.ensures.value) c.put_directory.ensures.ok;
-      err = IfErr-weaker c.put_directory.result _ _ (λ fault is. subst (IsListFault c.args.image.now) (sym is)
-          directory) c.put_directory.ensures.err;
-      untouched = IfErr-weaker c.put_directory.result _ _ (λ fault is other. absurd (other is))
-          c.put_directory.ensures.err;
+      ok = on_ok_weaker c.print_directory.result
+          (is-listed _ c.args.form c.args.image.now c.args.out.now c.print_directory.new.out directory _ _ here
+          c.as_slice.ensures.value) c.print_directory.ensures.ok;
+      err = IfErr-weaker c.print_directory.result _ _ (λ fault is. subst (IsListFault c.args.image.now) (sym is)
+          directory) c.print_directory.ensures.err;
+      untouched = IfErr-weaker c.print_directory.result _ _ (λ fault is other. absurd (other is))
+          c.print_directory.ensures.err;
     }

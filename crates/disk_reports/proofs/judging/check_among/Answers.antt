@@ -16,5 +16,5 @@ returns-clause-ok g c =
       verdict = subst (λ (i : Image). IsVerdict i found) loaded.1 c.verdict-fault.ensures.verdict;
       cut = cut;
       short = subst (λ (i : Image). IsToldOfDisk i None cut) (c.verdict-fault.ensures.same ∙ loaded.1) c.sound_cut-cut.ensures.told;
-      printed = Appends-trans _ _ _ _ _ c.in_ok-put_verdict.ensures.ok c.in_ok-put_cut.ensures.ok;
+      printed = Appends-trans _ _ _ _ _ c.in_ok-print_verdict.ensures.ok c.in_ok-print_cut.ensures.ok;
     }

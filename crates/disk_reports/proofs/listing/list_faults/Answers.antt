@@ -28,11 +28,11 @@ returns-in_err-disk g c =
       untouched = rw p.1 (λ _. refl);
     }
 
-pub returns-in_err-put_found : goal.returns-in_err-put_found
-returns-in_err-put_found g c =
-    let p = err_from_is_err_and c.from_residual-in_err-put_found.result c.from_residual-in_err-put_found.ensures.1 in
-    let both = put-described c.args.image.now c.args.out.now c.put_found.new.out c.in_err-put_found.field-0.0
-    c.in_ok-disk.ensures.ok.0 c.in_err-put_found.ensures.err in
+pub returns-in_err-print_found : goal.returns-in_err-print_found
+returns-in_err-print_found g c =
+    let p = err_from_is_err_and c.from_residual-in_err-print_found.result c.from_residual-in_err-print_found.ensures.1 in
+    let both = put-described c.args.image.now c.args.out.now c.print_found.new.out c.in_err-print_found.field-0.0
+    c.in_ok-disk.ensures.ok.0 c.in_err-print_found.ensures.err in
     record {
       ok = rw p.1 tt;
       err = rw (p.1, p.2) both.0;
@@ -45,7 +45,7 @@ returns g c =
     let found = c.verdict-found.result in
     let judged = c.verdict-found.ensures.same ∙ loaded.1 in
     let listed = subst (λ (i : Image). IsListed i found (g.W.Write.contents c.args.out.now)
-    (g.W.Write.contents c.put_found.new.out)) (c.find_shortfall-lack.ensures.same ∙ judged) c.in_ok-put_found.ensures.ok in
+    (g.W.Write.contents c.print_found.new.out)) (c.find_shortfall-lack.ensures.same ∙ judged) c.in_ok-print_found.ensures.ok in
     record {
       ok = record {
         size = loaded.0;
@@ -54,7 +54,7 @@ returns g c =
         lacks = subst (λ (i : Image). IsShortfallOf i c.find_shortfall-lack.result) judged c.find_shortfall-lack.ensures.told;
         text = listed.0;
         listing = listed.1;
-        printed = Appends-trans _ _ _ _ _ listed.2 c.in_ok-put_shortfall.ensures.ok;
+        printed = Appends-trans _ _ _ _ _ listed.2 c.in_ok-print_shortfall.ensures.ok;
       };
       err = tt;
       untouched = tt;

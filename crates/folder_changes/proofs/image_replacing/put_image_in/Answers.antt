@@ -1,8 +1,8 @@
 -- The sectors are those of the image.
 use Rattle.std.proofs.Common.{subst}
 use Rattle.d64_image.specs.Images.{Image}
-use Rattle.shop_log.specs.life.Folders.{LeavesFolders}
-use Rattle.shop_log.specs.life.Replacing.{KeepsOrGives}
+use Rattle.image_log.specs.life.Folders.{LeavesFolders}
+use Rattle.image_log.specs.life.Replacing.{KeepsOrGives}
 use Rattle.folder_changes.proofs.image_replacing.put_image_in.Goals as goal
 
 pub returns-in-Ok-supersede-clause-any_moment : goal.returns-in-Ok-supersede-clause-any_moment

@@ -7,8 +7,8 @@ use Rattle.std.proofs.KnownBytes.{Appends-trans}
 use Rattle.request_cards.specs.Ledgers.{report}
 use Rattle.request_cards.specs.declared.reply.Reply.{Reply}
 use Rattle.host_session.proofs.lemmas.events.Reports.{written_more}
-use Rattle.host_session.specs.declared.events.lines.Lines.{Lines}
-use Rattle.host_session.specs.declared.events.printing.Printer.{Printer}
+use Rattle.host_session.specs.declared.events.lines.LentReplies.{LentReplies}
+use Rattle.host_session.specs.declared.events.printing.PrintedReplies.{PrintedReplies}
 use Rattle.host_session.specs.events.Instants.{Instant}
 use Rattle.host_session.specs.events.Telling.{IsTold}
 use Rattle.host_session.specs.runs.Chains.{told_in}
@@ -40,13 +40,13 @@ is_written contents old new reply i (Err x) wrote failed = (
 )
 
 -- so a printer, and a writer that is lent
-pub is_printed : {W E : Type 0} (contents : W → Option (List ℕ)) (old new : Printer W) (reply : Reply) (i : Instant)
+pub is_printed : {W E : Type 0} (contents : W → Option (List ℕ)) (old new : PrintedReplies W) (reply : Reply) (i : Instant)
     (r : Result Unit E) → IsTold (written contents) (printer_out old) (printer_out new) reply i r
     → IsTold (printed contents) old new reply i r
 is_printed contents old new reply i (Ok x) told = (λ first xs k. told.0 (printer_out first) xs k, told.1)
 is_printed contents old new reply i (Err x) told = (λ first xs k. told.0 (printer_out first) xs k, told.1)
 
-pub is_lent : {W E : Type 0} (contents : W → Option (List ℕ)) (old new : Lines W) (reply : Reply) (i : Instant)
+pub is_lent : {W E : Type 0} (contents : W → Option (List ℕ)) (old new : LentReplies W) (reply : Reply) (i : Instant)
     (r : Result Unit E) → new.out.ghost_name ≡ old.out.ghost_name
     → IsTold (written contents) old.out.now new.out.now reply i r → IsTold (written_to contents) old new reply i r
 is_lent contents old new reply i (Ok x) same told = (λ first xs k. (same ∙ k.0, told.0 first.out.now xs k.1), told.1)

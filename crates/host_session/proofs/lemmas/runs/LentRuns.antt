@@ -2,7 +2,7 @@
 use Rattle.std.proofs.Common.{Err, List, Ok, Option, Result, ap, inl, inr, refl, subst, sym, ℕ, ⊎_elim, ◌≡◌}
 use Rattle.d64_image.specs.History.{History}
 use Rattle.request_cards.specs.declared.reply.Reply.{Reply}
-use Rattle.host_session.specs.declared.events.lines.Lines.{Lines}
+use Rattle.host_session.specs.declared.events.lines.LentReplies.{LentReplies}
 use Rattle.host_session.specs.declared.runs.scripts.ScriptFault.{ScriptFault}
 use Rattle.host_session.specs.declared.runs.scripts.ScriptFault.TheVariants as faults
 use Rattle.host_session.specs.events.Events.{Message}
@@ -11,7 +11,7 @@ use Rattle.host_session.specs.runs.Outputs.{written}
 use Rattle.host_session.specs.runs.ScriptRuns.{AreToldSo, IsPlayedOut, IsPlayedToDevice, IsPlayedToOutput, IsScriptRun}
 use Rattle.host_session.specs.shop.Shop.{Shop}
 
-module _ {D W : Type 0} (h : History D) (contents : W → Option (List ℕ)) (disk : D) (old new : Lines W)
+module _ {D W : Type 0} (h : History D) (contents : W → Option (List ℕ)) (disk : D) (old new : LentReplies W)
     (script : List ℕ) where
   abbrev Ran : Result D (ScriptFault × D) → Type 0
   Ran r = IsScriptRun h (written_to contents) disk script old new r
@@ -22,9 +22,9 @@ module _ {D W : Type 0} (h : History D) (contents : W → Option (List ℕ)) (di
   -- the writer is still the one that was lent
   still_lent : (r : Result D (ScriptFault × D)) → Ran r → new.out.ghost_name ≡ old.out.ghost_name
   still_lent (Ok left) x = let s = x.shop in (x.ok s.0 s.1).run.told.0
-  still_lent (Err (faults.Open f, left)) x = ap (λ (l : Lines W). l.out.ghost_name) (x.«open» f refl).1
+  still_lent (Err (faults.Open f, left)) x = ap (λ (l : LentReplies W). l.out.ghost_name) (x.«open» f refl).1
   still_lent (Err (faults.BadLine n, left)) x =
-      ap (λ (l : Lines W). l.out.ghost_name) (x.bad_line n (x.good n refl)).1
+      ap (λ (l : LentReplies W). l.out.ghost_name) (x.bad_line n (x.good n refl)).1
   still_lent (Err (faults.Output, left)) x = let s = x.after refl in (x.output s.0 s.1 refl).run.told.0
   still_lent (Err (faults.Device, left)) x =
       let s = (x.cause refl).0 in ⊎_elim (λ t. t.0) (λ t. t.0.0) (x.device s.0 s.1 refl).run.told
@@ -77,7 +77,7 @@ module _ {D W : Type 0} (h : History D) (contents : W → Option (List ℕ)) (di
 
   wrote : (r : Result D (ScriptFault × D)) → Ran r → Wrote r
   wrote (Ok left) x = record {
-    bad_line = λ n e. ((x.bad_line n e).0, ap (λ (l : Lines W). l.out.now) (x.bad_line n e).1);
+    bad_line = λ n e. ((x.bad_line n e).0, ap (λ (l : LentReplies W). l.out.now) (x.bad_line n e).1);
     good = tt;
     shop = x.shop;
     ok = λ s shop. played s _ left (x.ok s shop);
@@ -94,7 +94,7 @@ module _ {D W : Type 0} (h : History D) (contents : W → Option (List ℕ)) (di
     after = tt;
   }
   wrote (Err e) x = record {
-    bad_line = λ n is. ((x.bad_line n is).0, ap (λ (l : Lines W). l.out.now) (x.bad_line n is).1);
+    bad_line = λ n is. ((x.bad_line n is).0, ap (λ (l : LentReplies W). l.out.now) (x.bad_line n is).1);
     good = x.good;
     shop = tt;
     ok = λ s shop. tt;
@@ -106,7 +106,7 @@ module _ {D W : Type 0} (h : History D) (contents : W → Option (List ℕ)) (di
     spared = x.spared;
     writes = x.writes;
     plays = x.plays;
-    «open» = λ fault is. ((x.«open» fault is).0, ap (λ (l : Lines W). l.out.now) (x.«open» fault is).1);
+    «open» = λ fault is. ((x.«open» fault is).0, ap (λ (l : LentReplies W). l.out.now) (x.«open» fault is).1);
     cause = x.cause;
     after = x.after;
   }

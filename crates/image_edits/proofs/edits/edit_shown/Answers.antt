@@ -8,8 +8,8 @@ use Rattle.image_edits.specs.Edits.{IsTextFor, loss_of}
 use Rattle.opened_files.proofs.Near.{not-near}
 use Rattle.opened_files.specs.HostFiles.{OfImage}
 use Rattle.opened_files.specs.Losses.{IsNear}
-use Rattle.shop_log.specs.life.Tags.{SaysLogAway}
-use Rattle.opened_files.specs.declared.losses.Loss.{Loss}
+use Rattle.image_log.specs.life.Tags.{SaysLogAway}
+use Rattle.damaged_files.specs.declared.sides.planning.Loss.{Loss}
 use Rattle.image_edits.proofs.edits.edit_shown.Goals as goal
 
 pub returns-in_err-image : goal.returns-in_err-image

@@ -7,7 +7,7 @@ use Rattle.folder_changes.proofs.Changed.{told-weaker}
 use Rattle.image_edits.specs.Edits.{IsTextFor, loss_of}
 use Rattle.opened_files.proofs.Near.{not-near}
 use Rattle.opened_files.specs.HostFiles.{OfWritten}
-use Rattle.shop_log.specs.life.Tags.{SaysLogAway}
+use Rattle.image_log.specs.life.Tags.{SaysLogAway}
 use Rattle.image_edits.proofs.edits.edit_written.Goals as goal
 
 pub returns-in_err-image : goal.returns-in_err-image

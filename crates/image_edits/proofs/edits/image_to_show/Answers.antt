@@ -2,7 +2,7 @@
 use Rattle.std.proofs.Common.{List, inr, subst, ℕ, ◌∙◌}
 use Rattle.std.proofs.lemmas.Result.{err_from_is_err_and}
 use Rattle.opened_files.specs.Losses.{IsNear}
-use Rattle.shop_log.specs.life.Tags.{SaysLogAway}
+use Rattle.image_log.specs.life.Tags.{SaysLogAway}
 use Rattle.image_edits.proofs.edits.image_to_show.Goals as goal
 
 pub returns-in_err-see_log_away-clause-err : goal.returns-in_err-see_log_away-clause-err

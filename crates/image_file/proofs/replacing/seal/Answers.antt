@@ -4,19 +4,19 @@ use Rattle.std.proofs.lemmas.Result.{err_from_is_err_and}
 use Rattle.image_file.proofs.lemmas.replacing.Sealing.{not_sealed, sealing}
 use Rattle.image_file.proofs.replacing.seal.Goals as goal
 
-pub returns-in_err-put_over : goal.returns-in_err-put_over
-returns-in_err-put_over g c =
+pub returns-in_err-write_over : goal.returns-in_err-write_over
+returns-in_err-write_over g c =
     let p = err_from_is_err_and c.from_residual.result c.from_residual.ensures.1 in
     let image = c.args.image.now in
-    not_sealed g.F.EndedFile.remains c.args.file.now c.put_over.new.self image (take 256 (drop 91648 image))
+    not_sealed g.F.EndedFile.remains c.args.file.now c.write_over.new.self image (take 256 (drop 91648 image))
     c.from_residual.result p.0 c.requires.size refl
     (omega (arith, c.requires.size, length-take 256 (drop 91648 image), length-drop 91648 image)) c.requires.filled
-    c.put_over.ensures.remain p.1
+    c.write_over.ensures.remain p.1
 
 pub returns : goal.returns
 returns g c =
     let image = c.args.image.now in
-    sealing g.F.EndedFile.remains c.args.file.now c.put_over.new.self c.sync_whole.new.self image
+    sealing g.F.EndedFile.remains c.args.file.now c.write_over.new.self c.sync_whole.new.self image
     (take 256 (drop 91648 image)) c.sync_whole.result c.requires.size refl
     (omega (arith, c.requires.size, length-take 256 (drop 91648 image), length-drop 91648 image)) c.requires.filled
-    c.in_ok-put_over.ensures.held c.put_over.ensures.remain c.sync_whole.ensures
+    c.in_ok-write_over.ensures.held c.write_over.ensures.remain c.sync_whole.ensures

@@ -5,7 +5,7 @@ use Rattle.disk_pictures.specs.Views.{AreFreePrinted, IsSectorPrinted, IsViewFau
 use Rattle.disk_reports.specs.AllFaults.{AreListed}
 use Rattle.disk_reports.specs.Listings.{IsCheckFault, IsListFault, IsListed}
 use Rattle.disk_reports.specs.Outcomes.{IsDescribeFault}
-use Rattle.keeper_commands.specs.Printed.{AreBytesTaken}
+use Rattle.file_rescues.specs.Printed.{AreBytesTaken}
 use Rattle.image_looks.specs.Looks.{AreRecordsTaken, IsChecked, IsTakingEnd, WhyNoBytes, WhyNoRecords}
 use Rattle.image_looks.proofs.Looked.{if-all, if-both, no-cut-records, printed, quietly-printed, taken}
 use Rattle.image_looks.proofs.looks.look.Goals as goal

@@ -19,11 +19,11 @@ line-behind (Err refusal) old new told taken quiet line =
 pub returns : goal.returns
 returns g c = record {
   ok = record {
-    told = subst (λ text. Appends (g.W.Write.contents c.args.out.now) (g.W.Write.contents c.put_text.new.out)
+    told = subst (λ text. Appends (g.W.Write.contents c.args.out.now) (g.W.Write.contents c.print_text.new.out)
         (named c.args.name.now text))
         (c.as_slice.ensures.value ∙ line-behind c.args.ended c.args.text c.end-ending.new.err c.end-ending.result.told
         c.in-Ok.is c.end-ending.ensures.quiet c.end-ending.ensures.told)
-        c.in_ok-put_text.ensures.ok;
+        c.in_ok-print_text.ensures.ok;
     status_is = c.end-ending.ensures.status;
   };
   err = tt;

@@ -14,5 +14,5 @@ returns-in_err-greatest g c =
 pub returns : goal.returns
 returns g c =
     several-done (IsSheetPrinted (IsReadAt g.R.HostFiles.rights g.R.HostFiles.stands c.args.rt.now)
-    g.W.Write.contents (map (λ path. path.now) c.args.paths.now) c.args.out.now c.put_sheet.new.out)
+    g.W.Write.contents (map (λ path. path.now) c.args.paths.now) c.args.out.now c.print_sheet.new.out)
     c.in_ok-greatest.greatest c.status_end.result c.in_ok-greatest.ensures.ok c.status_end.ensures

@@ -23,11 +23,11 @@ returns-in-Some-clause-counted c img here numbers there =
     c.args.owners.now numbers c.in-Some.first
     (named-names c.in_sector-slot.result.bytes 3 c.in-Some.first
     (sym (ap (λ (bs : List ℕ). named_at bs 3) c.new-entry.ensures) ∙ sym c.first_block.ensures ∙ c.in-Some.is))
-    c.owned_with.result c.owned_with.ensures c.args.bytes.now c.put_count.new.bytes here.sound here.own c.requires
+    c.owned_with.result c.owned_with.ensures c.args.bytes.now c.set_count.new.bytes here.sound here.own c.requires
     (sym c.in_sector-slot.ensures)
     (sym (c.is_relative.ensures ∙ ap (λ (bs : List ℕ). is_rel_type (slice_index bs 2)) c.new-entry.ensures)
     ∙ c.if-not-is_relative.false)
-    c.put_count.ensures.rest (c.put_count.ensures.count c.args.place) (c.put_count.ensures.kept c.args.place)
+    c.set_count.ensures.rest (c.set_count.ensures.count c.args.place) (c.set_count.ensures.kept c.args.place)
 
 pub returns-in_default-clause-counted : goal.returns-in_default-clause-counted
 returns-in_default-clause-counted c img here numbers there = record {

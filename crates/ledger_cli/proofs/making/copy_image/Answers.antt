@@ -10,7 +10,7 @@ returns-in-Err g c = copied_in_part g.F.Seek.stream_position g.F.Seek.stream_byt
 
 pub returns-in-Ok : goal.returns-in-Ok
 returns-in-Ok g c = copied g.F.Seek.stream_position g.F.Seek.stream_bytes g.F.Write.contents g.W.Write.contents
-    c.args.image.now c.args.file.now c.write_over.new.file c.args.out.now c.put_whole.new.out c.if-image-ne-IMAGE_BYTES.false
+    c.args.image.now c.args.file.now c.write_over.new.file c.args.out.now c.print_whole.new.out c.if-image-ne-IMAGE_BYTES.false
     (image_handed g.F.Seek.stream_position g.F.Seek.stream_bytes g.F.Write.contents c.args.file.now c.write_over.new.file
     c.args.image.now c.if-image-ne-IMAGE_BYTES.false c.in-Ok.ensures)
-    c.put_whole.result c.put_whole.ensures.ok c.put_whole.ensures.err
+    c.print_whole.result c.print_whole.ensures.ok c.print_whole.ensures.err

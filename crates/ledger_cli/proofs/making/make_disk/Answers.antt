@@ -24,8 +24,8 @@ returns g c =
       new = subst (IsNewDisk c.args.name.now c.args.id) (sym c.bytes.ensures.image) c.in-Ok.ensures.ok;
     } in
     made g.F.Seek.stream_position g.F.Seek.stream_bytes g.F.Write.contents g.W.Write.contents
-    (IsNewImage c.args.name.now c.args.id) c.args.file.now c.write_over.new.file c.args.out.now c.put_whole.new.out
+    (IsNewImage c.args.name.now c.args.id) c.args.file.now c.write_over.new.file c.args.out.now c.print_whole.new.out
     (image_written g.F.Seek.stream_position g.F.Seek.stream_bytes g.F.Write.contents
     (IsNewImage c.args.name.now c.args.id) c.args.file.now c.write_over.new.file c.bytes.result.now c.bytes.ensures.size
     is c.in_ok-write_over.ensures)
-    c.put_whole.result c.put_whole.ensures.ok c.put_whole.ensures.err
+    c.print_whole.result c.print_whole.ensures.ok c.print_whole.ensures.err

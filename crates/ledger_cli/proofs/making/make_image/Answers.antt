@@ -28,7 +28,7 @@ returns g c =
     let fresh : AreFreshBytes c.args.tills c.bytes.result.now =
     record { disk = disk_image c.in_ok-disk.disk; fresh = c.in_ok-disk.ensures.ok; bytes_of = c.bytes.ensures.value } in
     made g.F.Seek.stream_position g.F.Seek.stream_bytes g.F.Write.contents g.W.Write.contents (AreFreshBytes c.args.tills)
-    c.args.file.now c.write_over.new.file c.args.out.now c.put_whole.new.out
+    c.args.file.now c.write_over.new.file c.args.out.now c.print_whole.new.out
     (image_written g.F.Seek.stream_position g.F.Seek.stream_bytes g.F.Write.contents (AreFreshBytes c.args.tills) c.args.file.now
     c.write_over.new.file c.bytes.result.now c.bytes.ensures.size fresh c.in_ok-write_over.ensures)
-    c.put_whole.result c.put_whole.ensures.ok c.put_whole.ensures.err
+    c.print_whole.result c.print_whole.ensures.ok c.print_whole.ensures.err

@@ -19,7 +19,7 @@ use Rattle.host_session.specs.shop.Shop.{IsShop, Shop, start_of}
 use Rattle.line_server.proofs.Cuts.{lines_two}
 use Rattle.arrayvec.specs.ArrayVec.{ArrayVec}
 use Rattle.line_server.specs.Batches.{BatchInput, IsBatchTaken, texts_of}
-use Rattle.shop_log.specs.ImageLogs.{LogHistory}
+use Rattle.image_log.specs.ImageLogs.{LogHistory}
 use Rattle.line_server.specs.logged.Batches.{Holds, IsBatchServed, IsKeptNow, IsServedSo, IsUnderWay}
 use Rattle.line_server.specs.logged.Memory.{Memory}
 use Rattle.line_server.specs.logged.Reporting.{IsCutShort, LogOutput, ReportsPart, ReportsWhole, over_log}

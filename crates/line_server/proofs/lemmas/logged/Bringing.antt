@@ -6,7 +6,7 @@ use Rattle.std.proofs.lemmas.Bool.{cases_lt, false≢true}
 use Rattle.std.proofs.lemmas.List.{get_or-replicate, get_or-set_other, get_or-set_same, get_or_past, length-replicate, length-set, same_lists}
 use Rattle.std.proofs.lemmas.Option.{slice_get-get_or}
 use Rattle.d64_image.specs.Images.{Image, Sector}
-use Rattle.shop_log.specs.Marks.{Covers}
+use Rattle.image_log.specs.Marks.{Covers}
 
 -- the sectors below the i-th are brought
 pub record AreBrought (first kept now : Image) (marked touched : List Bool) (i : ℕ) : Type 0 where

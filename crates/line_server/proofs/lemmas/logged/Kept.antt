@@ -2,9 +2,9 @@
 use Rattle.std.proofs.Common.{◌≡◌, ◌∙◌, Bool, Err, List, Ok, Result, subst, sym}
 use Rattle.std.specs.Prelude.{OnOk}
 use Rattle.d64_image.specs.Images.{Image}
-use Rattle.shop_log.specs.ImageLogs.{IsCommitted, IsEither, LeavesImages, LogHistory}
-use Rattle.shop_log.specs.Marks.{Covers, NoneTouched}
-use Rattle.shop_log.specs.Touched.{touched_of}
+use Rattle.image_log.specs.ImageLogs.{IsCommitted, IsEither, LeavesImages, LogHistory}
+use Rattle.image_log.specs.Marks.{Covers, NoneTouched}
+use Rattle.image_log.specs.Touched.{touched_of}
 use Rattle.line_server.specs.logged.Keeping.{IsKept}
 use Rattle.line_server.specs.logged.Memory.{Memory, image_of}
 

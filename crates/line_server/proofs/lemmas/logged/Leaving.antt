@@ -1,7 +1,7 @@
 -- What a power loss leaves of a log, over calls one after another.
 use Rattle.std.proofs.Common.{arith, inl, inr, sym, subst, ⊎_elim}
 use Rattle.d64_image.specs.Images.{Image}
-use Rattle.shop_log.specs.ImageLogs.{LeavesImages, LogHistory}
+use Rattle.image_log.specs.ImageLogs.{LeavesImages, LogHistory}
 
 module _ {L : Type 0} (h : LogHistory L) where
   -- a log as it is

@@ -17,8 +17,8 @@ use Rattle.host_session.specs.session.Opening.{IsAShop, Refuses, Untouched}
 use Rattle.host_session.specs.session.Standing.{View}
 use Rattle.host_session.specs.shop.Shop.{IsSettled, IsShop, Shop}
 use Rattle.line_server.specs.Batches.{BatchInput}
-use Rattle.shop_log.specs.ImageLogs.{LogHistory}
-use Rattle.shop_log.specs.Touched.{touched_disk}
+use Rattle.image_log.specs.ImageLogs.{LogHistory}
+use Rattle.image_log.specs.Touched.{touched_disk}
 use Rattle.line_server.specs.logged.Batches.{HasOpened}
 use Rattle.line_server.specs.logged.Memory.{Memory, image_of, in_memory}
 use Rattle.line_server.specs.logged.Reporting.{LogOutput}

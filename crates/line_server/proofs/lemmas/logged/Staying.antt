@@ -6,7 +6,7 @@ use Rattle.d64_image.specs.Images.{Image}
 use Rattle.request_cards.specs.declared.reply.Reply.{Reply}
 use Rattle.host_session.specs.runs.Chains.{told_in}
 use Rattle.host_session.specs.shop.Shop.{IsSettled, Shop}
-use Rattle.shop_log.specs.ImageLogs.{IsEither, LeavesImages, LogHistory}
+use Rattle.image_log.specs.ImageLogs.{IsEither, LeavesImages, LogHistory}
 use Rattle.line_server.specs.logged.Reporting.{over_log}
 use Rattle.line_server.specs.logged.Serves.{HoldsFirst, StayFrom, shop_behind}
 use Rattle.line_server.proofs.lemmas.logged.Leaving.{goes_on, stays}

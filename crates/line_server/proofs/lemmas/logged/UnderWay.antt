@@ -20,9 +20,9 @@ use Rattle.host_session.specs.shop.Shop.{IsSettled, IsShop, Shop, start_of}
 use Rattle.line_server.proofs.Cuts.{lines_two, whole_two}
 use Rattle.line_server.specs.Batches.{BatchInput, IsBatchTaken}
 use Rattle.line_server.specs.Read.{AreWhole}
-use Rattle.shop_log.specs.ImageLogs.{IsEither, LeavesImages, LogHistory}
-use Rattle.shop_log.specs.Marks.{Covers}
-use Rattle.shop_log.specs.Touched.{touched_of}
+use Rattle.image_log.specs.ImageLogs.{IsEither, LeavesImages, LogHistory}
+use Rattle.image_log.specs.Marks.{Covers}
+use Rattle.image_log.specs.Touched.{touched_of}
 use Rattle.line_server.specs.logged.Batches.{Holds, IsBatchServed, IsKeptNow, IsUnderWay}
 use Rattle.line_server.specs.logged.Handling.{AskNone, IsAtRest, replies_after}
 use Rattle.line_server.specs.logged.Memory.{Memory, image_of}

@@ -4,7 +4,7 @@ use Rattle.damaged_files.proofs.lemmas.cut.Told.{told-cut, told-fewer, told-uncu
 use Rattle.damaged_files.specs.declared.cut.shortfalls.Shortfall.{Shortfall}
 use Rattle.damaged_files.specs.declared.cut.shortfalls.Shortfall.TheVariants as lacks
 use Rattle.opened_files.specs.Losses.{IsJudged, IsSeen, short_refusal}
-use Rattle.opened_files.specs.declared.losses.Loss.TheVariants.{Refused}
+use Rattle.damaged_files.specs.declared.sides.planning.Loss.TheVariants.{Refused}
 use Rattle.opened_files.proofs.losses.loss_refusal.Goals as goal
 
 judged : (image : List ℕ) (lack : Option Shortfall) → IsSeen image lack → IsJudged image Refused (short_refusal lack)

@@ -9,7 +9,7 @@ use Rattle.disk_layout.specs.Layout.{File, Layout, file_owns, record_length}
 use Rattle.disk_layout.specs.Records.{records}
 use Rattle.rel_records.specs.Others.{HasRecords, KeepsPlaces}
 use Rattle.rel_records.specs.Written.{IsGrowingBy, grown_by}
-use Rattle.rel_records.specs.declared.growth.step_parts.Parts.{Parts}
+use Rattle.rel_records.specs.declared.growth.step_parts.Growing.{Growing}
 use Rattle.rel_records.specs.growth.Growth.{full, records_had}
 use Rattle.rel_records.specs.growth.Steps.{FillsBefore, HasFilled, IsAt, IsTailOf}
 use Rattle.rel_records.proofs.lemmas.filling.ReadyToEnd.{IsReadyToEnd, from, ready-at-once, ready-has}
@@ -17,7 +17,7 @@ use Rattle.rel_records.proofs.lemmas.filling.ReadyToEnd.{ready-with-tail, total}
 use Rattle.rel_records.proofs.lemmas.whole.Filled.{ready-whole}
 
 -- the image before the last block is written is ready for that
-module _ (a : Image) (l : Layout) (n : ℕ) (f : File) (p : Parts) (w : IsImage a) (at : IsAt a l n f p) where
+module _ (a : Image) (l : Layout) (n : ℕ) (f : File) (p : Growing) (w : IsImage a) (at : IsAt a l n f p) where
   size-tail : (start sum : ℕ) (q : Place) (bytes : Sector) → start ≡ records_had f * record_length f.slot
       → sum ≡ full (record_length f.slot) (length f.blocks)
       → IsTailOf a q (254 * (length p.blocks.items - 2)) start p.size sum bytes

@@ -23,14 +23,14 @@ use Rattle.rel_records.proofs.lemmas.filling.Standing.{last-at, last-in, place, 
 use Rattle.rel_records.proofs.lemmas.filling.Tails.{tail-before, tail-new, tail-other}
 use Rattle.rel_records.specs.Others.{HasRecords, KeepsOthers}
 use Rattle.rel_records.specs.Written.{IsGrowingBy, grown_by}
-use Rattle.rel_records.specs.declared.growth.step_parts.Parts.{Parts}
+use Rattle.rel_records.specs.declared.growth.step_parts.Growing.{Growing}
 use Rattle.rel_records.specs.growth.Growth.{full, records_had}
 use Rattle.rel_records.specs.growth.Steps.{HasFilled, IsAt, IsEnd}
 use Rattle.rel_records.proofs.lemmas.filling.ReadyToEnd.{IsReadyToEnd, ready-has}
 use Rattle.rel_records.proofs.lemmas.whole.Filled.{filled-whole, ready-whole}
 
 -- the last block is written: the file has all whole records that fit
-module _ (a x : Image) (l : Layout) (n : ℕ) (f : File) (p : Parts) (w : IsImage a) (wx : IsImage x)
+module _ (a x : Image) (l : Layout) (n : ℕ) (f : File) (p : Growing) (w : IsImage a) (wx : IsImage x)
     (at0 : IsAt a l n f p) (ready : IsReadyToEnd a x l n f p) (bytes : Sector) (fresh : IsSector bytes)
     (end : IsEnd (length f.blocks) (record_length f.slot) (records_had f * record_length f.slot)
     (sector x ready.at.last_place) bytes) where
@@ -170,7 +170,7 @@ module _ (a x : Image) (l : Layout) (n : ℕ) (f : File) (p : Parts) (w : IsImag
       (let P : Place → Type 0 = Contains l.directory in subst P (sym e) (entry-in x l n f p at))
 
   -- and what is in memory is of it
-  pub filled-up : (z : Parts) → z.map.bytes ≡ p.map.bytes → z.sector ≡ p.sector → z.number ≡ p.number → z.size ≡ p.size
+  pub filled-up : (z : Growing) → z.map.bytes ≡ p.map.bytes → z.sector ≡ p.sector → z.number ≡ p.number → z.size ≡ p.size
       → z.sides.items ≡ p.sides.items → z.blocks.items ≡ p.blocks.items → z.last ≡ bytes → z.directory ≡ p.directory
       → HasFilled a b l n f p z
   filled-up z map sector' number size sides blocks last directory = record {

@@ -18,16 +18,16 @@ use Rattle.rel_records.proofs.lemmas.filling.Standing.{file-rel, had-low}
 use Rattle.rel_records.specs.growth.Growth.{fill_writes, full, records_had}
 use Rattle.rel_records.specs.growth.Steps.{FillsBefore, HasFilled, IsAt, IsEnd}
 use Rattle.rel_records.specs.Written.{IsGrowingBy}
-use Rattle.rel_records.specs.declared.growth.step_parts.Parts.{Parts}
+use Rattle.rel_records.specs.declared.growth.step_parts.Growing.{Growing}
 
 -- what is known when it begins: how many records there are, where the new ones begin, and how many there are to be
-pub record IsFillOf (p : Parts) (had from total : ℕ) : Type 0 where
+pub record IsFillOf (p : Growing) (had from total : ℕ) : Type 0 where
   pub count : had ≡ record_count (length p.blocks.items) (slice_index p.last 1) p.size
   pub begins : from ≡ had * p.size
   pub sum : total ≡ full p.size (length p.blocks.items)
   pub other : had ≢ total
 
-module _ {D : Type 0} (S : History D) (d : D) (l : Layout) (n : ℕ) (f : File) (p : Parts) (had from total : ℕ)
+module _ {D : Type 0} (S : History D) (d : D) (l : Layout) (n : ℕ) (f : File) (p : Growing) (had from total : ℕ)
     (at : IsAt (S.image d) l n f p) (fill : IsFillOf p had from total) where
   abbrev a : Image
   a = S.image d
@@ -119,7 +119,7 @@ module _ {D : Type 0} (S : History D) (d : D) (l : Layout) (n : ℕ) (f : File) 
         (one_write_more S d b c before_end (S.image b) (put (S.image b) place bytes) Grows prior held counted
         (at_end S d b Grows prior.held) last-write)
 
-    pub filled-end : {T E : Type 0} (c : D) (result : Result T E) (z : Parts) → z.map.bytes ≡ p.map.bytes
+    pub filled-end : {T E : Type 0} (c : D) (result : Result T E) (z : Growing) → z.map.bytes ≡ p.map.bytes
         → z.sector ≡ p.sector → z.number ≡ p.number → z.size ≡ p.size → z.sides.items ≡ p.sides.items
         → z.blocks.items ≡ p.blocks.items → z.last ≡ bytes → z.directory ≡ p.directory
         → OnOk result (S.image c ≡ put (S.image b) place bytes) → OnOk result (HasFilled a (S.image c) l n f p z)

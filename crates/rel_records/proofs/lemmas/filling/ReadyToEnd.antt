@@ -23,12 +23,12 @@ use Rattle.rel_records.proofs.lemmas.filling.Tails.{tail-new}
 use Rattle.rel_records.proofs.lemmas.steps.Others.{others-kept}
 use Rattle.rel_records.proofs.lemmas.steps.Sided.{get-once}
 use Rattle.rel_records.specs.Others.{HasRecords, KeepsOthers}
-use Rattle.rel_records.specs.declared.growth.step_parts.Parts.{Parts}
+use Rattle.rel_records.specs.declared.growth.step_parts.Growing.{Growing}
 use Rattle.rel_records.specs.growth.Growth.{full, records_had}
 use Rattle.rel_records.specs.growth.Steps.{IsAt, IsTailOf}
 
 -- x is the image before the last block is written: the file is as in a, and what lies before its last block is filled
-pub record IsReadyToEnd (a x : Image) (l : Layout) (n : ℕ) (f : File) (p : Parts) : Type 0 where
+pub record IsReadyToEnd (a x : Image) (l : Layout) (n : ℕ) (f : File) (p : Growing) : Type 0 where
   pub at : IsAt x l n f p
   pub others : KeepsOthers a x l l n
   pub same : records x f ≡ records a f
@@ -36,7 +36,7 @@ pub record IsReadyToEnd (a x : Image) (l : Layout) (n : ℕ) (f : File) (p : Par
       → get_or (joined x f.blocks) i 0 ≡ filler (record_length f.slot) (full (record_length f.slot) (length f.blocks)) i
 
 -- so it is an image that growth may leave
-pub ready-has : (a x : Image) (l : Layout) (n : ℕ) (f : File) (p : Parts) → slice_get l.files n ≡ Some f
+pub ready-has : (a x : Image) (l : Layout) (n : ℕ) (f : File) (p : Growing) → slice_get l.files n ≡ Some f
     → IsReadyToEnd a x l n f p → HasRecords a x l n (records a f)
 ready-has a x l n f p there r = record {
   layout = l;
@@ -50,7 +50,7 @@ ready-has a x l n f p there r = record {
       subst P same (omega arith, inl refl));
 }
 
-module _ (a : Image) (l : Layout) (n : ℕ) (f : File) (p : Parts) (w : IsImage a) (at : IsAt a l n f p) where
+module _ (a : Image) (l : Layout) (n : ℕ) (f : File) (p : Growing) (w : IsImage a) (at : IsAt a l n f p) where
   abbrev pub L : ℕ
   L = record_length f.slot
 
@@ -151,14 +151,14 @@ module _ (a : Image) (l : Layout) (n : ℕ) (f : File) (p : Parts) (w : IsImage 
     }
 
 -- the last index stands in the last block
-pub last-index : (a : Image) (l : Layout) (n : ℕ) (f : File) (p : Parts) → IsAt a l n f p
+pub last-index : (a : Image) (l : Layout) (n : ℕ) (f : File) (p : Growing) → IsAt a l n f p
     → slice_index p.last 1 ≡ f.last
 last-index a l n f p at =
     let c = (file-rel a l n f p at).chain.2 in
     ap (λ s. slice_index s 1) (at.last ∙ ap (sector a) (sym (same-last a l n f p at))) ∙ c.ends.1
 
 -- so the count of records is that of what is in memory
-pub had-is : (a : Image) (l : Layout) (n : ℕ) (f : File) (p : Parts) → IsAt a l n f p
+pub had-is : (a : Image) (l : Layout) (n : ℕ) (f : File) (p : Growing) → IsAt a l n f p
     → records_had f ≡ record_count (length p.blocks.items) (slice_index p.last 1) p.size
 had-is a l n f p at =
     let many : length p.blocks.items ≡ length f.blocks = ap length at.blocks in

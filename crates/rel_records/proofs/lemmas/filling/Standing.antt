@@ -19,7 +19,7 @@ use Rattle.disk_layout.specs.Chain.{EachOnce}
 use Rattle.disk_layout.specs.Layout.{File, IsRelFile, Layout, record_length}
 use Rattle.disk_layout.specs.Records.{record_count}
 use Rattle.rel_records.proofs.lemmas.reading.Opened.{rel-of}
-use Rattle.rel_records.specs.declared.growth.step_parts.Parts.{Parts}
+use Rattle.rel_records.specs.declared.growth.step_parts.Growing.{Growing}
 use Rattle.rel_records.specs.growth.Growth.{full, records_had}
 use Rattle.rel_records.specs.growth.Steps.{IsAt}
 
@@ -31,7 +31,7 @@ count-low n u L pos =
     let one : 1 ≤ max u 1 = grind (arith, nat_tests) in
     omega arith
 
-module _ (a : Image) (l : Layout) (n : ℕ) (f : File) (p : Parts) (at : IsAt a l n f p) where
+module _ (a : Image) (l : Layout) (n : ℕ) (f : File) (p : Growing) (at : IsAt a l n f p) where
   pub split : l.files ≡ take n l.files ++ f ∷ drop (suc n) l.files
   split = around l.files n f at.there
 

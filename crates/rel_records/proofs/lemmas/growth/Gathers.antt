@@ -10,12 +10,12 @@ use Rattle.disk_layout.specs.Layout.{File, Layout}
 use Rattle.rel_records.proofs.lemmas.reading.Opened.{file-rel}
 use Rattle.rel_records.proofs.lemmas.steps.Added.{last-read}
 use Rattle.rel_records.specs.File.{IsFileOf}
-use Rattle.rel_records.specs.declared.growth.step_parts.Parts.{Parts}
+use Rattle.rel_records.specs.declared.growth.step_parts.Growing.{Growing}
 use Rattle.rel_records.specs.declared.rel_file.RelFile.{RelFile}
 use Rattle.rel_records.specs.growth.Steps.{IsAt}
 
 -- read with the map, the sector of its slot, and its last block, which stands at place k of the list
-pub is-at : (img : Image) (l : Layout) (n : ℕ) (f : File) (v : RelFile) (p : Parts) (k : ℕ) (last : Place) → IsClean img
+pub is-at : (img : Image) (l : Layout) (n : ℕ) (f : File) (v : RelFile) (p : Growing) (k : ℕ) (last : Place) → IsClean img
     → IsFileOf img l n f v → p.map.bytes ≡ sector img map_place → p.sector ≡ v.sector → p.number ≡ v.number
     → p.size ≡ v.size → p.sides.items ≡ f.sides → p.blocks.items ≡ f.blocks
     → k + 1 ≡ length p.blocks.items → last ≡ get_or p.blocks.items k last → p.last ≡ sector img last

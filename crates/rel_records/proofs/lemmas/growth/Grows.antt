@@ -17,7 +17,7 @@ use Rattle.rel_records.specs.growth.Growth.{fill_writes, full, needed, records_h
 use Rattle.rel_records.specs.growth.Steps.{HasFilled, HasRun, IsAt, IsKeptOf, IsRunTo, StandsFilled}
 use Rattle.rel_records.specs.Written.{IsGrowingBy}
 use Rattle.rel_records.specs.declared.rel_file.RelFile.{RelFile}
-use Rattle.rel_records.specs.declared.growth.step_parts.Parts.{Parts}
+use Rattle.rel_records.specs.declared.growth.step_parts.Growing.{Growing}
 
 -- what is kept of a file tells how many records it has
 pub had-of : (img : Image) (l : Layout) (n : ℕ) (f : File) (v : RelFile) → IsFileOf img l n f v
@@ -33,16 +33,16 @@ unfolding records
 count-is img f = length-pieces _ _ _
 
 -- what stands in memory of a relative file with blocks
-pub at-sides : (img : Image) (l : Layout) (n : ℕ) (f : File) (p : Parts) → IsAt img l n f p
+pub at-sides : (img : Image) (l : Layout) (n : ℕ) (f : File) (p : Growing) → IsAt img l n f p
     → length p.sides.items ≡ sides_for (length p.blocks.items)
 at-sides img l n f p at =
     ap length at.sides ∙ (rel-of img l n f at.clean.layout at.there at.rel).count
     ∙ ap (λ xs. sides_for (length xs)) (sym at.blocks)
 
-pub at-some : (img : Image) (l : Layout) (n : ℕ) (f : File) (p : Parts) → IsAt img l n f p → 1 ≤ length p.blocks.items
+pub at-some : (img : Image) (l : Layout) (n : ℕ) (f : File) (p : Growing) → IsAt img l n f p → 1 ≤ length p.blocks.items
 at-some img l n f p at = omega (arith, ap length at.blocks, blocks-some img l n f p at)
 
-module _ {D : Type 0} (S : History D) (d b : D) (l : Layout) (n : ℕ) (f : File) (p : Parts) (w : ℕ)
+module _ {D : Type 0} (S : History D) (d b : D) (l : Layout) (n : ℕ) (f : File) (p : Growing) (w : ℕ)
     (reads : OnlyReads S d b 8) (at : IsAt (S.image d) l n f p) (more : length f.blocks ≤ w) where
   abbrev Grows : Image → Type 0
   Grows = IsGrowingBy (S.image d) l n f (full (record_length f.slot) w - records_had f)
@@ -68,7 +68,7 @@ module _ {D : Type 0} (S : History D) (d b : D) (l : Layout) (n : ℕ) (f : File
     pub fill-moments : Changes S d x (fill_writes f + run_writes (length f.blocks) w) Grows
     fill-moments = changes_weaker S d x _ _ Grows Grows (omega arith) (λ c h. h) filled-so-far
 
-    module _ (q : Parts) (filled : HasFilled (S.image b) (S.image x) l n f p q) where
+    module _ (q : Growing) (filled : HasFilled (S.image b) (S.image x) l n f p q) where
       pub run : IsRunTo (S.image d) (S.image x) l n f (length f.blocks) q
       run = let P : Image → Type 0 = λ i. IsRunTo i (S.image x) l n f (length f.blocks) q in
           subst P reads.image filled.run
@@ -95,7 +95,7 @@ module _ {D : Type 0} (S : History D) (d b : D) (l : Layout) (n : ℕ) (f : File
               (length f.blocks) w q (had-full (S.image d) l n f p at (S.whole d)) more (pos (S.image d) l n f p at)
               at.there run at.clean.layout c h) blocks)
 
-          pub has-run : (z : Parts) (v : RelFile) → IsRunTo (S.image x) (S.image y) run.layout n run.file w z
+          pub has-run : (z : Growing) (v : RelFile) → IsRunTo (S.image x) (S.image y) run.layout n run.file w z
               → IsKeptOf v z → HasRun (S.image d) (S.image y) l n f w v
           has-run z v h kept = record {
             parts = z;

@@ -12,14 +12,14 @@ use Rattle.rel_records.proofs.lemmas.Kept.{has_then, keeps_then, places-then}
 use Rattle.rel_records.proofs.lemmas.filling.BeforeLast.{filled-already}
 use Rattle.rel_records.specs.Others.{HasRecords, KeepsPlaces}
 use Rattle.rel_records.specs.Written.{IsGrowingBy, grown_by}
-use Rattle.rel_records.specs.declared.growth.step_parts.Parts.{Parts}
+use Rattle.rel_records.specs.declared.growth.step_parts.Growing.{Growing}
 use Rattle.rel_records.specs.growth.Growth.{full, needed, records_had, run_writes, side_writes}
 use Rattle.rel_records.specs.growth.Steps.{IsAt, IsFilledUp, IsRunTo, step_writes, taken_next}
 use Rattle.rel_records.proofs.lemmas.whole.Filled.{never-back, run-whole}
 use Rattle.rel_records.proofs.lemmas.growth.RunCosts.{full-mono, grown-grown, run-step, side-mono}
 
 -- nothing is done yet
-pub run-here : (a : Image) (l : Layout) (n : ℕ) (f : File) (p : Parts) (k : ℕ) → IsImage a → IsAt a l n f p
+pub run-here : (a : Image) (l : Layout) (n : ℕ) (f : File) (p : Growing) (k : ℕ) → IsImage a → IsAt a l n f p
     → IsFilledUp f → length f.blocks ≡ k → IsRunTo a a l n f k p
 run-here a l n f p k w at up e = let P : ℕ → Type 0 = λ c. IsRunTo a a l n f c p in
     subst P e (filled-already a l n f p w at up).run
@@ -29,7 +29,7 @@ pub low-full : (f : File) (k : ℕ) → 0 < record_length f.slot → IsFilledUp 
     → records_had f ≤ full (record_length f.slot) k
 low-full f k pos up le = omega (arith, up, full-mono (record_length f.slot) (length f.blocks) k pos le)
 
-module _ (a x : Image) (l : Layout) (n : ℕ) (f : File) (k w : ℕ) (p : Parts)
+module _ (a x : Image) (l : Layout) (n : ℕ) (f : File) (k w : ℕ) (p : Growing)
     (low : records_had f ≤ full (record_length f.slot) k) (more : k ≤ w) (pos : 0 < record_length f.slot)
     (there : slice_get l.files n ≡ Some f) (run : IsRunTo a x l n f k p) where
   abbrev L : ℕ
@@ -57,7 +57,7 @@ module _ (a x : Image) (l : Layout) (n : ℕ) (f : File) (k w : ℕ) (p : Parts)
       ∙ ap (λ j. grown_by L j (records a f)) sums
 
   -- a run and then a run
-  pub run-run : (y : Image) (q : Parts) → IsRunTo x y run.layout n run.file w q → IsRunTo a y l n f w q
+  pub run-run : (y : Image) (q : Growing) → IsRunTo x y run.layout n run.file w q → IsRunTo a y l n f w q
   run-run y q h = record {
     layout = h.layout;
     file = h.file;
@@ -148,7 +148,7 @@ room-next c w had lt le = by (nat_eq (c % 120) 0) refl
         omega (arith, one, le, lt)
 
 -- the moments of a run and one more block
-module _ {D : Type 0} (S : History D) (d x y : D) (l : Layout) (n : ℕ) (f : File) (k w : ℕ) (p : Parts)
+module _ {D : Type 0} (S : History D) (d x y : D) (l : Layout) (n : ℕ) (f : File) (k w : ℕ) (p : Growing)
     (low : records_had f ≤ full (record_length f.slot) k) (first : length f.blocks ≤ k) (more : k + 1 ≤ w)
     (pos : 0 < record_length f.slot) (there : slice_get l.files n ≡ Some f) (is : IsLayout (S.image d) l)
     (run : IsRunTo (S.image d) (S.image x) l n f k p) where

@@ -18,7 +18,7 @@ use Rattle.rel_records.proofs.lemmas.steps.LastBlocks.{records_more, some-more}
 use Rattle.rel_records.proofs.lemmas.whole.Linked.{counted-whole, linked-whole}
 use Rattle.rel_records.proofs.lemmas.whole.Prepared.{before-whole}
 use Rattle.rel_records.specs.Written.{IsGrowingBy}
-use Rattle.rel_records.specs.declared.growth.step_parts.Parts.{Parts}
+use Rattle.rel_records.specs.declared.growth.step_parts.Growing.{Growing}
 use Rattle.rel_records.specs.growth.Next.{IsLaidOut}
 use Rattle.rel_records.specs.growth.Preparing.{IsPrepared}
 use Rattle.rel_records.specs.growth.Steps.{AreSidedFrom, HasBlockMore, IsAt, IsBefore, IsFilledUp, IsSided, step_writes}
@@ -38,7 +38,7 @@ last-read xs front last x k e long is =
 not_zero : (k : ℕ) → nat_eq k 0 ≡ false → k ≢ 0
 not_zero k e z = let one : false ≡ true = sym e ∙ ap (λ n. nat_eq n 0) z in cc
 
-module _ {D : Type 0} (S : History D) (d : D) (l : Layout) (n : ℕ) (f : File) (p q : Parts) (fresh : Place)
+module _ {D : Type 0} (S : History D) (d : D) (l : Layout) (n : ℕ) (f : File) (p q : Growing) (fresh : Place)
     (block : Sector) (new : Bool) (at : IsAt (S.image d) l n f p) (few : length f.blocks < 720)
     (lay : IsLaidOut p q fresh block) (v : IsSector q.last) (up : IsFilledUp f)
     (is_new : new ≡ nat_eq (length p.blocks.items % 120) 0) where
@@ -164,7 +164,7 @@ module _ {D : Type 0} (S : History D) (d : D) (l : Layout) (n : ℕ) (f : File) 
               (at_end S d c Adds so-far.held) counted-now)
 
           -- and what is left
-          pub added : (z : Parts) → S.image e ≡ put (S.image c) place q.directory → z.map.bytes ≡ q.map.bytes
+          pub added : (z : Growing) → S.image e ≡ put (S.image c) place q.directory → z.map.bytes ≡ q.map.bytes
               → z.sector ≡ q.sector → z.number ≡ q.number → z.size ≡ q.size → z.sides.items ≡ q.sides.items
               → z.blocks.items ≡ q.blocks.items → z.last ≡ block → z.directory ≡ q.directory
               → HasBlockMore a (S.image e) l n f p z

@@ -23,7 +23,7 @@ use Rattle.rel_records.specs.Others.{HasRecords, KeepsOthers, KeepsPlaces}
 use Rattle.rel_records.specs.growth.Preparing.{IsPrepared}
 use Rattle.rel_records.specs.growth.Steps.{HasBlockMore, IsFilledUp, taken_next}
 use Rattle.rel_records.specs.Written.{grown_by}
-use Rattle.rel_records.specs.declared.growth.step_parts.Parts.{Parts}
+use Rattle.rel_records.specs.declared.growth.step_parts.Growing.{Growing}
 use Rattle.rel_records.proofs.lemmas.steps.Committing.{IsReadyToLink, committed-has, entry-unowned, g-owned, last-in}
 use Rattle.rel_records.proofs.lemmas.steps.Committing.{records-longer}
 use Rattle.rel_records.proofs.lemmas.steps.Counting.{IsReadyToCount, after-same, before-same, clean-again, counted-has}
@@ -37,7 +37,7 @@ pub is_rel-same : (s t : Slot) → uncounted s ≡ uncounted t → is_rel s ≡ 
 is_rel-same s t e = ap (λ k. nat_eq k 132 || nat_eq k 196) (uncounted-face s t e).kind
 
 -- c is the image to which the link is written
-module _ {a : Image} {l : Layout} {n : ℕ} {f : File} {p q : Parts} {fresh : Place} {block : Sector}
+module _ {a : Image} {l : Layout} {n : ℕ} {f : File} {p q : Growing} {fresh : Place} {block : Sector}
     (step : IsStep a l n f p q fresh block) (up : IsFilledUp f) (c : Image) (x : IsImage c) (v : IsSector q.last)
     (ready : IsPrepared a c l f (grown f fresh (slice_index block 1) q.sides.items) fresh q.map.bytes block) where
   open step use {at, laid}
@@ -167,7 +167,7 @@ module _ {a : Image} {l : Layout} {n : ℕ} {f : File} {p q : Parts} {fresh : Pl
       (after-same to_count) (header-same to_count))
 
   -- at the end the file has a block more, and what is in memory is of the image
-  pub block-more : (z : Parts) → z.map.bytes ≡ q.map.bytes → z.sector ≡ q.sector → z.number ≡ q.number
+  pub block-more : (z : Growing) → z.map.bytes ≡ q.map.bytes → z.sector ≡ q.sector → z.number ≡ q.number
       → z.size ≡ q.size → z.sides.items ≡ ss → z.blocks.items ≡ q.blocks.items → z.last ≡ block
       → z.directory ≡ q.directory → HasBlockMore a e l n f p z
   block-more z map sector' number size sides blocks last directory =

@@ -18,11 +18,11 @@ use Rattle.disk_layout.specs.Chain.{EachOnce}
 use Rattle.std.proofs.lemmas.Bool.{cases_lt}
 use Rattle.rel_records.specs.Others.{HasRecords}
 use Rattle.rel_records.specs.Written.{grown_by}
-use Rattle.rel_records.specs.declared.growth.step_parts.Parts.{Parts}
+use Rattle.rel_records.specs.declared.growth.step_parts.Growing.{Growing}
 use Rattle.rel_records.specs.growth.Preparing.{IsPrepared, IsPreparing}
 use Rattle.rel_records.specs.growth.Steps.{AreSidedFrom, IsBefore, IsSided}
 
-module _ (a : Image) (l : Layout) (f g : File) (p : Parts) (fresh : Place) (block : Sector) (full : length a ≡ 683)
+module _ (a : Image) (l : Layout) (f g : File) (p : Growing) (fresh : Place) (block : Sector) (full : length a ≡ 683)
     (h : IsLayout a l)
     (header : (take 4 p.map.bytes ≡ take 4 (sector a map_place))
     × (drop 144 p.map.bytes ≡ drop 144 (sector a map_place)))

@@ -30,18 +30,18 @@ use Rattle.rel_records.specs.growth.Preparing.{IsPrepared}
 use Rattle.rel_records.specs.growth.Steps.{AreSidedFrom, IsAt, IsBefore, IsSided}
 use Rattle.rel_records.specs.Others.{HasRecords}
 use Rattle.rel_records.specs.Written.{grown_by}
-use Rattle.rel_records.specs.declared.growth.step_parts.Parts.{Parts}
+use Rattle.rel_records.specs.declared.growth.step_parts.Growing.{Growing}
 
 -- a step is laid out in memory: the file f, at place n of the clean image a, is to get one block more, `block` at
 -- `fresh`; what is kept of the file is p before the step, and q after it
-pub record IsStep (a : Image) (l : Layout) (n : ℕ) (f : File) (p q : Parts) (fresh : Place) (block : Sector) : Type 0
+pub record IsStep (a : Image) (l : Layout) (n : ℕ) (f : File) (p q : Growing) (fresh : Place) (block : Sector) : Type 0
   where
     pub whole : IsImage a
     pub at : IsAt a l n f p
     pub few : length f.blocks < 720
     pub laid : IsLaidOut p q fresh block
 
-pub step-of : {a : Image} {l : Layout} {n : ℕ} {f : File} {p q : Parts} {fresh : Place} {block : Sector} → IsImage a
+pub step-of : {a : Image} {l : Layout} {n : ℕ} {f : File} {p q : Growing} {fresh : Place} {block : Sector} → IsImage a
     → IsAt a l n f p → length p.blocks.items < 720 → IsLaidOut p q fresh block → IsStep a l n f p q fresh block
 step-of whole at few laid = record {
   whole = whole;
@@ -51,10 +51,10 @@ step-of whole at few laid = record {
 }
 
 -- the side sectors below k need no other bytes
-pub record IsRewritten (f : File) (q : Parts) (k : ℕ) : Type 0 where
+pub record IsRewritten (f : File) (q : Growing) (k : ℕ) : Type 0 where
   pub from : (k ≡ 0) ⊎ ((k + 1 ≡ length q.sides.items) × (length f.blocks % 120 ≢ 0))
 
-module _ {a : Image} {l : Layout} {n : ℕ} {f : File} {p q : Parts} {fresh : Place} {block : Sector}
+module _ {a : Image} {l : Layout} {n : ℕ} {f : File} {p q : Growing} {fresh : Place} {block : Sector}
     (step : IsStep a l n f p q fresh block) where
   open step use {whole, at, few, laid}
 

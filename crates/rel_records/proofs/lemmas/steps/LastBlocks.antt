@@ -9,14 +9,14 @@ use Rattle.rel_records.proofs.lemmas.filling.Fulls.{full-inside, full-last, full
 use Rattle.rel_records.specs.growth.Growth.{full}
 use Rattle.rel_records.specs.growth.Next.{IsFresh, IsLinked}
 use Rattle.rel_records.specs.growth.Steps.{IsFilledUp}
-use Rattle.rel_records.specs.declared.growth.step_parts.Parts.{Parts}
+use Rattle.rel_records.specs.declared.growth.step_parts.Growing.{Growing}
 use Rattle.rel_records.proofs.lemmas.steps.LaidOut.{IsStep, blocks-some, many, rel-file}
 
 -- how many empty records the next block brings
 abbrev pub records_more : File → ℕ
 records_more f = full (record_length f.slot) (length f.blocks + 1) - full (record_length f.slot) (length f.blocks)
 
-module _ {a : Image} {l : Layout} {n : ℕ} {f : File} {p q : Parts} {fresh : Place} {block : Sector}
+module _ {a : Image} {l : Layout} {n : ℕ} {f : File} {p q : Growing} {fresh : Place} {block : Sector}
     (step : IsStep a l n f p q fresh block) where
   open step use {at, laid}
 

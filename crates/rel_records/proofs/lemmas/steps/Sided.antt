@@ -14,7 +14,7 @@ use Rattle.disk_layout.proofs.lemmas.layouts.Layouts.{get-contains}
 use Rattle.disk_layout.specs.Chain.{EachOnce}
 use Rattle.disk_layout.specs.Side.{side_sector}
 use Rattle.disk_layout.specs.Directory.{map_place}
-use Rattle.rel_records.specs.declared.growth.step_parts.Parts.{Parts}
+use Rattle.rel_records.specs.declared.growth.step_parts.Growing.{Growing}
 use Rattle.rel_records.specs.growth.Steps.{AreSidedFrom, IsBefore, IsSideOr, IsSided, IsSidedInOrder}
 
 -- one write is counted at most, whatever is answered
@@ -187,7 +187,7 @@ module _ {D : Type 0} (S : History D) (blocks sides : List Place) (L : ℕ) wher
         first = inr (sided-keeps (S.image b) x blocks sides L (length sides - 1) once from h);
       }) second)
 
-module _ {D : Type 0} (S : History D) (p : Parts) (fresh : Place) (block : Sector) where
+module _ {D : Type 0} (S : History D) (p : Growing) (fresh : Place) (block : Sector) where
   -- the map is written, and the fresh block
   pub before_two : (a b c : D) (m : Place) → m ≡ map_place → S.image b ≡ put (S.image a) m p.map.bytes
       → HeldOnly S a b (OldOr (S.image a) (put (S.image a) m p.map.bytes)) → S.writes b ≤ S.writes a + 1

@@ -13,7 +13,7 @@ use Rattle.disk_layout.specs.View.{blocks_free}
 use Rattle.disk_layout.specs.Directory.{slot_in}
 use Rattle.disk_layout.specs.Entries.{IsRecounted}
 use Rattle.disk_layout.specs.Layout.{count_field}
-use Rattle.rel_records.specs.declared.growth.step_parts.Parts.{Parts}
+use Rattle.rel_records.specs.declared.growth.step_parts.Growing.{Growing}
 use Rattle.rel_records.specs.growth.Next.{IsFresh, IsLaidOut, IsLinked, TakesPlaces}
 use Rattle.rel_records.specs.growth.Steps.{TakesNext, taken_next}
 
@@ -43,7 +43,7 @@ takes-next old new p owned map first take = record {
     either q ps (inr c) = Contains-there q p ps c
 
 -- a second sector is taken for a side sector
-pub places-side : (p q : Parts) (mid : Sector) (fresh side : Place) → TakesNext p.map.bytes mid fresh
+pub places-side : (p q : Growing) (mid : Sector) (fresh side : Place) → TakesNext p.map.bytes mid fresh
     → TakesNext mid q.map.bytes side → length p.blocks.items % 120 ≡ 0
     → q.blocks.items ≡ p.blocks.items ++ fresh ∷ [] → q.sides.items ≡ p.sides.items ++ side ∷ [] → q.sector ≡ p.sector
     → q.number ≡ p.number → q.size ≡ p.size → TakesPlaces p q fresh
@@ -73,7 +73,7 @@ places-side p q mid fresh side first second full blocks sides sector number size
     eqb-same e = ap (λ k. nat_eq k 0) e
 
 -- the places stay taken where other bytes change
-pub places-kept : (p m q : Parts) (fresh : Place) → TakesPlaces p m fresh → q.map.bytes ≡ m.map.bytes
+pub places-kept : (p m q : Growing) (fresh : Place) → TakesPlaces p m fresh → q.map.bytes ≡ m.map.bytes
     → q.blocks.items ≡ m.blocks.items → q.sides.items ≡ m.sides.items → q.sector ≡ m.sector → q.number ≡ m.number
     → q.size ≡ m.size → TakesPlaces p q fresh
 places-kept p m q fresh h map blocks sides sector number size = record {
@@ -103,7 +103,7 @@ places-kept p m q fresh h map blocks sides sector number size = record {
 }
 
 -- all that the next block needs
-pub laid-out : (p m q : Parts) (fresh : Place) (block : Sector) (k owned : ℕ) → TakesPlaces p m fresh → m.last ≡ p.last
+pub laid-out : (p m q : Growing) (fresh : Place) (block : Sector) (k owned : ℕ) → TakesPlaces p m fresh → m.last ≡ p.last
     → m.directory ≡ p.directory
     → q.map.bytes ≡ m.map.bytes → q.blocks.items ≡ m.blocks.items → q.sides.items ≡ m.sides.items → q.sector ≡ m.sector
     → q.number ≡ m.number → q.size ≡ m.size
@@ -130,7 +130,7 @@ laid-out p m q fresh block k owned places last directory map blocks sides sector
     }
 
 -- the sector of the block is all that is taken
-pub places-block : (p q : Parts) (fresh : Place) → TakesNext p.map.bytes q.map.bytes fresh
+pub places-block : (p q : Growing) (fresh : Place) → TakesNext p.map.bytes q.map.bytes fresh
     → length p.blocks.items % 120 ≢ 0
     → q.blocks.items ≡ p.blocks.items ++ fresh ∷ [] → q.sides.items ≡ p.sides.items → q.sector ≡ p.sector
     → q.number ≡ p.number → q.size ≡ p.size → TakesPlaces p q fresh

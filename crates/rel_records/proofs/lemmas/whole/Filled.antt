@@ -30,7 +30,7 @@ use Rattle.rel_records.proofs.lemmas.whole.Written.{none-reaches}
 use Rattle.disk_layout.specs.Listed.{HasStock, IsStock, NeverGrows, is_plain}
 use Rattle.rel_records.specs.Others.{KeepsOthers}
 use Rattle.disk_layout.specs.Whole.{IsWhole}
-use Rattle.rel_records.specs.declared.growth.step_parts.Parts.{Parts}
+use Rattle.rel_records.specs.declared.growth.step_parts.Growing.{Growing}
 use Rattle.rel_records.specs.growth.Growth.{full}
 use Rattle.rel_records.specs.growth.Steps.{IsAt, IsFilledUp, IsRunTo}
 
@@ -39,7 +39,7 @@ one-there : (ps : List Place) (k : ℕ) (x y : Place) → slice_get ps k ≡ Som
 one-there ps k x y a b = let both : Some x ≡ Some y = sym a ∙ b in cc
 
 -- before the last block is written
-pub ready-whole : (a x : Image) (l : Layout) (n : ℕ) (f : File) (p : Parts) → IsAt a l n f p → IsReadyToEnd a x l n f p
+pub ready-whole : (a x : Image) (l : Layout) (n : ℕ) (f : File) (p : Growing) → IsAt a l n f p → IsReadyToEnd a x l n f p
     → IsWhole a → IsWhole x
 ready-whole a x l n f p at r w = clean-whole a x l l n f at.clean.layout r.at.clean r.others r.at.there r.at.rel end w
   where
@@ -52,7 +52,7 @@ ready-whole a x l n f p at r w = clean-whole a x l l n f at.clean.layout r.at.cl
         (w l at.clean.layout n f at.there).ended (ap (λ b. b || is_plain f.slot) at.rel) q last (same ∙ zeros)
 
 -- once it is
-pub filled-whole : (x : Image) (l : Layout) (n : ℕ) (f : File) (p : Parts) → IsImage x → (at : IsAt x l n f p)
+pub filled-whole : (x : Image) (l : Layout) (n : ℕ) (f : File) (p : Growing) → IsImage x → (at : IsAt x l n f p)
     → (bytes : Sector) → slice_index bytes 1 + 254 * (length f.blocks - 1)
     ≡ full (record_length f.slot) (length f.blocks) * record_length f.slot + 1 → slice_index bytes 0 ≡ 0
     → IsWhole x → IsWhole (put x at.last_place bytes)
@@ -141,7 +141,7 @@ up-end x f r up q last zeros = omega (
         sym c.ends.1 ∙ ap (λ y. byte x y 1) here ∙ ap (λ (s : Sector). slice_index s 1) zeros ∙ zeros-at 256 1
 
 -- at the end of a run
-pub run-whole : (a x : Image) (l : Layout) (n : ℕ) (f : File) (k : ℕ) (p : Parts) → IsLayout a l
+pub run-whole : (a x : Image) (l : Layout) (n : ℕ) (f : File) (k : ℕ) (p : Growing) → IsLayout a l
     → IsRunTo a x l n f k p → IsWhole a → IsWhole x
 run-whole a x l n f k p is run w =
     clean-whole a x l run.layout n run.file is run.at.clean run.others run.at.there run.at.rel

@@ -26,11 +26,11 @@ use Rattle.disk_layout.proofs.lemmas.whole.Files.{AreExact, exact-whole, not-zer
 use Rattle.rel_records.proofs.lemmas.whole.Files.{agree-exact, clean-whole, whole-now}
 use Rattle.rel_records.specs.Others.{KeepsOthers}
 use Rattle.disk_layout.specs.Whole.{IsWhole}
-use Rattle.rel_records.specs.declared.growth.step_parts.Parts.{Parts}
+use Rattle.rel_records.specs.declared.growth.step_parts.Growing.{Growing}
 use Rattle.rel_records.specs.growth.Preparing.{IsPrepared}
 use Rattle.rel_records.specs.growth.Steps.{IsFilledUp}
 
-module _ {a : Image} {l : Layout} {n : ℕ} {f : File} {p q : Parts} {fresh : Place} {block : Sector}
+module _ {a : Image} {l : Layout} {n : ℕ} {f : File} {p q : Growing} {fresh : Place} {block : Sector}
     (step : IsStep a l n f p q fresh block) (up : IsFilledUp f) (c : Image) (x : IsImage c) (v : IsSector q.last)
     (ready : IsPrepared a c l f (grown f fresh (slice_index block 1) q.sides.items) fresh q.map.bytes block) where
   open step use {at}

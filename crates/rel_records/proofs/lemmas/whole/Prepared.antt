@@ -33,11 +33,11 @@ use Rattle.rel_records.proofs.lemmas.whole.Files.{whole-now}
 use Rattle.disk_layout.specs.Listed.{EndsBy, HasStock, ListsOneMore, ListsWell, NeverGrows, is_plain, used_of}
 use Rattle.rel_records.specs.Others.{KeepsOthers}
 use Rattle.disk_layout.specs.Whole.{IsWhole}
-use Rattle.rel_records.specs.declared.growth.step_parts.Parts.{Parts}
+use Rattle.rel_records.specs.declared.growth.step_parts.Growing.{Growing}
 use Rattle.rel_records.specs.growth.Preparing.{IsPreparing}
 use Rattle.rel_records.specs.growth.Steps.{AreSidedFrom, IsBefore}
 
-module _ {a : Image} {l : Layout} {n : ℕ} {f : File} {p q : Parts} {fresh : Place} {block : Sector}
+module _ {a : Image} {l : Layout} {n : ℕ} {f : File} {p q : Growing} {fresh : Place} {block : Sector}
     (step : IsStep a l n f p q fresh block) where
   open step use {whole, at}
 

@@ -15,25 +15,25 @@ pub returns-in-Ok-clause-ok : goal.returns-in-Ok-clause-ok
 returns-in-Ok-clause-ok g c =
     let loaded = c.in_ok-disk.ensures.ok in
     let opened = c.in-Ok.ensures.ok in
-    on_ok_weaker c.put_shop-shown.result (λ printed. record {
+    on_ok_weaker c.print_shop-shown.result (λ printed. record {
       size = loaded.0;
       shop = opened.0;
       is_shop = subst (λ (i : Image). IsShop i opened.0) loaded.1 opened.1;
       printed = printed;
-    }) (c.put_shop-shown.ensures.ok opened.0 opened.2.shop)
+    }) (c.print_shop-shown.ensures.ok opened.0 opened.2.shop)
 
 pub returns-in-Ok-clause-err : goal.returns-in-Ok-clause-err
 returns-in-Ok-clause-err g c =
     let loaded = c.in_ok-disk.ensures.ok in
     let opened = c.in-Ok.ensures.ok in
-    IfErr-weaker c.put_shop-shown.result _ _
+    IfErr-weaker c.print_shop-shown.result _ _
     (λ fault is. subst (IsShowFault c.args.image.now) (sym is)
     (loaded.0, (opened.0, subst (λ (i : Image). IsShop i opened.0) loaded.1 opened.1)))
-    c.put_shop-shown.ensures.err
+    c.print_shop-shown.ensures.err
 
 pub returns-in-Ok-clause-untouched : goal.returns-in-Ok-clause-untouched
 returns-in-Ok-clause-untouched g c =
-    IfErr-weaker c.put_shop-shown.result _ _ (λ fault is other. absurd (other is)) c.put_shop-shown.ensures.err
+    IfErr-weaker c.print_shop-shown.result _ _ (λ fault is other. absurd (other is)) c.print_shop-shown.ensures.err
 
 pub returns-clause-err : goal.returns-clause-err
 returns-clause-err g c =

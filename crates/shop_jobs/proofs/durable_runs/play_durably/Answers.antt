@@ -14,6 +14,6 @@ returns g c =
       untouched = played_alone c.args.file c.into_inner.result taken.result run.result.0 done.new.file run.result.1
           done.result taken.ensures.is_file c.into_inner.ensures done.ensures.told done.ensures.alone c.args.out.now
           run.new.out
-          (undone placed g.T.ReplySink.output c.args.image.now c.args.script.now taken.result run.result.0 c.args.out.now
+          (undone placed g.T.Replies.output c.args.image.now c.args.script.now taken.result run.result.0 c.args.out.now
           run.new.out run.result.1 run.ensures.run.fault);
     }

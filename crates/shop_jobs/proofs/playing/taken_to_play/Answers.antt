@@ -5,7 +5,7 @@ use Rattle.std.proofs.lemmas.Result.{err_from_is_err_and}
 use Rattle.opened_files.proofs.HostFiles.{of-file}
 use Rattle.opened_files.proofs.Near.{tag-fault}
 use Rattle.opened_files.specs.HostFiles.{OfWritten}
-use Rattle.shop_log.specs.life.Tags.{SaysLogAway}
+use Rattle.image_log.specs.life.Tags.{SaysLogAway}
 use Rattle.shop_jobs.proofs.playing.taken_to_play.Goals as goal
 
 pub returns-in_err-see_untagged-clause-err : goal.returns-in_err-see_untagged-clause-err

@@ -1,6 +1,6 @@
 -- The bytes that are passed on were looked at.
 use Rattle.std.proofs.Common.{List, subst, ℕ}
-use Rattle.shop_log.specs.life.Tags.{SaysLogAway}
+use Rattle.image_log.specs.life.Tags.{SaysLogAway}
 use Rattle.shop_jobs.proofs.serving_logs.landed_bytes.Goals as goal
 
 pub returns-clause-whole : goal.returns-clause-whole

@@ -17,10 +17,10 @@ returns g c =
           (λ left ended done. guarded-quiet _ _ _ c.args.image.now c.args.log left c.args.input.now
           c.serve_begun-ended.new.input before behind c.args.loss ended done)
           _ folder end c.serve_begun-ended.ensures.2);
-      some = served-some g.D.LogFolder.history g.I.BatchSource.input g.T.ReplySink.output c.args.image.now c.args.log
+      some = served-some g.D.LogFolder.history g.I.BatchSource.input g.T.Replies.output c.args.image.now c.args.log
           c.args.loss c.args.input.now c.serve_begun-ended.new.input before behind c.args.out.now _ c.new-answers.ensures.out
           (λ same. search rules) _ folder end c.serve_begun-ended.ensures.2;
-      all = served-all g.D.LogFolder.history g.I.BatchSource.input g.T.ReplySink.output c.args.image.now c.args.log
+      all = served-all g.D.LogFolder.history g.I.BatchSource.input g.T.Replies.output c.args.image.now c.args.log
           c.args.loss c.args.input.now c.serve_begun-ended.new.input before behind c.args.out.now _ c.new-answers.ensures.out
           (λ same. search rules) _ folder end c.serve_begun-ended.ensures.2;
     }

@@ -24,7 +24,7 @@ play_durably-requires g c = record {
 
 pub returns : goal.returns
 returns g c =
-    let o = g.T.ReplySink.output in
+    let o = g.T.Replies.output in
     let image = c.args.image.now in
     let script = c.args.script.now in
     let file = c.args.file in

@@ -1,6 +1,6 @@
 -- The entry's mark, the count, the name, the type and the records.
 use Rattle.std.proofs.Output.{has_written_of_eq}
-use Rattle.disk_pictures.proofs.Marks.{entry-written}
+use Rattle.disk_pictures.proofs.lemmas.views.Marks.{entry-written}
 use Rattle.disk_pictures.specs.Drawings.{file_in}
 use Rattle.disk_pictures.proofs.map_printing.EntryLineDisplay.fmt.Goals as goal
 

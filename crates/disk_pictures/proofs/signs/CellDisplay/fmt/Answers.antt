@@ -1,6 +1,6 @@
 -- A blank and two characters of ASCII.
 use Rattle.std.proofs.Output.{has_written_of_eq}
-use Rattle.disk_pictures.proofs.Marks.{cell-written}
+use Rattle.disk_pictures.proofs.lemmas.views.Marks.{cell-written}
 use Rattle.disk_pictures.specs.Held.{drawn_in}
 use Rattle.disk_pictures.proofs.signs.CellDisplay.fmt.Goals as goal
 

@@ -25,11 +25,11 @@ returns-in-Some g c =
     c.in-Some.found c.in-Some.is c.in_ok-found.ensures.found in
     record {
       found =
-          looked-put _ c.args.self.now c.put_last.new.self c.in-Some.found c.args.name.now c.requires.shut.known
+          looked-put _ c.args.self.now c.set_last.new.self c.in-Some.found c.args.name.now c.requires.shut.known
           c.requires.shut.checked told.0 told.1
           (subst (λ (xs : List ℕ). IfSome c.args.self.now.last (λ o. o.found.name.items ≢ xs)) (sym told.1) other.1)
-          c.put_last.ensures.last (c.put_last.ensures.before ∙ ap (λ (k : OpenFiles). found_in k.last) other.0)
-          (c.put_last.ensures.checked ∙ c.recall.ensures.checked);
+          c.set_last.ensures.last (c.set_last.ensures.before ∙ ap (λ (k : OpenFiles). found_in k.last) other.0)
+          (c.set_last.ensures.checked ∙ c.recall.ensures.checked);
       reads = c.find_file.ensures.reads;
       failures = c.in_ok-found.ensures.failures;
     }

@@ -4,7 +4,7 @@ use Rattle.std.specs.Prelude.{⊤}
 use Rattle.folder_changes.specs.FolderChanges.{IsLeft, IsMade}
 use Rattle.folder_changes.proofs.Changed.{told-weaker}
 use Rattle.folder_changes.proofs.host_images.AnyHostImages.change_at.Goals as goal
-use Rattle.shop_log.specs.life.Unknown.{unknown_folder}
+use Rattle.image_log.specs.life.Unknown.{unknown_folder}
 
 pub returns-clause-run : goal.returns-clause-run
 returns-clause-run g c =

@@ -10,7 +10,7 @@ use Rattle.host_session.proofs.runs.event_loop.run.Goals as goal
 pub returns-in-Err : goal.returns-in-Err
 returns-in-Err g c =
     let h = g.D.Sectors.history in
-    run_refused h g.A.EventSource.source g.T.ReplySink.output c.args.disk c.in-Err.disk c.args.asks.now c.args.out.now
+    run_refused h g.A.EventSource.source g.T.Replies.output c.args.disk c.in-Err.disk c.args.asks.now c.args.out.now
     c.in-Err.fault
     (opening_refused h _ _ _ c.in-Err.ensures.err c.in-Err.ensures.unfit c.in-Err.ensures.moments)
     (λ s shop. held_none h s [] c.args.disk c.in-Err.disk (c.in-Err.ensures.moments s shop).held
@@ -25,7 +25,7 @@ pub returns-in-Cut : goal.returns-in-Cut
 returns-in-Cut g c =
     let h = g.D.Sectors.history in
     let a = g.A.EventSource.source in
-    let o = g.T.ReplySink.output in
+    let o = g.T.Replies.output in
     let ok = c.in-Ok.ensures.ok in
     let from : Origin g.row.D.Denot g.row.A.Denot g.row.T.Denot =
     record { shop = ok.0; disk = c.args.disk; asks = c.args.asks.now; out = c.args.out.now } in
@@ -42,7 +42,7 @@ pub returns-in-Ended : goal.returns-in-Ended
 returns-in-Ended g c =
     let h = g.D.Sectors.history in
     let a = g.A.EventSource.source in
-    let o = g.T.ReplySink.output in
+    let o = g.T.Replies.output in
     let ok = c.in-Ok.ensures.ok in
     let from : Origin g.row.D.Denot g.row.A.Denot g.row.T.Denot =
     record { shop = ok.0; disk = c.args.disk; asks = c.args.asks.now; out = c.args.out.now } in

@@ -29,7 +29,7 @@ pub loop-next-preserved : goal.loop-next-preserved
 loop-next-preserved g c =
     let h = g.D.Sectors.history in
     let a = g.A.EventSource.source in
-    let o = g.T.ReplySink.output in
+    let o = g.T.Replies.output in
     let x = c.loop-next.session.disk in
     let y = c.in-Ok.next.disk in
     let m = a.here c.loop-next.asks in
@@ -71,7 +71,7 @@ pub returns-in-Ended : goal.returns-in-Ended
 returns-in-Ended g c = λ from w alive.
     let h = g.D.Sectors.history in
     let a = g.A.EventSource.source in
-    let o = g.T.ReplySink.output in
+    let o = g.T.Replies.output in
     let before = c.loop-next.invariant.way from w alive in
     let x = c.loop-next.session.disk in
     let y = c.in-Ok.next.disk in

@@ -8,7 +8,7 @@ abbrev pub invariant-loop-next : goal.invariant-loop-next
 invariant-loop-next g l =
     let h = g.D.Sectors.history in
     let a = g.A.EventSource.source in
-    let o = g.T.ReplySink.output in
+    let o = g.T.Replies.output in
     record {
       cut : IsSome (a.here l.asks).cut_after;
       way : (from : Origin g.row.D.Denot g.row.A.Denot g.row.T.Denot)

@@ -41,7 +41,7 @@ returns-then-is_err-clause-cut g c = λ is. absurd (not_cut (Err faults.Output) 
 
 pub returns-in-End-clause-way : goal.returns-in-End-clause-way
 returns-in-End-clause-way g c = λ from w alive.
-    at_end g.D.Sectors.history g.A.EventSource.source g.T.ReplySink.output from c.loop-asks.session.disk c.loop-asks.asks
+    at_end g.D.Sectors.history g.A.EventSource.source g.T.Replies.output from c.loop-asks.session.disk c.loop-asks.asks
     c.next.new.self c.loop-asks.out
     (c.loop-asks.invariant.way from w alive).1
     (was_asked g.D.Sectors.history g.A.EventSource.source c.loop-asks.asks c.next.new.self c.disk.result.now
@@ -49,7 +49,7 @@ returns-in-End-clause-way g c = λ from w alive.
 
 pub returns-in-Failed-clause-way : goal.returns-in-Failed-clause-way
 returns-in-Failed-clause-way g c = λ from w alive.
-    at_fault g.D.Sectors.history g.A.EventSource.source g.T.ReplySink.output from c.loop-asks.session.disk c.loop-asks.asks
+    at_fault g.D.Sectors.history g.A.EventSource.source g.T.Replies.output from c.loop-asks.session.disk c.loop-asks.asks
     c.next.new.self c.loop-asks.out
     (c.loop-asks.invariant.way from w alive).1
     (was_asked g.D.Sectors.history g.A.EventSource.source c.loop-asks.asks c.next.new.self c.disk.result.now
@@ -61,7 +61,7 @@ returns-then-is_some-clause-way g c = λ from w alive.
     let took = was_asked g.D.Sectors.history g.A.EventSource.source c.loop-asks.asks c.next.new.self c.disk.result.now
     c.loop-asks.session.disk _ _ c.disk.ensures c.in-Event.is c.next.ensures in (
       before.0,
-      takes_one g.D.Sectors.history g.A.EventSource.source g.T.ReplySink.output from c.loop-asks.session.disk c.loop-asks.asks
+      takes_one g.D.Sectors.history g.A.EventSource.source g.T.Replies.output from c.loop-asks.session.disk c.loop-asks.asks
           c.next.new.self c.loop-asks.out
           before.1 took.0 took.2,
     )
@@ -86,7 +86,7 @@ pub loop-asks-preserved : goal.loop-asks-preserved
 loop-asks-preserved g c =
     let h = g.D.Sectors.history in
     let a = g.A.EventSource.source in
-    let o = g.T.ReplySink.output in
+    let o = g.T.Replies.output in
     let took = was_asked g.D.Sectors.history g.A.EventSource.source c.loop-asks.asks c.next.new.self c.disk.result.now
     c.loop-asks.session.disk _ _ c.disk.ensures c.in-Event.is c.next.ensures in
     let fuel = took.1 in

@@ -7,7 +7,7 @@ abbrev pub invariant-loop-asks : goal.invariant-loop-asks
 invariant-loop-asks g l =
     let h = g.D.Sectors.history in
     let a = g.A.EventSource.source in
-    let o = g.T.ReplySink.output in
+    let o = g.T.Replies.output in
     record {
       fuel : a.fuel l.asks ≤ a.fuel l.fn.asks;
       way : (from : Origin g.row.D.Denot g.row.A.Denot g.row.T.Denot)

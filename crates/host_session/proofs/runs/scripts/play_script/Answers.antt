@@ -43,7 +43,7 @@ returns-in-Some g c = record {
 pub returns-in-Ok : goal.returns-in-Ok
 returns-in-Ok g c =
     let h = g.D.Sectors.history in
-    let o = g.T.ReplySink.output in
+    let o = g.T.Replies.output in
     played_out h o c.args.disk c.args.script.now c.new-asks.result c.run.new.asks c.args.out.now c.run.new.out
     c.new-asks.ensures (sym c.in_default.ensures)
     c.in-Ok.disk (subst (IsRun h of_script o c.args.disk c.new-asks.result c.run.new.asks c.args.out.now c.run.new.out)
@@ -52,7 +52,7 @@ returns-in-Ok g c =
 pub returns-in-Err : goal.returns-in-Err
 returns-in-Err g c =
     let h = g.D.Sectors.history in
-    let o = g.T.ReplySink.output in
+    let o = g.T.Replies.output in
     subst (λ f. IsScriptRun h o c.args.disk c.args.script.now c.args.out.now c.run.new.out (Err (f, c.in-Err.disk)))
     (sym c.fault_of.ensures)
     (faulted h o c.args.disk c.args.script.now c.new-asks.result c.run.new.asks c.args.out.now c.run.new.out

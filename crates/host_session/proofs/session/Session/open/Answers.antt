@@ -13,8 +13,8 @@ use Rattle.host_session.proofs.session.Session.open.Answers.Refused as refused
 pub settle-requires : goal.settle-requires
 settle-requires g c =
     let S = g.D.Sectors.history in
-    let (f, has, j) = ok-of c.judge.result c.in_default.not-Err _ c.judge.ensures.ok in
-    record { judged = (f, subst (λ i. HasFiles i f) (sym c.judge.ensures.reads.image) has, j) }
+    let (f, has, j) = ok-of c.load_shop.result c.in_default.not-Err _ c.load_shop.ensures.ok in
+    record { judged = (f, subst (λ i. HasFiles i f) (sym c.load_shop.ensures.reads.image) has, j) }
 
 pub returns-in_err-drive-clause-err : goal.returns-in_err-drive-clause-err
 returns-in_err-drive-clause-err = unsettled.returns-in_err-drive-clause-err
@@ -40,17 +40,17 @@ invariant_of-result g c = (c.in_ok-drive.ensures.standing, λ _. c.in_ok-drive.e
 pub returns-clause-ok : goal.returns-clause-ok
 returns-clause-ok g c =
     let S = g.D.Sectors.history in
-    let (f, has, j) = ok-of c.judge.result c.in_default.not-Err _ c.judge.ensures.ok in
+    let (f, has, j) = ok-of c.load_shop.result c.in_default.not-Err _ c.load_shop.ensures.ok in
     let shop : IsShop (S.image c.args.disk) (shop_of f) =
     record { files = f; has = has; records = j.records; is = refl } in
-    let now : IsShop (S.image c.judge.new.disk) (shop_of f) =
-    subst (λ i. IsShop i (shop_of f)) (sym c.judge.ensures.reads.image) shop in
+    let now : IsShop (S.image c.load_shop.new.disk) (shop_of f) =
+    subst (λ i. IsShop i (shop_of f)) (sym c.load_shop.ensures.reads.image) shop in
     (shop_of f, shop, c.in_ok-drive.ensures.mends.ok (shop_of f) now, refl)
 
 pub returns-clause-opens : goal.returns-clause-opens
 returns-clause-opens g c = λ never.
     let S = g.D.Sectors.history in
-    let (f, has, j) = ok-of c.judge.result c.in_default.not-Err _ c.judge.ensures.ok in
+    let (f, has, j) = ok-of c.load_shop.result c.in_default.not-Err _ c.load_shop.ensures.ok in
     let shop : IsShop (S.image c.args.disk) (shop_of f) =
     record { files = f; has = has; records = j.records; is = refl } in
     (λ ok. (shop_of f, shop), λ some. refl)
@@ -58,15 +58,15 @@ returns-clause-opens g c = λ never.
 pub returns-clause-moments : goal.returns-clause-moments
 returns-clause-moments g c = λ s h.
     let S = g.D.Sectors.history in
-    let now : IsShop (S.image c.judge.new.disk) s = subst (λ i. IsShop i s) (sym c.judge.ensures.reads.image) h in
-    changes_then S c.args.disk c.judge.new.disk c.in_ok-drive.drive.disk 0 952 952 (λ i. IsShop i s) (omega arith)
-    (reads_change S c.args.disk c.judge.new.disk 34190 (λ i. IsShop i s) c.judge.ensures.reads h)
+    let now : IsShop (S.image c.load_shop.new.disk) s = subst (λ i. IsShop i s) (sym c.load_shop.ensures.reads.image) h in
+    changes_then S c.args.disk c.load_shop.new.disk c.in_ok-drive.drive.disk 0 952 952 (λ i. IsShop i s) (omega arith)
+    (reads_change S c.args.disk c.load_shop.new.disk 34190 (λ i. IsShop i s) c.load_shop.ensures.reads h)
     (c.in_ok-drive.ensures.mends.moments s now)
 
 pub returns-clause-unfit : goal.returns-clause-unfit
 returns-clause-unfit g c = λ none.
     let S = g.D.Sectors.history in
-    let (f, has, j) = ok-of c.judge.result c.in_default.not-Err _ c.judge.ensures.ok in
+    let (f, has, j) = ok-of c.load_shop.result c.in_default.not-Err _ c.load_shop.ensures.ok in
     let shop : IsShop (S.image c.args.disk) (shop_of f) =
     record { files = f; has = has; records = j.records; is = refl } in
     absurd (none (shop_of f, shop))
@@ -74,18 +74,18 @@ returns-clause-unfit g c = λ none.
 pub returns-clause-quiet : goal.returns-clause-quiet
 returns-clause-quiet g c = λ s r.
     let S = g.D.Sectors.history in
-    let same = c.judge.ensures.reads.image in
-    let now : IsSettled (S.image c.judge.new.disk) s = subst (λ i. IsSettled i s) (sym same) r in
-    changes_then S c.args.disk c.judge.new.disk c.in_ok-drive.drive.disk 0 0 0 (λ i. i ≡ S.image c.args.disk)
-    (omega arith) (reads_change S c.args.disk c.judge.new.disk 34190 (λ i. i ≡ S.image c.args.disk)
-    c.judge.ensures.reads refl)
-    (changes_weaker S c.judge.new.disk c.in_ok-drive.drive.disk 0 0 (λ i. i ≡ S.image c.judge.new.disk)
+    let same = c.load_shop.ensures.reads.image in
+    let now : IsSettled (S.image c.load_shop.new.disk) s = subst (λ i. IsSettled i s) (sym same) r in
+    changes_then S c.args.disk c.load_shop.new.disk c.in_ok-drive.drive.disk 0 0 0 (λ i. i ≡ S.image c.args.disk)
+    (omega arith) (reads_change S c.args.disk c.load_shop.new.disk 34190 (λ i. i ≡ S.image c.args.disk)
+    c.load_shop.ensures.reads refl)
+    (changes_weaker S c.load_shop.new.disk c.in_ok-drive.drive.disk 0 0 (λ i. i ≡ S.image c.load_shop.new.disk)
     (λ i. i ≡ S.image c.args.disk) (omega arith) (λ i e. e ∙ same) (c.in_ok-drive.ensures.mends.quiet (s, now)))
 
 pub returns-clause-failures : goal.returns-clause-failures
 returns-clause-failures g c =
-    c.in_ok-drive.ensures.mends.failures ∙ judged-same g.D.Sectors.history c.args.disk c.judge.new.disk c.judge.result
-    c.in_default.not-Err c.judge.ensures.failures
+    c.in_ok-drive.ensures.mends.failures ∙ judged-same g.D.Sectors.history c.args.disk c.load_shop.new.disk c.load_shop.result
+    c.in_default.not-Err c.load_shop.ensures.failures
 
 pub returns-in-Err-clause-opens : goal.returns-in-Err-clause-opens
 returns-in-Err-clause-opens = refused.returns-in-Err-clause-opens

@@ -13,8 +13,8 @@ use Rattle.host_session.proofs.session.migration.migrate_till.Goals as goal
 use Rattle.host_session.proofs.session.migration.migrate_till.Answers.Failed as failed
 use Rattle.host_session.proofs.session.migration.migrate_till.Answers.Left as left
 
-pub put_answer-requires-clause-there : goal.put_answer-requires-clause-there
-put_answer-requires-clause-there g c =
+pub write_answer-requires-clause-there : goal.write_answer-requires-clause-there
+write_answer-requires-clause-there g c =
     let k = c.from-place.result - 1 in
     let up = place-up c.from-place.result c.args.till c.from-place.ensures c.requires.low in
     let down = place-down c.from-place.result c.args.till c.from-place.ensures in
@@ -34,13 +34,13 @@ returns-in_default = left.returns-in_default
 pub returns-then-version-ne1 : goal.returns-then-version-ne1
 returns-then-version-ne1 = left.returns-then-version-ne1
 
-pub returns-in_err-put_answer : goal.returns-in_err-put_answer
-returns-in_err-put_answer = failed.returns-in_err-put_answer
+pub returns-in_err-write_answer : goal.returns-in_err-write_answer
+returns-in_err-write_answer = failed.returns-in_err-write_answer
 
 pub returns : goal.returns
 returns g c = record {
   puts = record {
-    ready = c.in_ok-put_answer.ensures.puts.ready;
+    ready = c.in_ok-write_answer.ensures.puts.ready;
     ok = λ s h.
         let k = c.from-place.result - 1 in
         let up = place-up c.from-place.result c.args.till c.from-place.ensures c.requires.low in
@@ -54,8 +54,8 @@ returns g c = record {
         renewed-ok img s table k lt c.told-requests h2 c.in-Some.card (ap (nth table) up
         ∙ card-at table k c.args.till _ up lt c.told-requests c.in-Some.card c.in-Some.is) one
         c.args.till up c.print.result (c.print.ensures ∙ ap card_text c.to_v2-new.ensures) c.to_v2-new.result
-        c.to_v2-new.ensures (S.image c.put_answer.new.drive.disk)
-        (c.in_ok-put_answer.ensures.puts.ok h2.closed.has.shop.files h2.closed.has.shop.has);
+        c.to_v2-new.ensures (S.image c.write_answer.new.drive.disk)
+        (c.in_ok-write_answer.ensures.puts.ok h2.closed.has.shop.files h2.closed.has.shop.has);
     moments = λ s h.
         let k = c.from-place.result - 1 in
         let up = place-up c.from-place.result c.args.till c.from-place.ensures c.requires.low in
@@ -69,8 +69,8 @@ returns g c = record {
         renewed-moments img s table k lt c.told-requests h2 c.in-Some.card (ap (nth table) up
         ∙ card-at table k c.args.till _ up lt c.told-requests c.in-Some.card c.in-Some.is) one
         c.args.till up c.print.result (c.print.ensures ∙ ap card_text c.to_v2-new.ensures) S c.args.drive.now.disk
-        c.put_answer.new.drive.disk (c.put_answer.ensures.puts.moments h2.closed.has.shop.files h2.closed.has.shop.has);
-    failures = c.in_ok-put_answer.ensures.puts.failures;
+        c.write_answer.new.drive.disk (c.write_answer.ensures.puts.moments h2.closed.has.shop.files h2.closed.has.shop.has);
+    failures = c.in_ok-write_answer.ensures.puts.failures;
     dies = λ is. absurd (false≢true is);
   };
   quiet = λ young.

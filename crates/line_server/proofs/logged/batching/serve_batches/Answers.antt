@@ -11,7 +11,7 @@ use Rattle.line_server.proofs.logged.batching.serve_batches.Goals as goal
 
 pub returns-in-Err : goal.returns-in-Err
 returns-in-Err g c =
-    refused g.L.ImageLog.history g.R.BatchSource.input g.T.Reports.output c.args.disk c.into_inner.result c.new.result
+    refused g.L.ImageLog.history g.R.BatchSource.input g.T.BatchReplies.output c.args.disk c.into_inner.result c.new.result
     c.in-Err.disk c.args.log.now c.args.input.now c.args.out.now c.in-Err.fault c.new.ensures.disk (sym c.into_inner.ensures)
     (no_shop_here c.new.result c.in-Err.disk _ (λ e. cc) c.in-Err.ensures.opens)
     c.in-Err.ensures.err
@@ -29,6 +29,6 @@ returns g c =
     c.in-Ok.ensures.moments c.in-Ok.ensures.quiet in
     let left : disk_image c.into_inner-2.result ≡ image_of c.serve_open-end.new.session.disk =
     ap disk_image c.into_inner-2.ensures ∙ ap image_of c.close.ensures in
-    subst (IsServedOver g.L.ImageLog.history g.R.BatchSource.input g.T.Reports.output c.args.disk c.args.log.now
+    subst (IsServedOver g.L.ImageLog.history g.R.BatchSource.input g.T.BatchReplies.output c.args.disk c.args.log.now
     c.serve_open-end.new.log c.args.input.now c.serve_open-end.new.input c.args.out.now c.serve_open-end.new.out)
     (sym c.ended.ensures) (c.serve_open-end.ensures c.args.disk ready c.into_inner-2.result left)

@@ -7,5 +7,5 @@ use Rattle.line_server.proofs.logged.batching.serve_open.Given as goal
 
 abbrev pub invariant-loop : goal.invariant-loop
 invariant-loop g l = (disk : MemDisk) → HasOpened disk l.fn.session l.fn.room.kept.items
-    → (x : IsUnderWay g.L.ImageLog.history g.R.BatchSource.input g.T.Reports.output disk l.fn.log l.fn.input l.fn.out []
+    → (x : IsUnderWay g.L.ImageLog.history g.R.BatchSource.input g.T.BatchReplies.output disk l.fn.log l.fn.input l.fn.out []
     l.session l.room.kept.items l.log l.input l.out) × (l.counter ≤ length (lines x.handled))

@@ -8,5 +8,5 @@ pub returns : goal.returns
 returns g c = on_ok_weaker c.write_all.result
     (λ put. subst
     (λ (xs : List ℕ). Appends (g.W.Write.contents c.args.out.now) (g.W.Write.contents c.write_all.new.self) xs)
-    c.put_line-end.ensures.written put)
+    c.append_line-end.ensures.written put)
     c.write_all.ensures.bytes

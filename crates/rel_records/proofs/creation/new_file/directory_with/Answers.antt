@@ -5,8 +5,8 @@ use Rattle.rel_records.proofs.lemmas.directory.Entered.{new-zeros}
 
 pub returns : goal.returns
 returns c = record {
-  ends = c.put_entry.ensures.link 0 (omega arith);
-  last = c.put_entry.ensures.link 1 (omega arith);
-  entered = (_, c.put_entry.ensures);
-  free = new-zeros _ c.args.entry.now c.put_entry.ensures;
+  ends = c.set_entry.ensures.link 0 (omega arith);
+  last = c.set_entry.ensures.link 1 (omega arith);
+  entered = (_, c.set_entry.ensures);
+  free = new-zeros _ c.args.entry.now c.set_entry.ensures;
 }

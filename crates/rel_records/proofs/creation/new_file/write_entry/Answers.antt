@@ -14,11 +14,11 @@ pub returns-in-None : goal.returns-in-None
 returns-in-None g c =
     let S = g.D.Sectors.history in
     let st = c.args.site.now in
-    let puts : List (Place × Sector) = (st.place, c.put_entry.new.bytes) ∷ [] in
+    let puts : List (Place × Sector) = (st.place, c.set_entry.new.bytes) ∷ [] in
     record {
       puts = puts;
       are = subst (λ o. ArePutsOf st c.args.entry.now o puts) (sym c.in-None.is)
-          (c.put_entry.new.bytes, c.put_entry.ensures, refl);
+          (c.set_entry.new.bytes, c.set_entry.ensures, refl);
       ok = c.write-in-None.ensures.ok;
       held = c.write-in-None.ensures.held;
       writes = counted_once S _ _ c.write-in-None.result c.write-in-None.ensures.counted

@@ -10,7 +10,7 @@ returns-clause-laid_out c =
     (c.len.result + c.len-2.result) c.take_places-fresh.ensures.places c.take_places-fresh.ensures.last
     c.take_places-fresh.ensures.directory
     refl refl refl refl refl refl c.len-count.ensures.value c.make_fresh.ensures c.link_block.ensures.linked
-    c.put_count.ensures.rest (omega (arith, c.len.ensures.value, c.len-2.ensures.value)) c.put_count.ensures.count
+    c.set_count.ensures.rest (omega (arith, c.len.ensures.value, c.len-2.ensures.value)) c.set_count.ensures.count
 
 pub take_places-fresh-requires : goal.take_places-fresh-requires
 take_places-fresh-requires c = record {

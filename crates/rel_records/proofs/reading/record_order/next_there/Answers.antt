@@ -16,16 +16,16 @@ use Rattle.rel_records.proofs.lemmas.Told.{fault-is, none-done, passed-on}
 -- What is kept is of the file.
 pub returns-in_err-go_on-clause-kept : goal.returns-in_err-go_on-clause-kept
 returns-in_err-go_on-clause-kept g c = subst (λ (i : Image). IsKept i c.args.file.now c.go_on.new.last)
-    c.bring.ensures.here.reads.image c.go_on.ensures.kept
+    c.fetch_block.ensures.here.reads.image c.go_on.ensures.kept
 
 pub returns-clause-kept : goal.returns-clause-kept
 returns-clause-kept g c = subst (λ (i : Image). IsKept i c.args.file.now c.go_on.new.last)
-    c.bring.ensures.here.reads.image c.go_on.ensures.kept
+    c.fetch_block.ensures.here.reads.image c.go_on.ensures.kept
 
 -- How many sectors are read where the block is kept in which the record begins.
-pub returns-in_err-bring-clause-near : goal.returns-in_err-bring-clause-near
-returns-in_err-bring-clause-near g c kept = reads_weaker g.D.Sectors.history _ _ 0 _ (omega arith)
-    (c.bring.ensures.quiet kept)
+pub returns-in_err-fetch_block-clause-near : goal.returns-in_err-fetch_block-clause-near
+returns-in_err-fetch_block-clause-near g c kept = reads_weaker g.D.Sectors.history _ _ 0 _ (omega arith)
+    (c.fetch_block.ensures.quiet kept)
 
 pub returns-in_err-go_on-clause-near : goal.returns-in_err-go_on-clause-near
 returns-in_err-go_on-clause-near g c kept =
@@ -34,7 +34,7 @@ returns-in_err-go_on-clause-near g c kept =
     let over : 254 < (c.args.number - 1) * L % 254 + L = omega (arith, c.if-start-size-le-DATA.false) in
     let once : 0 + 1 ≤ next_reads L c.args.number = omega
     (arith, ap {B = ℕ} (λ b. if b then 1 else 0) (lt-ltb 254 ((c.args.number - 1) * L % 254 + L) over)) in
-    reads_then S _ _ _ 0 1 _ once (c.bring.ensures.quiet kept) c.go_on.ensures.next.reads
+    reads_then S _ _ _ 0 1 _ once (c.fetch_block.ensures.quiet kept) c.go_on.ensures.next.reads
 
 pub returns-clause-near : goal.returns-clause-near
 returns-clause-near g c kept =
@@ -43,7 +43,7 @@ returns-clause-near g c kept =
     let over : 254 < (c.args.number - 1) * L % 254 + L = omega (arith, c.if-start-size-le-DATA.false) in
     let once : 0 + 1 ≤ next_reads L c.args.number = omega
     (arith, ap {B = ℕ} (λ b. if b then 1 else 0) (lt-ltb 254 ((c.args.number - 1) * L % 254 + L) over)) in
-    reads_then S _ _ _ 0 1 _ once (c.bring.ensures.quiet kept) c.go_on.ensures.next.reads
+    reads_then S _ _ _ 0 1 _ once (c.fetch_block.ensures.quiet kept) c.go_on.ensures.next.reads
 
 -- The text is the record's.
 -- a block that is read has 256 bytes
@@ -59,15 +59,15 @@ returns-then-start-size-le-DATA-clause-text g c =
           (λ l n f of.
           let S = g.D.Sectors.history in
           let here = subst
-          (λ (o : Option ℕ). IfSome o (λ r. IsBlock (S.image c.args.disk.now) f.blocks r c.bring.new.last.bytes))
-          c.in_ok-bring.ensures.here.ok (c.bring.ensures.kept l n f of) in
+          (λ (o : Option ℕ). IfSome o (λ r. IsBlock (S.image c.args.disk.now) f.blocks r c.fetch_block.new.last.bytes))
+          c.in_ok-fetch_block.ensures.here.ok (c.fetch_block.ensures.kept l n f of) in
           record-read (S.image c.args.disk.now) l n f c.args.file.now of (S.whole c.args.disk.now) c.args.number
-          c.bring.new.last.bytes c.bring.new.last.bytes c.fill_record.new.text.items c.requires.low c.requires.high
+          c.fetch_block.new.last.bytes c.fetch_block.new.last.bytes c.fill_record.new.text.items c.requires.low c.requires.high
           here (λ over. absurd (omega (arith, over, c.if-start-size-le-DATA.true)))
           (block-long _ f _ _ (S.whole c.args.disk.now) here) c.fill_record.ensures);
       err = tt;
-      reads = reads_weaker g.D.Sectors.history _ _ 2 3 (omega arith) c.bring.ensures.here.reads;
-      failures = c.in_ok-bring.ensures.here.failures;
+      reads = reads_weaker g.D.Sectors.history _ _ 2 3 (omega arith) c.fetch_block.ensures.here.reads;
+      failures = c.in_ok-fetch_block.ensures.here.failures;
     }
 
 pub returns-clause-text : goal.returns-clause-text
@@ -78,30 +78,30 @@ returns-clause-text g c =
           (λ l n f of.
           let S = g.D.Sectors.history in
           let img = S.image c.args.disk.now in
-          let here = subst (λ (o : Option ℕ). IfSome o (λ r. IsBlock img f.blocks r c.bring.new.last.bytes))
-          c.in_ok-bring.ensures.here.ok (c.bring.ensures.kept l n f of) in
-          let kept = subst (λ (i : Image). IsKept i c.args.file.now c.go_on.new.last) c.bring.ensures.here.reads.image
+          let here = subst (λ (o : Option ℕ). IfSome o (λ r. IsBlock img f.blocks r c.fetch_block.new.last.bytes))
+          c.in_ok-fetch_block.ensures.here.ok (c.fetch_block.ensures.kept l n f of) in
+          let kept = subst (λ (i : Image). IsKept i c.args.file.now c.go_on.new.last) c.fetch_block.ensures.here.reads.image
           c.go_on.ensures.kept in
           let behind = subst (λ (o : Option ℕ). IfSome o (λ r. IsBlock img f.blocks r c.go_on.new.last.bytes))
           c.in_ok-go_on.ensures.next.ok (kept l n f of) in
-          record-read img l n f c.args.file.now of (S.whole c.args.disk.now) c.args.number c.bring.new.last.bytes
+          record-read img l n f c.args.file.now of (S.whole c.args.disk.now) c.args.number c.fetch_block.new.last.bytes
           c.go_on.new.last.bytes c.fill_record-2.new.text.items c.requires.low c.requires.high
           here (λ over. behind) (block-long _ f _ _ (S.whole c.args.disk.now) behind) c.fill_record-2.ensures);
       err = tt;
-      reads = reads_then g.D.Sectors.history _ _ _ 2 1 3 (omega arith) c.bring.ensures.here.reads
+      reads = reads_then g.D.Sectors.history _ _ _ 2 1 3 (omega arith) c.fetch_block.ensures.here.reads
           c.go_on.ensures.next.reads;
-      failures = c.in_ok-go_on.ensures.next.failures ∙ c.in_ok-bring.ensures.here.failures;
+      failures = c.in_ok-go_on.ensures.next.failures ∙ c.in_ok-fetch_block.ensures.here.failures;
     }
 
-pub returns-in_err-bring-clause-text : goal.returns-in_err-bring-clause-text
-returns-in_err-bring-clause-text g c =
+pub returns-in_err-fetch_block-clause-text : goal.returns-in_err-fetch_block-clause-text
+returns-in_err-fetch_block-clause-text g c =
     record {
       ok = none-done c.from_residual.result _ c.from_residual.ensures.1 _;
       err = fault-is c.from_residual.result _ c.from_residual.ensures.1 _
-          (λ e is. is ∙ c.in_err-bring.ensures.here.err);
-      reads = reads_weaker g.D.Sectors.history _ _ 2 3 (omega arith) c.bring.ensures.here.reads;
+          (λ e is. is ∙ c.in_err-fetch_block.ensures.here.err);
+      reads = reads_weaker g.D.Sectors.history _ _ 2 3 (omega arith) c.fetch_block.ensures.here.reads;
       failures = passed-on g.D.Sectors.history _ _ _ refl c.from_residual.result _ c.from_residual.ensures.1
-          c.in_err-bring.ensures.here.failures;
+          c.in_err-fetch_block.ensures.here.failures;
     }
 
 pub returns-in_err-go_on-clause-text : goal.returns-in_err-go_on-clause-text
@@ -110,21 +110,21 @@ returns-in_err-go_on-clause-text g c =
       ok = none-done c.from_residual-in_err-go_on.result _ c.from_residual-in_err-go_on.ensures.1 _;
       err = fault-is c.from_residual-in_err-go_on.result _ c.from_residual-in_err-go_on.ensures.1 _
           (λ e is. is ∙ c.in_err-go_on.ensures.next.err);
-      reads = reads_then g.D.Sectors.history _ _ _ 2 1 3 (omega arith) c.bring.ensures.here.reads
+      reads = reads_then g.D.Sectors.history _ _ _ 2 1 3 (omega arith) c.fetch_block.ensures.here.reads
           c.go_on.ensures.next.reads;
-      failures = passed-on g.D.Sectors.history _ _ _ c.in_ok-bring.ensures.here.failures
+      failures = passed-on g.D.Sectors.history _ _ _ c.in_ok-fetch_block.ensures.here.failures
           c.from_residual-in_err-go_on.result _ c.from_residual-in_err-go_on.ensures.1
           c.in_err-go_on.ensures.next.failures;
     }
 
-pub bring-requires-clause-there : goal.bring-requires-clause-there
-bring-requires-clause-there g c =
+pub fetch_block-requires-clause-there : goal.fetch_block-requires-clause-there
+fetch_block-requires-clause-there g c =
     let fits = inside-of _ c.args.file.now c.args.number c.requires.of (g.D.Sectors.history.whole c.args.disk.now)
     c.requires.low c.requires.high in
     omega (arith, fits, c.args.file.now.size_low)
 
 pub go_on-requires-clause-of : goal.go_on-requires-clause-of
-go_on-requires-clause-of g c = subst (λ (i : Image). IsOf i c.args.file.now) (sym c.bring.ensures.here.reads.image)
+go_on-requires-clause-of g c = subst (λ (i : Image). IsOf i c.args.file.now) (sym c.fetch_block.ensures.here.reads.image)
     c.requires.of
 
 pub go_on-requires-clause-there : goal.go_on-requires-clause-there
@@ -134,8 +134,8 @@ go_on-requires-clause-there g c =
     omega (arith, fits, c.if-start-size-le-DATA.false)
 
 pub go_on-requires-clause-kept : goal.go_on-requires-clause-kept
-go_on-requires-clause-kept g c = subst (λ (i : Image). IsKept i c.args.file.now c.bring.new.last)
-    (sym c.bring.ensures.here.reads.image) c.bring.ensures.kept
+go_on-requires-clause-kept g c = subst (λ (i : Image). IsKept i c.args.file.now c.fetch_block.new.last)
+    (sym c.fetch_block.ensures.here.reads.image) c.fetch_block.ensures.kept
 
 pub overflow_mul-start : goal.overflow_mul-start
 overflow_mul-start g c =
@@ -145,4 +145,4 @@ overflow_mul-start g c =
 
 pub returns-then-start-size-le-DATA-clause-near : goal.returns-then-start-size-le-DATA-clause-near
 returns-then-start-size-le-DATA-clause-near g c kept =
-    reads_weaker g.D.Sectors.history _ _ 0 _ (omega arith) (c.bring.ensures.quiet kept)
+    reads_weaker g.D.Sectors.history _ _ 0 _ (omega arith) (c.fetch_block.ensures.quiet kept)

@@ -15,7 +15,7 @@ pub returns-in-Err : goal.returns-in-Err
 returns-in-Err g c = λ from w alive.
     let h = g.D.Sectors.history in
     let a = g.A.EventSource.source in
-    let o = g.T.ReplySink.output in
+    let o = g.T.Replies.output in
     let before = c.loop-next.invariant.way from w alive in
     let x = c.loop-next.session.disk in
     let y = c.in-Err.disk in
@@ -40,7 +40,7 @@ pub returns-then-is_err : goal.returns-then-is_err
 returns-then-is_err g c = λ from w alive.
     let h = g.D.Sectors.history in
     let a = g.A.EventSource.source in
-    let o = g.T.ReplySink.output in
+    let o = g.T.Replies.output in
     let before = c.loop-next.invariant.way from w alive in
     let x = c.loop-next.session.disk in
     let y = c.in-Ok.next.disk in

@@ -14,7 +14,7 @@ pub returns-then-is_media-clause-way : goal.returns-then-is_media-clause-way
 returns-then-is_media-clause-way g c = λ from w alive.
     let h = g.D.Sectors.history in
     let a = g.A.EventSource.source in
-    let o = g.T.ReplySink.output in
+    let o = g.T.Replies.output in
     let before = c.loop-asks.invariant.way from w alive in
     let took = was_asked g.D.Sectors.history g.A.EventSource.source c.loop-asks.asks c.next.new.self c.disk.result.now
     c.loop-asks.session.disk _ _ c.disk.ensures c.in-Event.is c.next.ensures in
@@ -47,7 +47,7 @@ pub returns-then-is_err-clause-way : goal.returns-then-is_err-clause-way
 returns-then-is_err-clause-way g c = λ from w alive.
     let h = g.D.Sectors.history in
     let a = g.A.EventSource.source in
-    let o = g.T.ReplySink.output in
+    let o = g.T.Replies.output in
     let before = c.loop-asks.invariant.way from w alive in
     let took = was_asked g.D.Sectors.history g.A.EventSource.source c.loop-asks.asks c.next.new.self c.disk.result.now
     c.loop-asks.session.disk _ _ c.disk.ensures c.in-Event.is c.next.ensures in

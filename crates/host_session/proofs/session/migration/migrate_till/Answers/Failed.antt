@@ -9,8 +9,8 @@ use Rattle.std.proofs.lemmas.Result.{err_from_is_err_and}
 use Rattle.host_session.proofs.lemmas.opening.Tills.{place-down, place-high, place-up}
 use Rattle.host_session.proofs.session.migration.migrate_till.Goals as goal
 
-pub returns-in_err-put_answer : goal.returns-in_err-put_answer
-returns-in_err-put_answer g c =
+pub returns-in_err-write_answer : goal.returns-in_err-write_answer
+returns-in_err-write_answer g c =
     let p = err_from_is_err_and c.from_residual.result c.from_residual.ensures.1 in
     record {
       puts = record {
@@ -29,10 +29,10 @@ returns-in_err-put_answer g c =
             renewed-moments img s table k lt c.told-requests h2 c.in-Some.card (ap (nth table) up
             ∙ card-at table k c.args.till _ up lt c.told-requests c.in-Some.card c.in-Some.is) one
             c.args.till up c.print.result (c.print.ensures ∙ ap card_text c.to_v2-new.ensures) S c.args.drive.now.disk
-            c.put_answer.new.drive.disk (c.put_answer.ensures.puts.moments h2.closed.has.shop.files
+            c.write_answer.new.drive.disk (c.write_answer.ensures.puts.moments h2.closed.has.shop.files
             h2.closed.has.shop.has);
-        failures = rw p.1 c.in_err-put_answer.ensures.puts.failures;
-        dies = rw p.1 (λ is. c.in_err-put_answer.ensures.puts.dies refl);
+        failures = rw p.1 c.in_err-write_answer.ensures.puts.failures;
+        dies = rw p.1 (λ is. c.in_err-write_answer.ensures.puts.dies refl);
       };
       quiet = λ young.
           let k = c.from-place.result - 1 in

@@ -1,0 +1,4 @@
+pub mod ColumnLines
+pub mod Refusals
+pub mod Stores
+pub mod Storing

@@ -1,0 +1,3 @@
+pub mod Kinds
+pub mod Rebuilds
+pub mod Repairs

@@ -1,8 +1,0 @@
--- The beginning and the end.
-use Rattle.std.proofs.lemmas.Result.{on_ok_weaker}
-use Rattle.std.proofs.KnownBytes.{Appends-trans}
-use Rattle.disk_pictures.proofs.changes.put_new.Goals as goal
-
-pub returns-clause-ok : goal.returns-clause-ok
-returns-clause-ok g c = on_ok_weaker c.put_text-2.result
-    (λ end. Appends-trans _ _ _ _ _ c.in_ok-put_text.ensures.ok end) c.put_text-2.ensures.ok

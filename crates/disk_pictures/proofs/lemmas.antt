@@ -1,0 +1,4 @@
+pub mod comparison
+pub mod pages
+pub mod sheets
+pub mod views

@@ -1,0 +1,3 @@
+pub mod ChangedRows
+pub mod ComparedAlone
+pub mod ComparedMarkup

@@ -1,0 +1,4 @@
+pub mod PageMarkup
+pub mod PetsciiMarkup
+pub mod PosterMarkup
+pub mod PosterTold

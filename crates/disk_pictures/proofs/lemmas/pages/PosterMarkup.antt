@@ -1,0 +1,58 @@
+-- The markup of a poster is the same, however bytes of the disk are shown, where what is shown has the same markup.
+use Rattle.std.proofs.Common.{ℕ, List}
+use Rattle.std.specs.Prelude.{Option, codes, decimal, slice_range}
+use Rattle.d64_image.specs.Images.{Sector}
+use Rattle.disk_layout.specs.Directory.{type_byte}
+use Rattle.disk_layout.specs.Layout.{File, Layout, count_field}
+use Rattle.disk_layout.specs.declared.faults.Fault.{Fault}
+use Rattle.disk_pictures.specs.Html.{Show}
+use Rattle.reached_disk.specs.Names.{disk_name, name_of}
+use Rattle.disk_pictures.specs.Pictures.{dashes}
+use Rattle.disk_pictures.specs.Posters.{line_start, poster_head, poster_legend, poster_line, poster_style, poster_text}
+use Rattle.disk_pictures.specs.Posters.{poster_told}
+use Rattle.reached_disk.specs.Types.{type_text}
+use Rattle.disk_pictures.proofs.lemmas.pages.PageMarkup.{IsSameMarkup, before, behind, both, each, on-drawing, on-summary}
+
+module _ (f g : Show) (same : (bytes : List ℕ) → IsSameMarkup (f bytes) (g bytes)) (s u : Show)
+    (alike-signs : (bytes : List ℕ) → IsSameMarkup (s bytes) (u bytes)) where
+  on-head : (map : Sector) → IsSameMarkup (poster_head f s map) (poster_head g u map)
+  unfolding poster_head
+  on-head map =
+      let name = disk_name map in
+      behind (codes "<svg xmlns=\"http://www.w3.org/2000/svg\" width=\"297mm\" height=\"420mm\" viewBox=\"0 0 297 420\">\n<title>") _ _
+      (both (f name) (g name) _ _ (same name)
+      (behind (codes "</title>\n<style>") _ _ (behind poster_style _ _ (behind dashes _ _
+      (behind (codes "</style>\n<clipPath id=\"n\"><rect width=\"22\" height=\"3\"/></clipPath>\n<rect class=\"paper\" width=\"297\" height=\"420\"/>\n<text class=\"name\" x=\"148.5\" y=\"24\">") _ _
+      (both (f name) (g name) _ _ (same name)
+      (behind (codes "</text>\n<text class=\"told\" x=\"148.5\" y=\"33\"><tspan>") _ _
+      (before (s name) (u name) _ (alike-signs name)))))))))
+
+  on-told : (v : Option Fault) (map : Sector) (l : Layout) → IsSameMarkup (poster_told f v map l) (poster_told g v map l)
+  unfolding poster_told
+  on-told v map l =
+      let id = slice_range map 162 164 in
+      let version = slice_range map 165 167 in
+      let name = disk_name map in
+      both (f id) (g id) _ _ (same id) (behind (codes " ") _ _ (both (f version) (g version) _ _ (same version)
+      (behind (codes "</text>\n<text class=\"told\" x=\"148.5\" y=\"40\">") _ _
+      (both _ _ _ _ (on-summary f g same v map l)
+      (behind (codes "</text>\n<svg x=\"23.5\" y=\"44\" width=\"250\" height=\"250\" viewBox=\"-36600 -36600 73200 73200\">\n<svg x=\"-6900\" y=\"-1200\" width=\"13800\" height=\"2400\" viewBox=\"-6900 -1200 13800 2400\"><text class=\"hub\" y=\"400\">") _ _
+      (before (f name) (g name) _ (same name)))))))
+
+  on-line : (k : ℕ) (d : File) → IsSameMarkup (poster_line f s k d) (poster_line g u k d)
+  unfolding poster_line
+  on-line k d =
+      let name = name_of d.slot in
+      behind (line_start k) _ _
+      (behind (codes "<text class=\"e\" x=\"10\" y=\"2.3\">") _ _
+      (behind (decimal (count_field d.slot)) _ _ (behind (codes "</text><text x=\"11.5\" y=\"2.3\">") _ _
+      (behind (type_text (codes "&lt;") (type_byte d.slot)) _ _ (behind (codes "</text><g transform=\"translate(19)\" clip-path=\"url(#n)\"><text y=\"2.3\">") _ _
+      (both (f name) (g name) _ _ (same name) (behind (codes "</text></g><text x=\"41.5\" y=\"2.3\">") _ _
+      (before (s name) (u name) _ (alike-signs name)))))))))
+
+  pub on-poster : (v : Option Fault) (map : Sector) (l : Layout)
+      → IsSameMarkup (poster_text f s v map l) (poster_text g u v map l)
+  unfolding poster_text
+  on-poster v map l = both _ _ _ _ (on-head map) (both _ _ _ _ (on-told v map l)
+      (both _ _ _ _ (on-drawing f g same v map l)
+      (behind poster_legend _ _ (before _ _ _ (each (poster_line f s) (poster_line g u) on-line 0 l.files)))))

@@ -1,0 +1,3 @@
+pub mod Shaded
+pub mod SheetMarkup
+pub mod TileNumbers

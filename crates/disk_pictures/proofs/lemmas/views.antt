@@ -1,0 +1,3 @@
+pub mod Marks
+pub mod Trimmed
+pub mod Viewed

@@ -1,0 +1,15 @@
+-- An entry's line was printed after the others.
+use Rattle.std.proofs.Common.{refl, sym}
+use Rattle.disk_pictures.proofs.Printing.{item-more, no-items}
+use Rattle.disk_pictures.specs.Drawings.{file_in}
+use Rattle.disk_pictures.specs.Maps.{entry_line}
+use Rattle.disk_pictures.proofs.map_printing.print_entries.Goals as goal
+
+pub loop-number-init : goal.loop-number-init
+loop-number-init g c = no-items (entry_line c.args.wide) _ _ refl
+
+pub loop-number-preserved : goal.loop-number-preserved
+loop-number-preserved g c =
+    item-more file_in (entry_line c.args.wide) _ _ _ c.args.files.now c.loop-number.number c.index-files-number.result
+    c.loop-number-test.true
+    (sym c.index-files-number.is) c.loop-number.invariant c.in_ok-print_text.ensures.ok

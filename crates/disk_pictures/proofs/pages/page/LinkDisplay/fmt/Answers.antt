@@ -1,0 +1,10 @@
+-- The link and the name.
+use Rattle.std.proofs.Common.{refl}
+use Rattle.std.proofs.Output.{has_written_of_eq}
+use Rattle.disk_pictures.specs.Pictures.{link_text}
+use Rattle.disk_pictures.proofs.pages.page.LinkDisplay.fmt.Goals as goal
+
+pub returns-clause-writes : goal.returns-clause-writes
+unfolding link_text
+returns-clause-writes g c = λ plain done. has_written_of_eq _ _ _ _ _
+    refl (c.write.ensures.writes plain done)

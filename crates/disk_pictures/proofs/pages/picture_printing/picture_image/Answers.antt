@@ -1,0 +1,13 @@
+-- Of a sound image the page of its layout was printed.
+use Rattle.std.specs.Io.KnownBytes.{Appends}
+use Rattle.disk_pictures.proofs.SoundPrinted.{of-layout}
+use Rattle.disk_pictures.specs.Pictures.{picture_page}
+use Rattle.disk_pictures.proofs.pages.picture_printing.picture_image.Goals as goal
+
+pub returns-clause-sound : goal.returns-clause-sound
+returns-clause-sound g c =
+    let old = g.W.Write.contents c.args.out.now in
+    let new = g.W.Write.contents c.print_page.new.out in
+    of-layout (λ map l. Appends old new (picture_page c.in_ok-drawing.found map l)) c.args.image.now
+    c.in_ok-drawing.drawing
+    c.in_ok-drawing.found c.in_ok-drawing.ensures.ok c.in_ok-print_page.ensures.ok

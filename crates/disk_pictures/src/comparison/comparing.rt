@@ -1,0 +1,101 @@
+//! Two disks compared, as an HTML page with an SVG drawing.
+ghost use Rattle.std.specs.Prelude.{◌≡◌, ◌≢◌, IfErr, IfOk, OnOk, Some};
+ghost use Rattle.std.specs.Io.KnownBytes.{Appends};
+ghost use Rattle.disk_pictures.specs.ComparedOutcomes.{IsComparisonFault, IsComparisonPrinted, disk_in};
+ghost use Rattle.disk_pictures.specs.ComparedPages.{compared_text, comparison_page};
+ghost use Rattle.disk_pictures.specs.Html.{html_of};
+ghost use Rattle.command_faults.specs.declared.faults.CommandFault.TheVariants as faults;
+
+use crate::comparison::changes::print_changes;
+use crate::comparison::compared::Compared;
+use crate::comparison::differences::{count, print_marks};
+use crate::html::Html;
+use crate::pages::page::{END, Title, Told};
+use crate::pages::picture_printing::print_drawing;
+use crate::texts::VerdictText;
+use command_faults::{CommandFault, flush, print_text};
+use disk_layout::Fault;
+use reached_disk::disk_name;
+use std::alloc::Global;
+use std::fmt::{self, Display, Formatter};
+use std::io::Write;
+
+/// With which disk another is compared, and what marks and colours mean.
+#[derive(Clone, Copy)]
+struct ComparedText<'a> {
+    before: &'a Compared<'a>,
+    after: &'a Compared<'a>,
+}
+
+impl Display for ComparedText<'_> {
+    ghost output = { λ told. Some (compared_text html_of (disk_in told.before.now) (disk_in told.after.now)) };
+
+    fn fmt<W: fmt::Write>(&self, f: &mut Formatter<W>) -> fmt::Result {
+        write!(
+            f,
+            "</g>\n<g class=\"n\">\n<text y=\"-34220\">1</text>\n<text y=\"-31020\">5</text>\n\
+            <text y=\"-27020\">10</text>\n<text y=\"-23020\">15</text>\n<text y=\"-20620\">18</text>\n\
+            <text y=\"-19020\">20</text>\n<text y=\"-15020\">25</text>\n<text y=\"-11020\">30</text>\n\
+            <text y=\"-7020\">35</text>\n<path d=\"M300-36250h3000l-600-250m600 250l-600 250\"/>\n</g>\n</svg>\n<div>\n\
+            <p>Compared with {} ({}). Sectors that differ: {}.</p>\n<ul>\n\
+            <li class=\"differs\"><i></i>a sector that differs has a line along it</li>\n\
+            <li class=\"map\"><i></i>map of free sectors</li>\n<li class=\"dir\"><i></i>directory</li>\n\
+            <li class=\"free\"><i></i>free</li>\n<li class=\"lost\"><i></i>taken in the map, in no file</li>\n\
+            <li class=\"open\"><i></i>in use, but free in the map</li>\n\
+            <li class=\"fault\"><i></i>the fault, with a mark at the rim</li>\n</ul>\n<table>\n\
+            <tr><th></th><th></th><th>name</th><th>differs in</th><th>records</th></tr>\n",
+            Html(disk_name(&self.before.drawing.map)),
+            VerdictText(self.before.found),
+            count(self.before, self.after)
+        )
+    }
+}
+
+/// Prints the page.
+fn print_comparison<W: Write>(
+    out: &mut W,
+    before: &Compared<'_>,
+    after: &Compared<'_>,
+) -> Result<(), CommandFault>
+    ensures ok { OnOk result (Appends (W.contents out.old) (W.contents out.new)
+        (comparison_page (disk_in before.now) (disk_in after.now))) }
+    ensures err { IfErr result (λ fault. fault ≡ faults.File) }
+{
+    let drawing = &after.drawing;
+    let found = after.found;
+    print_text(out, Title(&drawing.map))?;
+    print_text(out, Told { drawing, found })?;
+    print_drawing(out, found, drawing)?;
+    print_marks(out, before, after)?;
+    print_text(out, ComparedText { before, after })?;
+    print_changes(out, before, after)?;
+    print_text(out, END)?;
+    flush(out)
+}
+
+/// Prints two disks, before and after, as one HTML page: the drawing of the second one as `picture_image` has it, with a
+/// mark on each sector in which they differ. It says what the first one is and how many sectors differ, and has a row for
+/// each file that changed. The page has no script and loads nothing, and names of the disks stand in it only as text. The
+/// result is what a check of the second disk reports. A damaged disk is drawn and compared as far as its links go.
+///
+/// An entry's counterpart is the other disk's entry of its name that has as many entries of that name before it. A file
+/// without one is `new`, or `gone`. Another file is `changed` if its entry or one of its sectors differs. If both are
+/// relative files with records of one length, the numbers of the records that differ follow, from 1.
+///
+/// `ImageSize`; `NoMemory`; `Layout` if the directory's sectors aren't a chain on track 18, of either image: nothing was
+/// printed then. `File` if the output failed, which may then have a part.
+pub fn compare_images<W: Write>(
+    alloc: Global,
+    before: &[u8],
+    after: &[u8],
+    out: &mut W,
+) -> Result<Option<Fault>, CommandFault>
+    ensures ok { IfOk result (IsComparisonPrinted W.contents before.now after.now out.old out.new) }
+    ensures err { IfErr result (IsComparisonFault before.now after.now) }
+    ensures untouched { IfErr result (λ fault. (fault ≢ faults.File) → out.new ≡ out.old) }
+{
+    let first = Compared::of(alloc, before)?;
+    let second = Compared::of(alloc, after)?;
+    print_comparison(out, &first, &second)?;
+    Ok(second.found)
+}

@@ -1,0 +1,174 @@
+//! What stands around the drawing on a poster.
+ghost use Rattle.std.specs.Prelude.{◌≡◌, Some};
+ghost use Rattle.disk_pictures.specs.Drawings.{file_in};
+ghost use Rattle.disk_pictures.specs.Held.{drawn_in};
+ghost use Rattle.disk_pictures.specs.Html.{html_of};
+ghost use Rattle.disk_pictures.specs.Petscii.{petscii_of};
+ghost use Rattle.disk_pictures.specs.Posters.{line_left, line_start, line_top, poster_head, poster_line, poster_told};
+
+use crate::drawing::Drawing;
+use crate::drawn_file::DrawnFile;
+use crate::html::Html;
+use crate::pages::arcs::Look;
+use crate::pages::page::DASHES;
+use crate::pages::sentences::Summary;
+use crate::petscii::Petscii;
+use disk_layout::{BamView, EntryView, Fault};
+use reached_disk::{TypeText, disk_name, entry_name};
+use std::fmt::{self, Display, Formatter};
+
+/// The poster's style: that of a light page, without rules that readers of SVG don't know.
+const STYLE: &str =
+    "text{font:2.2px ui-monospace,Menlo,Consolas,\"DejaVu Sans Mono\",monospace;fill:#222}.paper{fill:#fbfaf7}\
+    .name{font-size:12px;text-anchor:middle}.told{font-size:4px;text-anchor:middle}.hub{font-size:1100px;\
+    text-anchor:middle}.e{text-anchor:end}circle{fill:none;stroke-width:700}.w1 circle{stroke-width:540}\
+    .w2 circle{stroke-width:390}path{fill:none;stroke-width:2}path.w1{stroke-width:1.5}path.w2{stroke-width:1}\
+    path.w3{stroke-width:2;stroke-dasharray:0 .75 1.5 9}.n text{font-size:1100px;text-anchor:middle;fill:#444;\
+    paint-order:stroke;stroke:#fbfaf7;stroke-width:300}.n path{stroke:#444;stroke-width:120}.free{stroke:#e8e4d9}\
+    .lost{stroke:#7b7567}.map{stroke:#161616}.dir{stroke:#5e5e5e}.edge{stroke:#fff;stroke-width:1500}\
+    .fault{stroke:#d40000}circle.fault{stroke-width:1100}.open circle{stroke:#fff;stroke-width:200}\
+    .white{stroke:#fff;stroke-width:.6}.side{stroke:#4d4831}.c0{stroke:#8c8259}.c0 .s{stroke:#4d4831}\
+    .c1{stroke:#1c9182}.c1 .s{stroke:#0f5048}.c2{stroke:#4b75ff}.c2 .s{stroke:#29408c}.c3{stroke:#e320ba}\
+    .c3 .s{stroke:#7d1266}.c4{stroke:#406c83}.c4 .s{stroke:#233b48}.c5{stroke:#716046}.c5 .s{stroke:#3e3526}\
+    .c6{stroke:#3a4353}.c6 .s{stroke:#20252e}.c7{stroke:#4a3934}.c7 .s{stroke:#291f1d}.c8{stroke:#0c0bca}\
+    .c8 .s{stroke:#07066f}.c9{stroke:#5d0476}.c9 .s{stroke:#330241}.c10{stroke:#630a00}.c10 .s{stroke:#360600}\
+    .c11{stroke:#041c33}.c11 .s{stroke:#020f1c}";
+
+/// The end of the drawing, with the numbers of tracks and an arrow from sector 0 to 1; and the meaning of the colours.
+pub(crate) const LEGEND: &str =
+    "</g>\n<g class=\"n\">\n<text y=\"-34220\">1</text>\n<text y=\"-31020\">5</text>\n<text y=\"-27020\">10</text>\n\
+    <text y=\"-23020\">15</text>\n<text y=\"-20620\">18</text>\n<text y=\"-19020\">20</text>\n<text y=\"-15020\">\
+    25</text>\n<text y=\"-11020\">30</text>\n<text y=\"-7020\">35</text>\n\
+    <path d=\"M300-36250h3000l-600-250m600 250l-600 250\"/>\n</g>\n</svg>\n\
+    <svg x=\"20\" y=\"298\" width=\"50\" height=\"4\"><path class=\"map\" d=\"M0 2h3\"/><text x=\"4.5\" y=\"2.8\">\
+    map of free sectors</text></svg>\n<svg x=\"56\" y=\"298\" width=\"50\" height=\"4\">\
+    <path class=\"dir\" d=\"M0 2h3\"/><text x=\"4.5\" y=\"2.8\">directory</text></svg>\n\
+    <svg x=\"84\" y=\"298\" width=\"50\" height=\"4\"><path class=\"free\" d=\"M0 2h3\"/><text x=\"4.5\" y=\"2.8\">\
+    free</text></svg>\n<svg x=\"104\" y=\"298\" width=\"50\" height=\"4\"><path class=\"lost\" d=\"M0 2h3\"/>\
+    <text x=\"4.5\" y=\"2.8\">taken, in no file</text></svg>\n<svg x=\"138\" y=\"298\" width=\"50\" height=\"4\">\
+    <path class=\"c0\" d=\"M0 2h1.5\"/><path class=\"side\" d=\"M1.5 2h1.5\"/><text x=\"4.5\" y=\"2.8\">\
+    side sectors (right)</text></svg>\n<svg x=\"178\" y=\"298\" width=\"50\" height=\"4\">\
+    <path class=\"c0\" d=\"M0 2h3\"/><path class=\"white\" d=\"M0 2h3\"/><text x=\"4.5\" y=\"2.8\">\
+    in use, free in the map</text></svg>\n<svg x=\"224\" y=\"298\" width=\"50\" height=\"4\">\
+    <path class=\"fault\" d=\"M0 2h3\"/><text x=\"4.5\" y=\"2.8\">the fault</text></svg>\n";
+
+/// The end of the poster.
+pub(crate) const END: &str = "</svg>\n";
+
+/// The head of the poster, from 18/0: the disk's name, as it is typed and as a C64 shows it, and the style.
+#[derive(Clone, Copy)]
+pub(crate) struct Head<'a>(pub &'a [u8; 256]);
+
+impl Display for Head<'_> {
+    ghost output = { λ head. Some (poster_head html_of petscii_of head.0.now) };
+
+    fn fmt<W: fmt::Write>(&self, f: &mut Formatter<W>) -> fmt::Result {
+        let bytes = disk_name(self.0);
+        let (name, signs) = (Html(bytes), Petscii(bytes));
+        write!(
+            f,
+            "<svg xmlns=\"http://www.w3.org/2000/svg\" width=\"297mm\" height=\"420mm\" viewBox=\"0 0 297 420\">\n\
+            <title>{name}</title>\n<style>{STYLE}{DASHES}</style>\n\
+            <clipPath id=\"n\"><rect width=\"22\" height=\"3\"/></clipPath>\n\
+            <rect class=\"paper\" width=\"297\" height=\"420\"/>\n\
+            <text class=\"name\" x=\"148.5\" y=\"24\">{name}</text>\n\
+            <text class=\"told\" x=\"148.5\" y=\"33\"><tspan>{signs}</tspan> 1541 disk, id "
+        )
+    }
+}
+
+/// What follows it, from what is drawn and the result of a check, up to the first group of sectors.
+#[derive(Clone, Copy)]
+pub(crate) struct Heading<'a> {
+    /// What is drawn.
+    pub drawing: &'a Drawing,
+    /// What a check reports.
+    pub found: Option<Fault>,
+}
+
+impl Display for Heading<'_> {
+    ghost output = { λ told. Some (poster_told html_of told.found told.drawing.now.map (drawn_in told.drawing.now)) };
+
+    fn fmt<W: fmt::Write>(&self, f: &mut Formatter<W>) -> fmt::Result {
+        let map = &self.drawing.map;
+        let view = BamView::new(map);
+        let summary = Summary {
+            drawing: self.drawing,
+            found: self.found,
+        };
+        write!(
+            f,
+            "{} {}</text>\n<text class=\"told\" x=\"148.5\" y=\"40\">{summary}</text>\n\
+            <svg x=\"23.5\" y=\"44\" width=\"250\" height=\"250\" viewBox=\"-36600 -36600 73200 73200\">\n\
+            <svg x=\"-6900\" y=\"-1200\" width=\"13800\" height=\"2400\" viewBox=\"-6900 -1200 13800 2400\">\
+            <text class=\"hub\" y=\"400\">{}</text></svg>\n<g transform=\"rotate(-90)\">\n",
+            Html(view.id()),
+            Html(view.version()),
+            Html(disk_name(map))
+        )
+    }
+}
+
+/// How far from the left the line of this entry stands.
+fn left(number: usize) -> usize
+    ensures { result ≡ line_left number }
+{
+    20 + 65 * (number / 36 % 4)
+}
+
+/// How far from the top it stands.
+fn top(number: usize) -> usize
+    ensures { result ≡ line_top number }
+{
+    306 + 3 * (number % 36)
+}
+
+/// The beginning of the line of the entry with this number.
+#[derive(Clone, Copy)]
+struct LineStart(usize);
+
+impl Display for LineStart {
+    ghost output = { λ start. Some (line_start start.0) };
+
+    fn fmt<W: fmt::Write>(&self, f: &mut Formatter<W>) -> fmt::Result {
+        write!(
+            f,
+            "<svg x=\"{}\" y=\"{}\" width=\"63\" height=\"3\"><path class=\"{}\" d=\"M0 1.5h3\"/>",
+            left(self.0),
+            top(self.0),
+            Look(self.0)
+        )
+    }
+}
+
+/// The line of an entry: its block count, its type, and its name, as it is typed and as a C64 shows it.
+#[derive(Clone, Copy)]
+pub(crate) struct Line<'a> {
+    /// The entry's number.
+    pub number: usize,
+    /// The entry.
+    pub file: &'a DrawnFile,
+}
+
+impl Display for Line<'_> {
+    ghost output = { λ entry. Some (poster_line html_of petscii_of entry.number (file_in entry.file.now)) };
+
+    fn fmt<W: fmt::Write>(&self, f: &mut Formatter<W>) -> fmt::Result {
+        let entry = EntryView::new(&self.file.slot.bytes);
+        let name = entry_name(&self.file.slot);
+        let kind = TypeText {
+            byte: entry.type_byte(),
+            locked: "&lt;",
+        };
+        writeln!(
+            f,
+            "{}<text class=\"e\" x=\"10\" y=\"2.3\">{}</text><text x=\"11.5\" y=\"2.3\">{kind}</text>\
+            <g transform=\"translate(19)\" clip-path=\"url(#n)\"><text y=\"2.3\">{}</text></g>\
+            <text x=\"41.5\" y=\"2.3\">{}</text></svg>",
+            LineStart(self.number),
+            entry.block_count(),
+            Html(name),
+            Petscii(name)
+        )
+    }
+}

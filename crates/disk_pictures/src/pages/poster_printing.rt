@@ -1,0 +1,78 @@
+//! The poster of a disk, as an SVG file of its own.
+ghost use Rattle.std.specs.Prelude.{◌≡◌, ◌≢◌, IfErr, IfOk, OnOk, map};
+ghost use Rattle.std.specs.Io.KnownBytes.{Appends};
+ghost use Rattle.d64_image.specs.Memory.{sectors_in};
+ghost use Rattle.disk_layout.specs.Layout.{IsLayout, Layout};
+ghost use Rattle.disk_pictures.specs.Drawings.{file_in};
+ghost use Rattle.disk_pictures.specs.Held.{drawn_in};
+ghost use Rattle.disk_pictures.specs.Html.{html_of};
+ghost use Rattle.disk_pictures.specs.Petscii.{petscii_of};
+ghost use Rattle.disk_pictures.specs.Outcomes.{IsPictureFault, IsPosterPrinted, map_in};
+ghost use Rattle.disk_pictures.specs.Posters.{poster_line, poster_of};
+ghost use Rattle.disk_pictures.specs.Texts.{numbered};
+ghost use Rattle.command_faults.specs.declared.faults.CommandFault.TheVariants as faults;
+
+use crate::drawing::Drawing;
+use crate::drawn_file::DrawnFile;
+use crate::pages::picture_printing::print_drawing;
+use crate::pages::poster::{END, Head, Heading, LEGEND, Line};
+use crate::verdicts::judged;
+use command_faults::{CommandFault, flush, print_text};
+use disk_layout::Fault;
+use std::alloc::Global;
+use std::io::Write;
+
+/// Prints the lines of the entries.
+fn print_lines<W: Write>(out: &mut W, files: &[DrawnFile]) -> Result<(), CommandFault>
+    ensures ok { OnOk result (Appends (W.contents out.old) (W.contents out.new)
+        (numbered (poster_line html_of petscii_of) 0 (map file_in files.now))) }
+    ensures err { IfErr result (λ fault. fault ≡ faults.File) }
+{
+    for (number, file) in files.iter().enumerate() {
+        print_text(out, Line { number, file })?;
+    }
+    Ok(())
+}
+
+/// Prints the poster.
+fn print_poster<W: Write>(
+    out: &mut W,
+    found: Option<Fault>,
+    drawing: &Drawing,
+) -> Result<(), CommandFault>
+    ensures ok { OnOk result (Appends (W.contents out.old) (W.contents out.new)
+        (poster_of found drawing.now.map (drawn_in drawing.now))) }
+    ensures err { IfErr result (λ fault. fault ≡ faults.File) }
+{
+    print_text(out, Head(&drawing.map))?;
+    print_text(out, Heading { drawing, found })?;
+    print_drawing(out, found, drawing)?;
+    print_text(out, LEGEND)?;
+    print_lines(out, drawing.files.as_slice())?;
+    print_text(out, END)?;
+    flush(out)
+}
+
+/// Prints the disk as a poster: an SVG file of its own, 297 by 420 units. It has the drawing of `picture_image`, the
+/// disk's name, what a check reports as a sentence, the meaning of the colours, and the directory in four columns. It has
+/// no script and loads nothing, and names of the disk stand in it only as text. A name longer than its column is cut by
+/// the column's edge. What a check of the disk reports is also the result. A damaged disk is drawn as far as its links
+/// go. The poster of a sound disk is that of its layout.
+///
+/// `ImageSize`; `NoMemory`; `Layout` if the directory's sectors aren't a chain on track 18: nothing was printed then.
+/// `File` if the output failed, which may then have a part.
+pub fn poster_image<W: Write>(
+    alloc: Global,
+    image: &[u8],
+    out: &mut W,
+) -> Result<Option<Fault>, CommandFault>
+    ensures ok { IfOk result (IsPosterPrinted W.contents image.now out.old out.new) }
+    ensures sound { IfOk result (λ found. (l : Layout) → IsLayout (sectors_in image.now) l
+        → Appends (W.contents out.old) (W.contents out.new) (poster_of found (map_in image.now) l)) }
+    ensures err { IfErr result (IsPictureFault image.now) }
+    ensures untouched { IfErr result (λ fault. (fault ≢ faults.File) → out.new ≡ out.old) }
+{
+    let (drawing, found) = judged(alloc, image)?;
+    print_poster(out, found, &drawing)?;
+    Ok(found)
+}

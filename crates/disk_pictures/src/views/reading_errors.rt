@@ -1,0 +1,80 @@
+//! The sectors that a drive couldn't read when an image was made.
+ghost use Rattle.std.specs.Prelude.{◌≡◌, ◌↔◌, IfErr, IsTrue, None, OnOk, Some};
+ghost use Rattle.std.specs.Io.KnownBytes.{Appends};
+ghost use Rattle.d64_image.specs.declared.place.Place.{Place};
+ghost use Rattle.reached_disk.specs.Sizes.{error_of};
+ghost use Rattle.disk_pictures.specs.Trims.{error_line, error_number, errors_text};
+ghost use Rattle.command_faults.specs.declared.faults.CommandFault.TheVariants as faults;
+
+use command_faults::{CommandFault, print_text};
+use d64_image::{Place, SECTORS};
+use reached_disk::error_at;
+use std::fmt::{self, Display, Formatter};
+use std::io::Write;
+
+/// The drive's number of an error byte.
+#[derive(Clone, Copy)]
+struct ErrorNumber(u8);
+
+impl Display for ErrorNumber {
+    ghost output = { λ error. Some (error_number error.0) };
+
+    fn fmt<W: fmt::Write>(&self, f: &mut Formatter<W>) -> fmt::Result {
+        match self.0 {
+            2..=11 => write!(f, "{}", self.0 + 18),
+            15 => f.write_str("74"),
+            byte => write!(f, "BYTE {byte}"),
+        }
+    }
+}
+
+/// The line of a sector, if it wasn't read.
+#[derive(Clone, Copy)]
+struct ErrorLine {
+    place: Place,
+    error: Option<u8>,
+}
+
+impl Display for ErrorLine {
+    ghost output = { λ line. Some (error_line line.place line.error) };
+
+    fn fmt<W: fmt::Write>(&self, f: &mut Formatter<W>) -> fmt::Result {
+        let Some(error) = self.error else {
+            return Ok(());
+        };
+        let (track, sector) = (self.place.track(), self.place.sector());
+        writeln!(f, "ERROR {} {track}/{sector}", ErrorNumber(error))
+    }
+}
+
+/// Prints a line for each sector of tracks 1 to 35 that wasn't read when the image was made.
+pub(crate) fn print_errors<E: Write>(err: &mut E, image: &[u8]) -> Result<(), CommandFault>
+    ensures ok { OnOk result (Appends (E.contents err.old) (E.contents err.new) (errors_text image.now)) }
+    ensures err { IfErr result (λ fault. fault ≡ faults.File) }
+{
+    for index in 0..SECTORS {
+        let place = Place::nth(index);
+        let error = error_at(image, place);
+        print_text(err, ErrorLine { place, error })?;
+    }
+    Ok(())
+}
+
+/// Whether the sector was read.
+fn is_sector_read(image: &[u8], place: Place) -> bool
+    ensures { IsTrue result ↔ (error_of image.now place ≡ None) }
+{
+    error_at(image, place).is_none()
+}
+
+/// Whether all sectors of tracks 1 to 35 were read.
+pub(crate) fn is_read(image: &[u8]) -> bool
+    ensures { IsTrue result ↔ ((p : Place) → error_of image.now p ≡ None) }
+{
+    for index in 0..SECTORS {
+        if !is_sector_read(image, Place::nth(index)) {
+            return false;
+        }
+    }
+    true
+}

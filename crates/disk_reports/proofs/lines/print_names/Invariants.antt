@@ -1,0 +1,10 @@
+-- The names so far were written.
+use Rattle.std.proofs.Common.{take}
+use Rattle.std.specs.Prelude.{flat_map}
+use Rattle.std.specs.Io.KnownBytes.{Appends}
+use Rattle.disk_reports.specs.AllFaults.{spaced_name}
+use Rattle.disk_reports.proofs.lines.print_names.Given as goal
+
+abbrev pub invariant-loop-slot : goal.invariant-loop-slot
+invariant-loop-slot g l =
+    Appends (g.W.Write.contents l.fn.out) (g.W.Write.contents l.out) (flat_map spaced_name (take l.slot-index l.slots))

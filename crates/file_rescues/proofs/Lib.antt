@@ -1,0 +1,9 @@
+pub mod lemmas
+pub mod Beginnings
+pub mod Blocks
+pub mod Entries
+pub mod Files
+pub mod Pieced
+pub mod Printing
+pub mod ReachedRecords
+pub mod SoundRecords

@@ -1,0 +1,226 @@
+-- The names of the files that are made lie in the folder, and differ.
+use Rattle.std.proofs.Common.{◌≡◌, ◌≢◌, ◌<◌, ◌≤◌, ◌+◌, ◌%◌, ◌++◌, ◌∷◌, ◌⊎◌, inl, inr, ℕ, Bool, true, false, List, [], Option, Some, None, ap, append_assoc, arith, get_or, length, map, refl, subst, sym, ◌∙◌}
+use Rattle.std.specs.Prelude.{Contains, IsTrue, codes, if◌then◌else◌, nat_eq}
+use Rattle.std.specs.List.{AllByRecursion}
+use Rattle.std.proofs.lemmas.Bool.{false≢true}
+use Rattle.std.proofs.lemmas.Bool.Decides.{Decides-eqb}
+use Rattle.std.proofs.lemmas.List.{map-append}
+use Rattle.std.proofs.lemmas.List.Elements.{Contains-append_cases}
+use Rattle.d64_image.specs.Images.{Image}
+use Rattle.d64_image.specs.declared.place.Place.{Place}
+use Rattle.disk_layout.proofs.lemmas.lists.Once.{Contains-cases, Contains-nil, EachOnce-join}
+use Rattle.disk_layout.specs.Chain.{EachOnce}
+use Rattle.disk_layout.specs.Directory.{type_byte}
+use Rattle.disk_layout.specs.declared.slot.Slot.{Slot}
+use Rattle.line_text.proofs.lemmas.petscii.Names.{endings-same, is-safe, numbers-same, second-digit}
+use Rattle.line_text.specs.petscii.FileNames.{IsSafeName, ending_of, ending_text, file_byte, file_name_of, is_file_byte, number_text}
+use Rattle.line_text.specs.declared.petscii.file_names.Ending.{Ending}
+use Rattle.line_text.specs.declared.petscii.file_names.Ending.TheVariants.{Del, Seq, Prg, Usr, Rel, Other, Records}
+use Rattle.reached_disk.proofs.Lengths.{name-short}
+use Rattle.file_rescues.specs.rescue.Folders.{NewFile, StaysInside}
+use Rattle.reached_disk.specs.Names.{name_of}
+use Rattle.file_rescues.specs.Found.{records_length}
+use Rattle.file_rescues.specs.rescue.Rescues.{all_files, bytes_in, entry_file, files_from, files_of, index_of_files, line_files}
+use Rattle.file_rescues.specs.declared.rescue.rescuing.Rescued.{Rescued}
+
+abbrev name : NewFile → List ℕ
+name f = f.name
+
+abbrev IsInside : NewFile → Type 0
+IsInside f = StaysInside f.name
+
+-- none of the bytes is 0
+no-zero : (xs : List ℕ) → AllByRecursion (λ b. IsTrue (is_file_byte b)) xs → ¬ (Contains xs 0)
+no-zero [] all has = absurd (Contains-nil 0 has)
+no-zero (x ∷ xs) all has = elim (Contains-cases 0 x xs has) [
+  | inl is ↦ cc (subst (λ b. IsTrue (is_file_byte b)) is all.0)
+  | inr there ↦ no-zero xs all.1 there
+]
+
+-- a text that is longer isn't this one
+longer : (xs ys : List ℕ) → length ys < length xs → xs ≢ ys
+longer xs ys long same = omega (arith, long, ap length same)
+
+-- a name that any system takes lies in the folder
+pub safe-inside : (xs : List ℕ) → IsSafeName xs → StaysInside xs
+safe-inside xs safe = record {
+  some = omega (arith, safe.long);
+  short = omega (arith, safe.short);
+  no_separator = safe.no_separator;
+  no_zero = no-zero xs safe.bytes;
+  not_here = longer xs (codes ".") (omega (arith, safe.long));
+  not_above = longer xs (codes "..") (omega (arith, safe.long));
+}
+
+pub name-inside : (n : ℕ) (s : Slot) (e : Ending) → n < 256 → StaysInside (file_name_of n (name_of s) e)
+name-inside n s e low = safe-inside _ (is-safe n (name_of s) e low (name-short s))
+
+-- a text none of whose bytes is this one
+abbrev AreOther : ℕ → List ℕ → Type 0
+AreOther b xs = AllByRecursion (λ x. nat_eq x b ≡ false) xs
+
+other : (b : ℕ) (xs : List ℕ) → AreOther b xs → ¬ (Contains xs b)
+other b [] all has = absurd (Contains-nil b has)
+other b (x ∷ xs) all has = elim (Contains-cases b x xs has) [
+  | inl is ↦ false≢true (sym all.0 ∙ ap (λ (y : ℕ). nat_eq y b) is ∙ same-number b)
+  | inr there ↦ other b xs all.1 there
+]
+  where
+    same-number : (n : ℕ) → nat_eq n n ≡ true
+    same-number n = (Decides-eqb n n).1 refl
+
+index-other-47 : AreOther 47 (codes "index.csv")
+index-other-47 = (refl, (refl, (refl, (refl, (refl, (refl, (refl, (refl, (refl, tt)))))))))
+
+index-other-0 : AreOther 0 (codes "index.csv")
+index-other-0 = (refl, (refl, (refl, (refl, (refl, (refl, (refl, (refl, (refl, tt)))))))))
+
+pub index-inside : StaysInside (codes "index.csv")
+index-inside = record {
+  some = omega arith;
+  short = omega arith;
+  no_separator = other 47 (codes "index.csv") index-other-47;
+  no_zero = other 0 (codes "index.csv") index-other-0;
+  not_here = longer (codes "index.csv") (codes ".") (omega arith);
+  not_above = longer (codes "index.csv") (codes "..") (omega arith);
+}
+
+inside-append : (xs ys : List NewFile) → AllByRecursion IsInside xs → AllByRecursion IsInside ys
+    → AllByRecursion IsInside (xs ++ ys)
+inside-append [] ys left right = right
+inside-append (x ∷ xs) ys left right = (left.0, inside-append xs ys left.1 right)
+
+lines-inside : (n : ℕ) (f : Rescued) (bytes : List ℕ) (o : Option ℕ) → n < 256
+    → AllByRecursion IsInside (line_files n f bytes o)
+lines-inside n f bytes None low = tt
+lines-inside n f bytes (Some L) low = (name-inside n f.slot Records low, tt)
+
+from-inside : (img : Image) (n : ℕ) (files : List Rescued) → n + length files ≤ 256
+    → AllByRecursion IsInside (files_from img n files)
+unfolding files_from files_of
+from-inside img n [] few = tt
+from-inside img n (f ∷ fs) few = inside-append (files_of img n f) (files_from img (n + 1) fs) (
+  name-inside n f.slot (ending_of (type_byte f.slot)) (omega (arith, few)),
+  lines-inside n f (bytes_in img f) (records_length f.slot) (omega (arith, few)),
+)
+    (from-inside img (n + 1) fs (omega (arith, few)))
+
+pub all-inside : (img : Image) (directory : List Place) (files : List Rescued) → length files ≤ 144
+    → AllByRecursion IsInside (all_files img directory files)
+all-inside img directory files few = inside-append (files_from img 1 files) (index_of_files img directory files ∷ [])
+    (from-inside img 1 files (omega (arith, few))) (index-inside, tt)
+
+-- the name of a file of an entry with this number or a greater one
+abbrev IsFrom : ℕ → List ℕ → Type 0
+IsFrom n xs = (k : ℕ) × (a : List ℕ) × (e : Ending) × (n ≤ k) × (k < 256) × (xs ≡ file_name_of k a e)
+
+numbers : (m n : ℕ) (a b : List ℕ) (s t : Ending) → m < 256 → n < 256 → file_name_of m a s ≡ file_name_of n b t → m ≡ n
+unfolding file_name_of
+numbers m n a b s t low high same = numbers-same m n _ _ low high same
+
+endings : (m n : ℕ) (a b : List ℕ) (s t : Ending) → file_name_of m a s ≡ file_name_of n b t → s ≡ t
+unfolding file_name_of
+endings m n a b s t same =
+    endings-same (number_text m ++ 45 ∷ map file_byte a) (number_text n ++ 45 ∷ map file_byte b) s t
+    (append_assoc (number_text m) (45 ∷ map file_byte a) (ending_text s) ∙ same
+    ∙ sym (append_assoc (number_text n) (45 ∷ map file_byte b) (ending_text t)))
+
+not-index : (n : ℕ) (a : List ℕ) (s : Ending) → file_name_of n a s ≢ codes "index.csv"
+unfolding file_name_of
+not-index n a s same =
+    let digit = second-digit n (45 ∷ (map file_byte a ++ ending_text s)) in
+    let second = ap (λ (l : List ℕ). get_or l 1 0) same in
+    omega (arith, digit, second)
+
+by-kind : (b0 b1 b2 b3 b4 : Bool)
+    → (if b0 then Del else (if b1 then Seq else (if b2 then Prg else (if b3 then Usr else (if b4 then Rel else Other)))))
+    ≢ Records
+by-kind true b1 b2 b3 b4 e = cc
+by-kind false true b2 b3 b4 e = cc
+by-kind false false true b3 b4 e = cc
+by-kind false false false true b4 e = cc
+by-kind false false false false true e = cc
+by-kind false false false false false e = cc
+
+no-records : (t : ℕ) → ending_of t ≢ Records
+no-records t = by-kind (nat_eq (t % 16) 0) (nat_eq (t % 16) 1) (nat_eq (t % 16) 2) (nat_eq (t % 16) 3) (nat_eq (t % 16) 4)
+
+-- the names of an entry's files differ
+own-once : (n : ℕ) (f : Rescued) (bytes : List ℕ) (body : List ℕ) (o : Option ℕ)
+    → EachOnce (map name (entry_file n f (ending_of (type_byte f.slot)) body ∷ line_files n f bytes o))
+own-once n f bytes body None = (Contains-nil _, tt)
+own-once n f bytes body (Some L) = (
+  λ has. elim (Contains-cases _ _ [] has) [
+    | inl is ↦ no-records (type_byte f.slot) (sym (endings n n (name_of f.slot) (name_of f.slot) _ _ is))
+    | inr none ↦ Contains-nil _ none
+  ],
+  (Contains-nil _, tt),
+)
+
+own-from : (n : ℕ) (f : Rescued) (bytes body : List ℕ) (o : Option ℕ) (x : List ℕ)
+    → Contains (map name (entry_file n f (ending_of (type_byte f.slot)) body ∷ line_files n f bytes o)) x
+    → (a : List ℕ) × (e : Ending) × (x ≡ file_name_of n a e)
+own-from n f bytes body None x has = elim (Contains-cases x _ [] has) [
+  | inl is ↦ (name_of f.slot, ending_of (type_byte f.slot), sym is)
+  | inr none ↦ absurd (Contains-nil x none)
+]
+own-from n f bytes body (Some L) x has = elim (Contains-cases x _ (map name (line_files n f bytes (Some L))) has) [
+  | inl is ↦ (name_of f.slot, ending_of (type_byte f.slot), sym is)
+  | inr there ↦ elim (Contains-cases x _ [] there) [
+    | inl is ↦ (name_of f.slot, Records, sym is)
+    | inr none ↦ absurd (Contains-nil x none)
+  ]
+]
+
+either : (xs ys : List NewFile) (y : List ℕ) → Contains (map name (xs ++ ys)) y
+    → Contains (map name xs) y ⊎ Contains (map name ys) y
+either xs ys y has =
+    Contains-append_cases (map name xs) (map name ys) y (subst (λ (l : List (List ℕ)). Contains l y) (map-append name xs ys) has)
+
+from-names : (img : Image) (n : ℕ) (files : List Rescued) → n + length files ≤ 256 → (x : List ℕ)
+    → Contains (map name (files_from img n files)) x → IsFrom n x
+unfolding files_from files_of
+from-names img n [] few x has = absurd (Contains-nil x has)
+from-names img n (f ∷ fs) few x has =
+    elim (either (files_of img n f) (files_from img (n + 1) fs) x has) [
+      | inl here ↦ let own = own-from n f (bytes_in img f) (bytes_in img f) (records_length f.slot) x here in
+          (n, own.0, own.1, omega arith, omega (arith, few), own.2)
+      | inr there ↦ later n (from-names img (n + 1) fs (omega (arith, few)) x there)
+    ]
+  where
+    later : (m : ℕ) → IsFrom (m + 1) x → IsFrom m x
+    later m (k, a, e, low, high, is) = (k, a, e, omega (arith, low), high, is)
+
+from-once : (img : Image) (n : ℕ) (files : List Rescued) → n + length files ≤ 256
+    → EachOnce (map name (files_from img n files))
+unfolding files_from files_of
+from-once img n [] few = tt
+from-once img n (f ∷ fs) few =
+    subst EachOnce (sym (map-append name (files_of img n f) (files_from img (n + 1) fs)))
+    (EachOnce-join (map name (files_of img n f)) (map name (files_from img (n + 1) fs))
+    (own-once n f (bytes_in img f) (bytes_in img f) (records_length f.slot))
+    (from-once img (n + 1) fs (omega (arith, few)))
+    (λ x here there. apart x
+    (own-from n f (bytes_in img f) (bytes_in img f) (records_length f.slot) x here)
+    (from-names img (n + 1) fs (omega (arith, few)) x there)))
+  where
+    low : n < 256
+    low = omega (arith, few)
+
+    apart : (x : List ℕ) → (a : List ℕ) × (e : Ending) × (x ≡ file_name_of n a e) → IsFrom (n + 1) x → ⊥
+    apart x (a, e, is) (k, b, t, after, high, other) =
+        let same = numbers n k a b e t low high (sym is ∙ other) in omega (arith, after, same)
+
+pub all-once : (img : Image) (directory : List Place) (files : List Rescued) → length files ≤ 144
+    → EachOnce (map name (all_files img directory files))
+all-once img directory files few =
+    subst EachOnce (sym (map-append name (files_from img 1 files) (index_of_files img directory files ∷ [])))
+    (EachOnce-join (map name (files_from img 1 files)) (codes "index.csv" ∷ [])
+    (from-once img 1 files (omega (arith, few))) (Contains-nil (codes "index.csv"), tt)
+    (λ x here there. elim (Contains-cases x (codes "index.csv") [] there) [
+      | inl is ↦ index-apart x (from-names img 1 files (omega (arith, few)) x here) is
+      | inr none ↦ Contains-nil x none
+    ]))
+  where
+    index-apart : (x : List ℕ) → IsFrom 1 x → codes "index.csv" ≡ x → ⊥
+    index-apart x (k, a, e, after, high, is) index = not-index k a e (sym is ∙ sym index)

@@ -1,0 +1,214 @@
+-- The files of an entry, made one after the other.
+use Rattle.std.proofs.Common.{◌≡◌, ◌<◌, ◌+◌, ◌++◌, ◌∷◌, ℕ, List, [], Option, ap, append_assoc, append-nil, arith, drop, get_or, inl, inr, length, refl, subst, sym, take, ◌∙◌}
+use Rattle.std.specs.Option.{option_or}
+use Rattle.std.proofs.lemmas.List.{length-take-le, take-append-drop, take_more}
+use Rattle.d64_image.specs.Images.{Image}
+use Rattle.d64_image.specs.declared.place.Place.{Place}
+use Rattle.disk_layout.specs.Directory.{type_byte}
+use Rattle.disk_layout.specs.declared.faults.Fault.{Fault}
+use Rattle.line_text.specs.petscii.FileNames.{ending_of}
+use Rattle.line_text.specs.declared.petscii.file_names.Ending.{Ending}
+use Rattle.file_rescues.proofs.lemmas.rescue.Parts.{adds-both, adds-none, part-before, part-then}
+use Rattle.std.specs.Prelude.{codes}
+use Rattle.file_rescues.specs.rescue.Folders.{AddsFiles, AddsPart, NewFile, new_file}
+use Rattle.file_rescues.specs.rescue.Index.{heading, row_text}
+use Rattle.file_rescues.specs.rescue.Sharing.{owned}
+use Rattle.file_rescues.specs.Found.{records_length}
+use Rattle.file_rescues.specs.rescue.Rescues.{all_files, bytes_in, entry_file, fault_of, files_from, files_of, first_fault, index_of_files, line_files, row_of, rows_from}
+use Rattle.file_rescues.specs.declared.rescue.rescuing.Rescued.{Rescued}
+use Rattle.std.specs.declared.io.ErrorKind.{ErrorKind}
+use Rattle.std.specs.declared.io.ErrorKind.TheVariants as kinds
+use Rattle.command_faults.specs.Faults.{io_fault}
+use Rattle.file_rescues.specs.rescue.Rescues.{IsMakeFault}
+
+-- two words report that a folder failed
+pub two-words : (kind : ErrorKind) → IsMakeFault (io_fault kind)
+two-words kinds.OutOfMemory = inr refl
+two-words _ = inl refl
+
+-- the file with its bytes, as it is made
+data-file : (img : Image) (n : ℕ) (f : Rescued) (e : Ending) (bytes : List ℕ) → e ≡ ending_of (type_byte f.slot)
+    → bytes ≡ bytes_in img f
+    → entry_file n f e bytes ≡ entry_file n f (ending_of (type_byte f.slot)) (bytes_in img f)
+data-file img n f e bytes kind same =
+    ap (λ (k : Ending). entry_file n f k bytes) kind
+    ∙ ap (λ (bs : List ℕ). entry_file n f (ending_of (type_byte f.slot)) bs) same
+
+pub data-part : (a b : Option (List NewFile)) (img : Image) (n : ℕ) (f : Rescued) (e : Ending) (bytes : List ℕ)
+    → e ≡ ending_of (type_byte f.slot) → bytes ≡ bytes_in img f → AddsPart a b (entry_file n f e bytes ∷ [])
+    → AddsPart a b (files_of img n f)
+unfolding files_of
+data-part a b img n f e bytes kind same part =
+    part-before a b (entry_file n f (ending_of (type_byte f.slot)) (bytes_in img f) ∷ [])
+    (line_files n f (bytes_in img f) (records_length f.slot))
+    (subst (λ (x : NewFile). AddsPart a b (x ∷ [])) (data-file img n f e bytes kind same) part)
+
+pub lines-part : (a b c : Option (List NewFile)) (img : Image) (n : ℕ) (f : Rescued) (e : Ending) (bytes more : List ℕ)
+    → e ≡ ending_of (type_byte f.slot) → bytes ≡ bytes_in img f → more ≡ bytes_in img f
+    → AddsFiles a b (entry_file n f e bytes ∷ []) → AddsPart b c (line_files n f more (records_length f.slot))
+    → AddsPart a c (files_of img n f)
+unfolding files_of
+lines-part a b c img n f e bytes more kind same again made part =
+    part-then a b c (entry_file n f (ending_of (type_byte f.slot)) (bytes_in img f) ∷ [])
+    (line_files n f (bytes_in img f) (records_length f.slot))
+    (subst (λ (x : NewFile). AddsFiles a b (x ∷ [])) (data-file img n f e bytes kind same) made)
+    (subst (λ (bs : List ℕ). AddsPart b c (line_files n f bs (records_length f.slot))) again part)
+
+pub both-made : (a b c : Option (List NewFile)) (img : Image) (n : ℕ) (f : Rescued) (e : Ending) (bytes more : List ℕ)
+    → e ≡ ending_of (type_byte f.slot) → bytes ≡ bytes_in img f → more ≡ bytes_in img f
+    → AddsFiles a b (entry_file n f e bytes ∷ []) → AddsFiles b c (line_files n f more (records_length f.slot))
+    → AddsFiles a c (files_of img n f)
+unfolding files_of
+both-made a b c img n f e bytes more kind same again made last =
+    adds-both a b c (entry_file n f (ending_of (type_byte f.slot)) (bytes_in img f) ∷ [])
+    (line_files n f (bytes_in img f) (records_length f.slot))
+    (subst (λ (x : NewFile). AddsFiles a b (x ∷ [])) (data-file img n f e bytes kind same) made)
+    (subst (λ (bs : List ℕ). AddsFiles b c (line_files n f bs (records_length f.slot))) again last)
+
+-- the files of entries, and of more behind them
+pub from-append : (img : Image) (n : ℕ) (xs ys : List Rescued)
+    → files_from img n (xs ++ ys) ≡ files_from img n xs ++ files_from img (n + length xs) ys
+unfolding files_from
+from-append img n [] ys = let e : n ≡ n + 0 = omega arith in ap (λ (k : ℕ). files_from img k ys) e
+from-append img n (x ∷ xs) ys =
+    let e : n + 1 + length xs ≡ n + length (x ∷ xs) = omega arith in
+    ap (λ (l : List NewFile). files_of img n x ++ l) (from-append img (n + 1) xs ys)
+    ∙ sym (append_assoc (files_of img n x) (files_from img (n + 1) xs) (files_from img (n + 1 + length xs) ys))
+    ∙ ap (λ (k : ℕ). files_of img n x ++ files_from img (n + 1) xs ++ files_from img k ys) e
+
+pub rows-append : (img : Image) (all : List Place) (n : ℕ) (xs ys : List Rescued)
+    → rows_from img all n (xs ++ ys) ≡ rows_from img all n xs ++ rows_from img all (n + length xs) ys
+unfolding rows_from
+rows-append img all n [] ys = let e : n ≡ n + 0 = omega arith in ap (λ (k : ℕ). rows_from img all k ys) e
+rows-append img all n (x ∷ xs) ys =
+    let e : n + 1 + length xs ≡ n + length (x ∷ xs) = omega arith in
+    ap (λ (l : List ℕ). row_text (row_of img all n x) ++ l) (rows-append img all (n + 1) xs ys)
+    ∙ sym (append_assoc (row_text (row_of img all n x)) (rows_from img all (n + 1) xs)
+    (rows_from img all (n + 1 + length xs) ys))
+    ∙ ap (λ (k : ℕ). row_text (row_of img all n x) ++ rows_from img all (n + 1) xs ++ rows_from img all k ys) e
+
+pub fault-append : (img : Image) (all : List Place) (n : ℕ) (found : Option Fault) (xs ys : List Rescued)
+    → first_fault img all n found (xs ++ ys)
+    ≡ first_fault img all (n + length xs) (first_fault img all n found xs) ys
+unfolding first_fault
+fault-append img all n found [] ys = let e : n ≡ n + 0 = omega arith in ap (λ (k : ℕ). first_fault img all k found ys) e
+fault-append img all n found (x ∷ xs) ys =
+    let e : n + 1 + length xs ≡ n + length (x ∷ xs) = omega arith in
+    let next : Option Fault = option_or found (fault_of (row_of img all n x)) in
+    fault-append img all (n + 1) next xs ys
+    ∙ ap (λ (k : ℕ). first_fault img all k (first_fault img all (n + 1) next xs) ys) e
+
+-- before the first
+pub no-files : (a : Option (List NewFile)) (img : Image) (fs : List Rescued) → AddsFiles a a (files_from img 1 (take 0 fs))
+unfolding files_from
+no-files a img fs = adds-none a
+
+pub no-rows : (img : Image) (all : List Place) (old : List ℕ) (fs : List Rescued)
+    → old ≡ old ++ rows_from img all 1 (take 0 fs)
+unfolding rows_from
+no-rows img all old fs = sym (append-nil old)
+
+pub no-fault : (img : Image) (all : List Place) (old : Option Fault) (fs : List Rescued)
+    → old ≡ first_fault img all 1 old (take 0 fs)
+unfolding first_fault
+no-fault img all old fs = refl
+
+-- one file
+from-one : (img : Image) (n : ℕ) (f : Rescued) → files_from img n (f ∷ []) ≡ files_of img n f
+unfolding files_from
+from-one img n f = append-nil (files_of img n f)
+
+rows-one : (img : Image) (all : List Place) (n : ℕ) (f : Rescued)
+    → rows_from img all n (f ∷ []) ≡ row_text (row_of img all n f)
+unfolding rows_from
+rows-one img all n f = append-nil (row_text (row_of img all n f))
+
+fault-one : (img : Image) (all : List Place) (n : ℕ) (found : Option Fault) (f : Rescued)
+    → first_fault img all n found (f ∷ []) ≡ option_or found (fault_of (row_of img all n f))
+unfolding first_fault
+fault-one img all n found f = refl
+
+taken : (k : ℕ) (fs : List Rescued) (f : Rescued) → k < length fs → get_or fs k f ≡ f
+    → take (k + 1) fs ≡ take k fs ++ f ∷ []
+taken k fs f inside is = take_more fs k f inside ∙ ap (λ (g : Rescued). take k fs ++ g ∷ []) is
+
+numbered : (k n : ℕ) (fs : List Rescued) → k < length fs → n ≡ k + 1 → 1 + length (take k fs) ≡ n
+numbered k n fs inside is = omega (arith, is, length-take-le k fs (omega (arith, inside)))
+
+-- the files of one entry more
+pub made-more : (a b c : Option (List NewFile)) (img : Image) (k n : ℕ) (fs : List Rescued) (f : Rescued) → k < length fs
+    → get_or fs k f ≡ f → n ≡ k + 1 → AddsFiles a b (files_from img 1 (take k fs)) → AddsFiles b c (files_of img n f)
+    → AddsFiles a c (files_from img 1 (take (k + 1) fs))
+made-more a b c img k n fs f inside is number before more =
+    subst (AddsFiles a c)
+    (sym (ap (files_from img 1) (taken k fs f inside is) ∙ from-append img 1 (take k fs) (f ∷ [])
+    ∙ ap (λ (m : ℕ). files_from img 1 (take k fs) ++ files_from img m (f ∷ [])) (numbered k n fs inside number)
+    ∙ ap (λ (l : List NewFile). files_from img 1 (take k fs) ++ l) (from-one img n f)))
+    (adds-both a b c (files_from img 1 (take k fs)) (files_of img n f) before more)
+
+pub rows-more : (img : Image) (all : List Place) (k n : ℕ) (fs : List Rescued) (f : Rescued) (old now new : List ℕ)
+    → k < length fs → get_or fs k f ≡ f → n ≡ k + 1 → now ≡ old ++ rows_from img all 1 (take k fs)
+    → new ≡ now ++ row_text (row_of img all n f) → new ≡ old ++ rows_from img all 1 (take (k + 1) fs)
+rows-more img all k n fs f old now new inside is number before more =
+    let row : List ℕ = row_text (row_of img all n f) in
+    more ∙ ap (λ (l : List ℕ). l ++ row) before ∙ append_assoc old (rows_from img all 1 (take k fs)) row
+    ∙ ap (λ (l : List ℕ). old ++ l)
+    (sym (ap (rows_from img all 1) (taken k fs f inside is) ∙ rows-append img all 1 (take k fs) (f ∷ [])
+    ∙ ap (λ (m : ℕ). rows_from img all 1 (take k fs) ++ rows_from img all m (f ∷ [])) (numbered k n fs inside number)
+    ∙ ap (λ (l : List ℕ). rows_from img all 1 (take k fs) ++ l) (rows-one img all n f)))
+
+pub fault-more : (img : Image) (all : List Place) (k n : ℕ) (fs : List Rescued) (f : Rescued) (old now : Option Fault)
+    → k < length fs → get_or fs k f ≡ f → n ≡ k + 1 → now ≡ first_fault img all 1 old (take k fs)
+    → option_or now (fault_of (row_of img all n f)) ≡ first_fault img all 1 old (take (k + 1) fs)
+fault-more img all k n fs f old now inside is number before =
+    let own : Option Fault = fault_of (row_of img all n f) in
+    ap (λ (o : Option Fault). option_or o own) before
+    ∙ sym (ap (first_fault img all 1 old) (taken k fs f inside is) ∙ fault-append img all 1 old (take k fs) (f ∷ [])
+    ∙ ap (λ (m : ℕ). first_fault img all m (first_fault img all 1 old (take k fs)) (f ∷ []))
+    (numbered k n fs inside number) ∙ fault-one img all n (first_fault img all 1 old (take k fs)) f)
+
+-- a part of the files of the next entry
+pub made-part : (a b c : Option (List NewFile)) (img : Image) (k n : ℕ) (fs : List Rescued) (f : Rescued) → k < length fs
+    → get_or fs k f ≡ f → n ≡ k + 1 → AddsFiles a b (files_from img 1 (take k fs)) → AddsPart b c (files_of img n f)
+    → AddsPart a c (files_from img 1 fs)
+made-part a b c img k n fs f inside is number before part =
+    let front : List NewFile = files_from img 1 (take k fs) in
+    let both : AddsPart a c (front ++ files_of img n f) = part-then a b c front (files_of img n f) before part in
+    let all : front ++ files_of img n f ≡ files_from img 1 (take (k + 1) fs) =
+    sym (ap (files_from img 1) (taken k fs f inside is) ∙ from-append img 1 (take k fs) (f ∷ [])
+    ∙ ap (λ (m : ℕ). front ++ files_from img m (f ∷ [])) (numbered k n fs inside number)
+    ∙ ap (λ (l : List NewFile). front ++ l) (from-one img n f)) in
+    subst (AddsPart a c)
+    (sym (from-append img 1 (take (k + 1) fs) (drop (k + 1) fs))
+    ∙ ap (files_from img 1) (take-append-drop (k + 1) fs))
+    (part-before a c (files_from img 1 (take (k + 1) fs)) _ (subst (AddsPart a c) all both))
+
+-- the index, as it was put together
+index-is : (img : Image) (directory : List Place) (files : List Rescued) (none first now slice : List ℕ) → none ≡ []
+    → first ≡ none ++ heading → now ≡ first ++ rows_from img (owned directory files) 1 files → slice ≡ now
+    → new_file (codes "index.csv") slice ≡ index_of_files img directory files
+index-is img directory files none first now slice empty head rows same =
+    ap (new_file (codes "index.csv"))
+    (same ∙ rows ∙ ap (λ (l : List ℕ). l ++ rows_from img (owned directory files) 1 files)
+    (head ∙ ap (λ (l : List ℕ). l ++ heading) empty))
+
+-- the files of the entries, and the index or a part of it
+pub all-made : (a b c : Option (List NewFile)) (img : Image) (directory : List Place) (files : List Rescued)
+    (none first now slice : List ℕ) → none ≡ [] → first ≡ none ++ heading
+    → now ≡ first ++ rows_from img (owned directory files) 1 files → slice ≡ now
+    → AddsFiles a b (files_from img 1 files) → AddsFiles b c (new_file (codes "index.csv") slice ∷ [])
+    → AddsFiles a c (all_files img directory files)
+all-made a b c img directory files none first now slice empty head rows same made last =
+    adds-both a b c (files_from img 1 files) (index_of_files img directory files ∷ []) made
+    (subst (λ (f : NewFile). AddsFiles b c (f ∷ []))
+    (index-is img directory files none first now slice empty head rows same) last)
+
+pub all-part : (a b c : Option (List NewFile)) (img : Image) (directory : List Place) (files : List Rescued)
+    (none first now slice : List ℕ) → none ≡ [] → first ≡ none ++ heading
+    → now ≡ first ++ rows_from img (owned directory files) 1 files → slice ≡ now
+    → AddsFiles a b (files_from img 1 files) → AddsPart b c (new_file (codes "index.csv") slice ∷ [])
+    → AddsPart a c (all_files img directory files)
+all-part a b c img directory files none first now slice empty head rows same made last =
+    part-then a b c (files_from img 1 files) (index_of_files img directory files ∷ []) made
+    (subst (λ (f : NewFile). AddsPart b c (f ∷ []))
+    (index-is img directory files none first now slice empty head rows same) last)

@@ -1,0 +1,21 @@
+-- The files of the entries so far were made, and their rows are in the index.
+use Rattle.std.proofs.Common.{◌≡◌, ◌++◌, List, take}
+use Rattle.d64_image.specs.Memory.{disk_image}
+use Rattle.d64_image.specs.declared.place.Place.{Place}
+use Rattle.file_rescues.specs.rescue.Folders.{AddsFiles}
+use Rattle.reached_disk.specs.Owned.{CountsAll}
+use Rattle.file_rescues.specs.rescue.Rescues.{files_from, first_fault, rows_from}
+use Rattle.file_rescues.proofs.rescue.extracting.extract_entries.Given as goal
+
+abbrev pub invariant-loop-file : goal.invariant-loop-file
+invariant-loop-file g l =
+    let img = disk_image l.disk in
+    record {
+      number_is : l.number ≡ l.file-index;
+      made : AddsFiles (g.F.NewFolder.files l.fn.folder) (g.F.NewFolder.files l.folder)
+          (files_from img 1 (take l.file-index l.files));
+      rows : (all : List Place) → CountsAll l.owners all
+          → l.index.items ≡ l.fn.index.items ++ rows_from img all 1 (take l.file-index l.files);
+      told : (all : List Place) → CountsAll l.owners all
+          → l.found ≡ first_fault img all 1 l.fn.before (take l.file-index l.files);
+    }

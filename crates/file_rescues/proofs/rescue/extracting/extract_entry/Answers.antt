@@ -1,0 +1,10 @@
+-- The files were made, and there was no memory for the row.
+use Rattle.std.proofs.Common.{inr}
+use Rattle.std.proofs.lemmas.Result.{err_from_is_err_and}
+use Rattle.file_rescues.proofs.lemmas.rescue.Parts.{added-all}
+use Rattle.file_rescues.proofs.rescue.extracting.extract_entry.Goals as goal
+
+pub returns-in_err-put-clause-err : goal.returns-in_err-put-clause-err
+returns-in_err-put-clause-err g c =
+    let p = err_from_is_err_and c.from_residual-in_err-put.result c.from_residual-in_err-put.ensures.1 in
+    rw (p.1, p.2) (inr c.in_err-put.ensures.err, added-all _ _ _ c.in_ok-bytes.ensures.ok.1)

@@ -1,0 +1,17 @@
+-- What the entry says.
+use Rattle.std.proofs.Common.{refl}
+use Rattle.std.proofs.Output.{has_written_of_eq}
+use Rattle.file_rescues.specs.rescue.Index.{entry_text}
+use Rattle.file_rescues.proofs.rescue.rows.EntryDisplay.fmt.Goals as goal
+
+pub returns-clause-writes : goal.returns-clause-writes
+unfolding entry_text
+returns-clause-writes g c = λ plain done. has_written_of_eq _ _ _ _ _
+    (rw (
+      c.type_name.ensures,
+      c.closed.ensures,
+      c.locked.ensures,
+      c.block_count.ensures,
+      c.type_byte-type_byte.ensures,
+      c.new-entry.ensures,
+    ) refl) (c.write.ensures.writes plain done)

@@ -1,0 +1,7 @@
+pub mod rescue
+pub mod Bytes
+pub mod Faults
+pub mod Forms
+pub mod Found
+pub mod Printed
+pub mod Records

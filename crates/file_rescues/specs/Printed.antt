@@ -1,0 +1,141 @@
+-- What was printed of a file of an image. All of it is our own.
+use Rattle.std.specs.Prelude.{◌≡◌, ◌≢◌, ◌⊎◌, ℕ, List, None, Option, Some, length}
+use Rattle.std.specs.Io.KnownBytes.{Appends}
+use Rattle.d64_image.specs.Images.{Image}
+use Rattle.d64_image.specs.Memory.{sectors_in}
+use Rattle.d64_image.specs.declared.place.Place.{Place}
+use Rattle.damaged_files.specs.cut.Told.{IsToldOfImage}
+use Rattle.disk_layout.specs.Layout.{File, record_length}
+use Rattle.disk_layout.specs.Records.{records}
+use Rattle.disk_layout.specs.declared.faults.Fault.{Fault}
+use Rattle.command_faults.specs.Outputs.{HandsPart}
+use Rattle.file_rescues.specs.Bytes.{HasFile, HasNoFile, file_bytes}
+use Rattle.file_rescues.specs.Forms.{bytes_as, records_as}
+use Rattle.file_rescues.specs.Records.{HasNoReached, HasNoRecordFile, IsReachedFile, IsRecordFile, records_of}
+use Rattle.command_faults.specs.declared.faults.CommandFault.{CommandFault}
+use Rattle.command_faults.specs.declared.faults.CommandFault.TheVariants as faults
+use Rattle.file_rescues.specs.declared.finding.Candidates.{Candidates}
+use Rattle.file_rescues.specs.declared.finding.Candidates.TheVariants.{All}
+use Rattle.file_rescues.specs.declared.finding.Kind.{Kind}
+use Rattle.file_rescues.specs.declared.finding.Kind.TheVariants.{Any, Records}
+use Rattle.file_rescues.specs.declared.forms.ByteForm.{ByteForm}
+use Rattle.file_rescues.specs.declared.forms.RecordForm.{RecordForm}
+
+-- the lines of the records of the image's first closed relative file of that name, and nothing else, were handed to an
+-- output that held `old` and holds `new`
+pub record AreRecordsPrinted {W : Type 0} (contents : W → Option (List ℕ)) (form : RecordForm) (image name : List ℕ)
+    (old new : W) : Type 0 where
+  pub file : File
+  pub is_file : IsRecordFile image name file
+  pub printed : Appends (contents old) (contents new) (records_as form (records (sectors_in image) file))
+
+-- they were, and this file is cut short there, or isn't
+abbrev pub AreRecordsTaken : {W : Type 0} → (W → Option (List ℕ)) → RecordForm → (image name : List ℕ) → W → W
+    → Option Place → Type 0
+AreRecordsTaken contents form image name old new cut =
+    (printed : AreRecordsPrinted contents form image name old new)
+    × IsToldOfImage image (Some printed.is_file.number) cut
+
+-- of a disk that isn't sound: the lines of the records among the bytes that can be reached of the first closed file of
+-- that name that has records, and nothing else, were; and this fault is reported
+pub record AreReachedPrinted {W : Type 0} (contents : W → Option (List ℕ)) (form : RecordForm) (img : Image)
+    (name : List ℕ) (fault : Fault) (old new : W) : Type 0 where
+  pub file : IsReachedFile img name fault
+  pub printed : Appends (contents old) (contents new)
+      (records_as form (records_of (record_length file.slot) (file_bytes img file.blocks file.last)))
+
+-- Why records aren't printed, or not surely all. If a disk isn't sound, those that can be reached are printed. If the
+-- output failed, there is such a file
+abbrev pub IsRecordsFault : {W : Type 0} → (W → Option (List ℕ)) → RecordForm → (image name : List ℕ) → W → W → CommandFault
+    → Type 0
+IsRecordsFault contents form image name old new faults.ImageSize = (length image ≢ 174848) × (new ≡ old)
+IsRecordsFault contents form image name old new faults.NoMemory = (length image ≡ 174848) × (new ≡ old)
+IsRecordsFault contents form image name old new (faults.Layout fault) =
+    (length image ≡ 174848) × ((HasNoReached (sectors_in image) name fault × (new ≡ old))
+    ⊎ AreReachedPrinted contents form (sectors_in image) name fault old new)
+IsRecordsFault contents form image name old new faults.NoFile = HasNoRecordFile image name × (new ≡ old)
+IsRecordsFault contents form image name old new faults.File = ((file : File) × IsRecordFile image name file)
+    ⊎ ((length image ≡ 174848) × (fault : Fault) × IsReachedFile (sectors_in image) name fault)
+IsRecordsFault contents form image name old new _ = ⊥
+
+-- what was printed of a disk that isn't sound: nothing, or a beginning of the lines of the file that can be reached
+abbrev pub IsReachedPart : {W : Type 0} → (W → Option (List ℕ)) → RecordForm → Image → (name : List ℕ) → W → W → Type 0
+IsReachedPart contents form img name old new = (new ≡ old) ⊎ ((fault : Fault) × (file : IsReachedFile img name fault)
+    × HandsPart (contents old) (contents new)
+    (records_as form (records_of (record_length file.slot) (file_bytes img file.blocks file.last))))
+
+-- What was printed of records that aren't all printed: a beginning of the lines of the image's file, or what is printed of a
+-- disk that isn't sound. Nothing is a beginning too.
+abbrev pub IsRecordsPart : {W : Type 0} → (W → Option (List ℕ)) → RecordForm → (image name : List ℕ) → W → W → Type 0
+IsRecordsPart contents form image name old new =
+    ((file : File) × IsRecordFile image name file
+    × HandsPart (contents old) (contents new) (records_as form (records (sectors_in image) file)))
+    ⊎ IsReachedPart contents form (sectors_in image) name old new
+
+-- the bytes that can be reached of the first file of that name, and nothing else, were; and this fault is in the way of
+-- more, or none is
+pub record AreBytesPrinted {W : Type 0} (contents : W → Option (List ℕ)) (form : ByteForm) (candidates : Candidates)
+    (image name : List ℕ) (old new : W) (fault : Option Fault) : Type 0 where
+  pub file : HasFile image (Any candidates) name fault
+  pub printed : Appends (contents old) (contents new)
+      (bytes_as form (file_bytes (sectors_in image) file.blocks file.last))
+
+-- all of them were, and this file is cut short there, or isn't
+abbrev pub AreBytesTaken : {W : Type 0} → (W → Option (List ℕ)) → ByteForm → Candidates → (image name : List ℕ) → W → W
+    → Option Place → Type 0
+AreBytesTaken contents form candidates image name old new cut =
+    (printed : AreBytesPrinted contents form candidates image name old new None)
+    × IsToldOfImage image (Some printed.file.number) cut
+
+-- what was printed of bytes that aren't all printed: nothing, or a beginning of those that can be reached
+abbrev pub IsBytesPart : {W : Type 0} → (W → Option (List ℕ)) → ByteForm → Candidates → (image name : List ℕ) → W → W
+    → Type 0
+IsBytesPart contents form candidates image name old new = (new ≡ old)
+    ⊎ ((fault : Option Fault) × (file : HasFile image (Any candidates) name fault)
+    × HandsPart (contents old) (contents new) (bytes_as form (file_bytes (sectors_in image) file.blocks file.last)))
+
+-- the records among the bytes that can be reached of the first file of that name that has records, closed or not, and
+-- nothing else, were; and this fault is in the way of more, or none is
+pub record AreUnclosedPrinted {W : Type 0} (contents : W → Option (List ℕ)) (form : RecordForm) (image name : List ℕ)
+    (old new : W) (fault : Option Fault) : Type 0 where
+  pub file : HasFile image (Records All) name fault
+  pub printed : Appends (contents old) (contents new) (records_as form
+      (records_of (record_length file.slot) (file_bytes (sectors_in image) file.blocks file.last)))
+
+-- all of them were, and this file is cut short there, or isn't
+abbrev pub AreUnclosedTaken : {W : Type 0} → (W → Option (List ℕ)) → RecordForm → (image name : List ℕ) → W → W
+    → Option Place → Type 0
+AreUnclosedTaken contents form image name old new cut =
+    (printed : AreUnclosedPrinted contents form image name old new None)
+    × IsToldOfImage image (Some printed.file.number) cut
+
+-- the same of records that may be unclosed: nothing, or a beginning of their lines
+abbrev pub IsUnclosedPart : {W : Type 0} → (W → Option (List ℕ)) → RecordForm → (image name : List ℕ) → W → W → Type 0
+IsUnclosedPart contents form image name old new = (new ≡ old)
+    ⊎ ((fault : Option Fault) × (file : HasFile image (Records All) name fault)
+    × HandsPart (contents old) (contents new) (records_as form
+    (records_of (record_length file.slot) (file_bytes (sectors_in image) file.blocks file.last))))
+
+-- Why not all of a file of that name and kind is printed. With a fault of the layout what can be reached is, as `Printed`
+-- says. If the output failed, there is such a file
+abbrev pub IsFileFault : {W : Type 0} → (image : List ℕ) → Kind → (name : List ℕ) → (Printed : Option Fault → Type 0)
+    → W → W → CommandFault → Type 0
+IsFileFault image kind name Printed old new faults.ImageSize = (length image ≢ 174848) × (new ≡ old)
+IsFileFault image kind name Printed old new faults.NoMemory = (length image ≡ 174848) × (new ≡ old)
+IsFileFault image kind name Printed old new (faults.Layout fault) =
+    (HasNoFile image kind name (Some fault) × (new ≡ old)) ⊎ Printed (Some fault)
+IsFileFault image kind name Printed old new faults.NoFile = HasNoFile image kind name None × (new ≡ old)
+IsFileFault image kind name Printed old new faults.File = (fault : Option Fault) × HasFile image kind name fault
+IsFileFault image kind name Printed old new _ = ⊥
+
+-- why not all bytes of a file are printed
+abbrev pub IsBytesFault : {W : Type 0} → (W → Option (List ℕ)) → ByteForm → Candidates → (image name : List ℕ) → W → W
+    → CommandFault → Type 0
+IsBytesFault contents form candidates image name old new fault = IsFileFault image (Any candidates) name
+    (AreBytesPrinted contents form candidates image name old new) old new fault
+
+-- why not all records of a file that may be unclosed are
+abbrev pub IsUnclosedFault : {W : Type 0} → (W → Option (List ℕ)) → RecordForm → (image name : List ℕ) → W → W
+    → CommandFault → Type 0
+IsUnclosedFault contents form image name old new fault = IsFileFault image (Records All) name
+    (AreUnclosedPrinted contents form image name old new) old new fault

@@ -1,0 +1,181 @@
+-- What is rescued of the files of a disk, and the files that are made of it. Our own.
+use Rattle.std.specs.Prelude.{◌≡◌, ◌≢◌, ◌⊎◌, ◌≤◌, ℕ, ◌+◌, Bool, List, [], ◌∷◌, ◌++◌, None, Option, Some, codes}
+use Rattle.std.specs.Prelude.{false, true}
+use Rattle.std.specs.Prelude.{if◌then◌else◌, length, map, nat_eq}
+use Rattle.std.specs.List.{AllByRecursion}
+use Rattle.std.specs.Option.{option_or}
+use Rattle.d64_image.specs.Images.{Image}
+use Rattle.d64_image.specs.Memory.{sectors_in}
+use Rattle.d64_image.specs.declared.place.Place.{Place}
+use Rattle.disk_layout.specs.Directory.{type_byte, used_slots}
+use Rattle.disk_layout.specs.declared.faults.Fault.{Fault}
+use Rattle.disk_layout.specs.declared.slot.Slot.{Slot}
+use Rattle.reached_disk.specs.Reached.{IsReached}
+use Rattle.reached_disk.specs.Sharing.{first_shared, shared_fault}
+use Rattle.file_rescues.specs.Bytes.{file_bytes}
+use Rattle.file_rescues.specs.Found.{records_length, unclosed}
+use Rattle.file_rescues.specs.Records.{records_of, records_text}
+use Rattle.command_faults.specs.declared.faults.CommandFault.{CommandFault}
+use Rattle.command_faults.specs.declared.faults.CommandFault.TheVariants as faults
+use Rattle.line_text.specs.petscii.FileNames.{ending_of, file_name_of}
+use Rattle.line_text.specs.declared.petscii.file_names.Ending.{Ending}
+use Rattle.line_text.specs.declared.petscii.file_names.Ending.TheVariants.{Records}
+use Rattle.reached_disk.specs.Directories.{IsReadSoFar}
+use Rattle.file_rescues.specs.rescue.Deleted.{deleted_slots}
+use Rattle.file_rescues.specs.rescue.Folders.{AddsFiles, AddsPart, NewFile, new_file}
+use Rattle.file_rescues.specs.rescue.Index.{heading, row_text}
+use Rattle.reached_disk.specs.Names.{name_of}
+use Rattle.file_rescues.specs.rescue.Scanned.{with_scanned}
+use Rattle.file_rescues.specs.rescue.Sharing.{owned}
+use Rattle.file_rescues.specs.declared.rescue.choices.Choice.{Choice}
+use Rattle.file_rescues.specs.declared.rescue.rescuing.Rescued.{Rescued}
+use Rattle.file_rescues.specs.declared.rescue.rows.Row.{Row}
+
+-- these blocks can be reached of the entry's file, up to this fault
+pub record IsRescued (img : Image) (f : Rescued) : Type 0 where
+  pub reached : IsReached img f.slot f.blocks.items f.fault f.last
+  pub few : length f.blocks.items ≤ 720
+
+-- this can be reached of these entries, in their order
+pub record AreRescued (img : Image) (slots : List Slot) (files : List Rescued) : Type 0 where
+  pub entries : map (λ f. f.slot) files ≡ slots
+  pub reached : AllByRecursion (IsRescued img) files
+
+-- a file and those after it, or only those, if a block of it is shared
+abbrev pub with_unshared : (shared : Option Place) → Rescued → List Rescued → List Rescued
+with_unshared None f files = f ∷ files
+with_unshared (Some p) f files = files
+
+-- what was found of these deleted entries, in their order. Left out are those of which a block that can be reached is
+-- also the map's, the directory's, or that of one of these files
+abbrev pub AreUndeleted : Image → (directory : List Place) → (files : List Rescued) → List Slot → (found : List Rescued)
+    → Type 0
+AreUndeleted img directory files [] found = found ≡ []
+AreUndeleted img directory files (s ∷ ss) found = (f : Rescued) × (rest : List Rescued) × (f.slot ≡ s) × IsRescued img f
+    × AreUndeleted img directory files ss rest
+    × (found ≡ with_unshared (first_shared (owned directory (files ++ f ∷ [])) f.blocks.items) f rest)
+
+-- the same of the deleted entries of a directory, if they are chosen: otherwise there are none
+abbrev pub AreAdded : Bool → Image → (directory : List Place) → (files : List Rescued) → List Rescued → Type 0
+AreAdded true img directory files found = AreUndeleted img directory files (deleted_slots img directory) found
+AreAdded false img directory files found = found ≡ []
+
+-- this can be reached of the entries of a directory with these sectors, in their order, and then of the deleted ones that
+-- are chosen
+pub record AreChosen (choice : Choice) (img : Image) (directory : List Place) (files : List Rescued) : Type 0 where
+  pub used : List Rescued
+  pub found : List Rescued
+  pub all : files ≡ used ++ found
+  pub entries : AreRescued img (used_slots img directory) used
+  pub deleted : AreAdded choice.deleted img directory used found
+
+-- the bytes of the file that can be reached
+abbrev pub bytes_in : Image → Rescued → List ℕ
+bytes_in img f = file_bytes img f.blocks.items f.last
+
+-- the file of these bytes that is made of entry n, with the ending: 03-MEMBERS.rel
+abbrev pub entry_file : ℕ → Rescued → Ending → List ℕ → NewFile
+entry_file n f ending bytes = new_file (file_name_of n (name_of f.slot) ending) bytes
+
+-- the one with the lines of its records, if they have a length: 03-MEMBERS.csv. The side sectors aren't needed for them
+abbrev pub line_files : ℕ → Rescued → List ℕ → Option ℕ → List NewFile
+line_files n f bytes None = []
+line_files n f bytes (Some L) = entry_file n f Records (records_text (records_of L bytes)) ∷ []
+
+-- all files that are made of entry n: one with its bytes, and one with its records
+unfoldable pub files_of : Image → ℕ → Rescued → List NewFile
+files_of img n f =
+    entry_file n f (ending_of (type_byte f.slot)) (bytes_in img f)
+    ∷ line_files n f (bytes_in img f) (records_length f.slot)
+
+-- the same of several entries, the first of them numbered n
+unfoldable pub files_from : Image → ℕ → List Rescued → List NewFile
+files_from img n [] = []
+files_from img n (f ∷ fs) = files_of img n f ++ files_from img (n + 1) fs
+
+-- what the index says of entry n, if these sectors are somebody's
+abbrev pub row_of : Image → List Place → ℕ → Rescued → Row
+row_of img all n f = record {
+  number = n;
+  slot = f.slot;
+  blocks = length f.blocks.items;
+  bytes = length (bytes_in img f);
+  fault = f.fault;
+  shared = first_shared all f.blocks.items;
+}
+
+-- the lines of several entries, the first of them numbered n
+unfoldable pub rows_from : Image → List Place → ℕ → List Rescued → List ℕ
+rows_from img all n [] = []
+rows_from img all n (f ∷ fs) = row_text (row_of img all n f) ++ rows_from img all (n + 1) fs
+
+-- the index of these files of a disk whose directory has these sectors
+abbrev pub index_of_files : Image → List Place → List Rescued → NewFile
+index_of_files img directory files =
+    new_file (codes "index.csv") (heading ++ rows_from img (owned directory files) 1 files)
+
+-- all files that are made, in their order: those of each entry, and the index
+abbrev pub all_files : Image → List Place → List Rescued → List NewFile
+all_files img directory files = files_from img 1 files ++ index_of_files img directory files ∷ []
+
+-- the fault of an entry that isn't closed; a deleted one has none
+abbrev pub open_fault : Slot → Option Fault
+open_fault s = if nat_eq (type_byte s) 0 then None else unclosed s
+
+-- why a file isn't whole: its chain has a fault; or it has a block that others have too; or it isn't closed
+abbrev pub fault_of : Row → Option Fault
+fault_of r = option_or r.fault (option_or (shared_fault r.shared) (open_fault r.slot))
+
+-- the first fault: this one, or that of the first of these files that isn't whole
+unfoldable pub first_fault : Image → List Place → ℕ → Option Fault → List Rescued → Option Fault
+first_fault img all n found [] = found
+first_fault img all n found (f ∷ fs) = first_fault img all (n + 1) (option_or found (fault_of (row_of img all n f))) fs
+
+-- the sectors that are read for entries, of a directory that has these: others that look like a directory's come after
+-- them if they are chosen
+abbrev pub sectors_of : Choice → Image → List Place → List Place
+sectors_of choice img chain = if choice.scanned then with_scanned img chain 18 else chain
+
+-- the directory of an image as far as it can be read, and what can be reached of each entry that is chosen
+pub record IsRescue (choice : Choice) (image : List ℕ) (directory : List Place) (files : List Rescued)
+    (fault : Option Fault) : Type 0
+  where
+    pub size : length image ≡ 174848
+    pub chain : List Place
+    pub entries : List Slot
+    pub read : IsReadSoFar (sectors_in image) chain entries fault
+    pub sectors : directory ≡ sectors_of choice (sectors_in image) chain
+    pub rescued : AreChosen choice (sectors_in image) directory files
+
+-- All files of an image that are chosen were made in a folder, and nothing else; and the first fault was returned.
+pub record IsExtracted {F : Type 0} (files : F → Option (List NewFile)) (choice : Choice) (image : List ℕ) (old new : F)
+    (result : Option Fault) : Type 0
+  where
+    pub directory : List Place
+    pub rescued : List Rescued
+    pub found : Option Fault
+    pub rescue : IsRescue choice image directory rescued found
+    pub made : AddsFiles (files old) (files new) (all_files (sectors_in image) directory rescued)
+    pub told : result ≡ first_fault (sectors_in image) (owned directory rescued) 1 found rescued
+
+-- a beginning of them was made, and perhaps a part of the next one
+pub record IsExtractedPart {F : Type 0} (files : F → Option (List NewFile)) (choice : Choice) (image : List ℕ) (old new : F)
+    : Type 0
+  where
+    pub directory : List Place
+    pub rescued : List Rescued
+    pub found : Option Fault
+    pub rescue : IsRescue choice image directory rescued found
+    pub made : AddsPart (files old) (files new) (all_files (sectors_in image) directory rescued)
+
+-- the folder failed, or there was no memory
+abbrev pub IsMakeFault : CommandFault → Type 0
+IsMakeFault fault = (fault ≡ faults.File) ⊎ (fault ≡ faults.NoMemory)
+
+-- why not all were made, and what was. Nothing is made of an image of another size
+abbrev pub IsExtractFault : {F : Type 0} → (F → Option (List NewFile)) → Choice → List ℕ → F → F → CommandFault → Type 0
+IsExtractFault files choice image old new faults.ImageSize = (length image ≢ 174848) × (new ≡ old)
+IsExtractFault files choice image old new faults.NoMemory =
+    (length image ≡ 174848) × ((new ≡ old) ⊎ IsExtractedPart files choice image old new)
+IsExtractFault files choice image old new faults.File = (length image ≡ 174848) × IsExtractedPart files choice image old new
+IsExtractFault files choice image old new _ = ⊥

@@ -1,0 +1,134 @@
+//! Deleted entries, and what can be reached of their files.
+ghost use Rattle.std.specs.Prelude.{◌≡◌, ◌≤◌, ◌+◌, ◌++◌, [], ◌∷◌, IfErr, IfOk, List, OnOk, filter, length};
+ghost use Rattle.arrayvec.specs.ArrayVec.{array_vec_len};
+ghost use Rattle.d64_image.specs.Memory.{disk_image};
+ghost use Rattle.disk_layout.specs.Directory.{slots_in};
+ghost use Rattle.reached_disk.specs.Sharing as sharing;
+ghost use Rattle.file_rescues.specs.rescue.Deleted as deleted;
+ghost use Rattle.file_rescues.specs.rescue.Rescues.{AreChosen, AreUndeleted, with_unshared};
+ghost use Rattle.file_rescues.specs.rescue.Sharing.{owned};
+ghost use Rattle.file_rescues.specs.declared.rescue.rescuing.Rescued.{Rescued};
+ghost use Rattle.command_faults.specs.declared.faults.CommandFault.TheVariants as faults;
+
+use crate::rescue::choices::Choice;
+use crate::rescue::rescuing::{Rescued, rescue, rescue_all};
+use crate::rescue::sharing::owners_of;
+use crate::rescue::slots::used_of;
+use arrayvec::ArrayVec;
+use command_faults::CommandFault;
+use d64_image::{MemDisk, Place};
+use disk_layout::{EntryView, Slot};
+use reached_disk::{Entries, entry_name};
+use std::alloc::Global;
+
+/// Whether the slot has an entry that was deleted: its type is 0, and it still has a name and a first block.
+fn is_deleted(slot: &Slot) -> bool
+    ensures { result ≡ deleted.is_deleted slot.now }
+{
+    let entry = EntryView::new(&slot.bytes);
+    if entry.type_byte() != 0 || entry_name(slot).len() == 0 {
+        return false;
+    }
+    entry.first_block().is_some()
+}
+
+/// Adds the deleted entries of the directory sector at `place`, which holds these bytes.
+fn add_deleted(bytes: &[u8; 256], place: Place, entries: &mut Entries)
+    requires { array_vec_len entries.old + 8 ≤ 144 }
+    ensures items { entries.new.items ≡ entries.old.items ++ filter deleted.is_deleted (slots_in place bytes.now) }
+    ensures room { array_vec_len entries.new ≤ array_vec_len entries.old + 8 }
+{
+    for number in 0..8u8 {
+        let slot = Slot::in_sector(bytes, place, number);
+        if is_deleted(&slot) {
+            entries.push(slot);
+        }
+    }
+}
+
+/// The deleted entries of these directory sectors, in order.
+fn deleted_of(disk: &MemDisk, directory: &[Place]) -> Entries
+    requires { length directory.now ≤ 18 }
+    ensures { result.items ≡ deleted.deleted_slots (disk_image disk.now) directory.now }
+{
+    let mut entries = ArrayVec::new();
+    for &place in directory {
+        add_deleted(disk.sector(place), place, &mut entries);
+    }
+    entries
+}
+
+/// The first block of this file that the map, the directory or one of these files has too.
+fn shared_with(directory: &[Place], files: &[Rescued], file: &Rescued) -> Option<Place>
+    ensures { result ≡ sharing.first_shared (owned directory.now (files.now ++ file.now ∷ [])) file.now.blocks.items }
+{
+    let blocks = file.blocks.as_slice();
+    let mut owners = owners_of(directory, files);
+    owners.add(blocks);
+    owners.first_shared(blocks)
+}
+
+/// Adds this file, unless a block of it is shared. The only error is `NoMemory`.
+fn add_unshared(
+    files: &mut Vec<Rescued>,
+    file: Rescued,
+    shared: Option<Place>,
+) -> Result<(), CommandFault>
+    ensures ok { OnOk result (files.new.items ≡ files.old.items ++ with_unshared shared file []) }
+    ensures err { IfErr result (λ fault. fault ≡ faults.NoMemory) }
+{
+    let None = shared else {
+        return Ok(());
+    };
+    if files.push(file).is_err() {
+        return Err(CommandFault::NoMemory);
+    }
+    Ok(())
+}
+
+/// Adds what can be reached of the deleted entries of these directory sectors. Those are left out of which a block that
+/// can be reached is also the map's, the directory's or one of the files'. The only error is `NoMemory`.
+fn add_undeleted(
+    alloc: Global,
+    disk: &MemDisk,
+    directory: &[Place],
+    files: &mut Vec<Rescued>,
+) -> Result<(), CommandFault>
+    requires { length directory.now ≤ 18 }
+    ensures ok { OnOk result ((found : List Rescued) × (files.new.items ≡ files.old.items ++ found)
+        × AreUndeleted (disk_image disk.now) directory.now files.old.items
+        (deleted.deleted_slots (disk_image disk.now) directory.now) found) }
+    ensures err { IfErr result (λ fault. fault ≡ faults.NoMemory) }
+{
+    let used = files.as_slice().len();
+    let mut room = ArrayVec::new();
+    let entries = deleted_of(disk, directory);
+    let slots = entries.as_slice();
+    for slot in slots {
+        let file = rescue(alloc, disk, slot, &mut room)?;
+        let shared = shared_with(directory, &files.as_slice()[..used], &file);
+        add_unshared(files, file, shared)?;
+    }
+    Ok(())
+}
+
+/// What can be reached of the files of the entries of these directory sectors, and of the deleted ones that are chosen.
+/// The only error is `NoMemory`.
+pub(crate) fn rescue_chosen(
+    alloc: Global,
+    disk: &MemDisk,
+    choice: Choice,
+    directory: &[Place],
+) -> Result<Vec<Rescued>, CommandFault>
+    requires { length directory.now ≤ 18 }
+    ensures ok { IfOk result (λ files. AreChosen choice (disk_image disk.now) directory.now files.items) }
+    ensures few { IfOk result (λ files. length files.items ≤ 144) }
+    ensures err { IfErr result (λ fault. fault ≡ faults.NoMemory) }
+{
+    let entries = used_of(disk, directory);
+    let mut files = rescue_all(alloc, disk, entries.as_slice())?;
+    if choice.deleted {
+        add_undeleted(alloc, disk, directory, &mut files)?;
+    }
+    Ok(files)
+}

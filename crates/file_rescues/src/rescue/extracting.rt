@@ -1,0 +1,164 @@
+//! All files of an image, made in a folder.
+ghost use Rattle.std.specs.Prelude.{◌≡◌, ◌≤◌, ◌++◌, List, IfErr, IfOk, length};
+ghost use Rattle.std.specs.List.{AllByRecursion};
+ghost use Rattle.d64_image.specs.Memory.{disk_image};
+ghost use Rattle.d64_image.specs.declared.place.Place.{Place};
+ghost use Rattle.file_rescues.specs.rescue.Folders.{AddsFiles, AddsPart};
+ghost use Rattle.file_rescues.specs.rescue.Index.{row_text};
+ghost use Rattle.reached_disk.specs.Owned.{CountsAll};
+ghost use Rattle.file_rescues.specs.rescue.Rescues.{IsExtractFault, IsExtracted, IsMakeFault, IsRescued, all_files};
+ghost use Rattle.file_rescues.specs.rescue.Rescues.{files_from, files_of, first_fault, row_of, rows_from};
+ghost use Rattle.file_rescues.specs.rescue.Sharing.{owned};
+
+use crate::rescue::choices::Choice;
+use crate::rescue::deleted::rescue_chosen;
+use crate::rescue::folders::NewFolder;
+use crate::rescue::making::{make, make_files};
+use crate::rescue::output::put;
+use crate::rescue::rescuing::Rescued;
+use crate::rescue::rows::Row;
+use crate::rescue::scanning::add_chosen;
+use crate::rescue::sharing::owners_of;
+use arrayvec::ArrayVec;
+use command_faults::{CommandFault, load};
+use d64_image::{MemDisk, Place};
+use disk_layout::Fault;
+use reached_disk::{Owners, read_so_far};
+use std::alloc::Global;
+
+/// The index's name.
+const INDEX: &[u8] = b"index.csv";
+
+/// What stands in its columns.
+const HEADING: &str =
+    "number,file,name,text,type,closed,locked,blocks,found,length,bytes,fault,shared\n";
+
+/// Makes the files of entry `number`, and adds its row to the index. `File` if the folder failed, or `NoMemory`.
+fn extract_entry<F: NewFolder>(
+    alloc: Global,
+    disk: &MemDisk,
+    folder: &mut F,
+    owners: &Owners,
+    number: u8,
+    file: &Rescued,
+    index: &mut Vec<u8>,
+) -> Result<Row, CommandFault>
+    requires rescued { IsRescued (disk_image disk.now) file.now }
+    ensures row { IfOk result (λ row. (all : List Place) → CountsAll owners.now all
+        → row ≡ row_of (disk_image disk.now) all number file.now) }
+    ensures index { IfOk result (λ row. index.new.items ≡ index.old.items ++ row_text row) }
+    ensures ok { IfOk result (λ row. AddsFiles (F.files folder.old) (F.files folder.new)
+        (files_of (disk_image disk.now) number file.now)) }
+    ensures err { IfErr result (λ fault. IsMakeFault fault
+        × AddsPart (F.files folder.old) (F.files folder.new) (files_of (disk_image disk.now) number file.now)) }
+{
+    let bytes = make_files(alloc, disk, folder, number, file)?;
+    let blocks = file.blocks.as_slice();
+    let row = Row {
+        number,
+        slot: file.slot,
+        blocks: blocks.len(),
+        bytes,
+        fault: file.fault,
+        shared: owners.first_shared(blocks),
+    };
+    put(index, row)?;
+    Ok(row)
+}
+
+/// Makes the files of these entries, adds their rows to the index, and returns `before` or the first fault of theirs.
+/// `File` if the folder failed, or `NoMemory`.
+fn extract_entries<F: NewFolder>(
+    alloc: Global,
+    disk: &MemDisk,
+    folder: &mut F,
+    owners: &Owners,
+    files: &[Rescued],
+    index: &mut Vec<u8>,
+    before: Option<Fault>,
+) -> Result<Option<Fault>, CommandFault>
+    requires rescued { AllByRecursion (IsRescued (disk_image disk.now)) files.now }
+    requires few { length files.now ≤ 144 }
+    ensures made { IfOk result (λ _. AddsFiles (F.files folder.old) (F.files folder.new)
+        (files_from (disk_image disk.now) 1 files.now)) }
+    ensures rows { IfOk result (λ _. (all : List Place) → CountsAll owners.now all
+        → index.new.items ≡ index.old.items ++ rows_from (disk_image disk.now) all 1 files.now) }
+    ensures told { IfOk result (λ fault. (all : List Place) → CountsAll owners.now all
+        → fault ≡ first_fault (disk_image disk.now) all 1 before files.now) }
+    ensures err { IfErr result (λ fault. IsMakeFault fault
+        × AddsPart (F.files folder.old) (F.files folder.new) (files_from (disk_image disk.now) 1 files.now)) }
+{
+    let mut found = before;
+    let mut number = 0;
+    for file in files {
+        number += 1;
+        let row = extract_entry(alloc, disk, folder, owners, number, file, index)?;
+        found = found.or(row.fault());
+    }
+    Ok(found)
+}
+
+/// Makes the files of all entries, and the index. `File` if the folder failed, or `NoMemory`.
+fn extract_files<F: NewFolder>(
+    alloc: Global,
+    disk: &MemDisk,
+    folder: &mut F,
+    sectors: &[Place],
+    files: &[Rescued],
+    found: Option<Fault>,
+) -> Result<Option<Fault>, CommandFault>
+    requires rescued { AllByRecursion (IsRescued (disk_image disk.now)) files.now }
+    requires few { length files.now ≤ 144 }
+    ensures ok { IfOk result (λ fault. AddsFiles (F.files folder.old) (F.files folder.new)
+        (all_files (disk_image disk.now) sectors.now files.now)
+        × (fault ≡ first_fault (disk_image disk.now) (owned sectors.now files.now) 1 found files.now)) }
+    ensures err { IfErr result (λ fault. IsMakeFault fault
+        × AddsPart (F.files folder.old) (F.files folder.new) (all_files (disk_image disk.now) sectors.now files.now)) }
+{
+    let owners = owners_of(sectors, files);
+    let mut index = Vec::new(alloc);
+    put(&mut index, HEADING)?;
+    let fault = extract_entries(alloc, disk, folder, &owners, files, &mut index, found)?;
+    make(folder, INDEX, index.as_slice())?;
+    Ok(fault)
+}
+
+/// Makes in a folder a file for each entry of the image's directory, with what can be reached of its bytes, and for each
+/// relative one also a file with the lines of its records. After them it makes `index.csv`, with a line for each entry. A
+/// damaged directory or chain, a block that several have, and a file that isn't closed keep nothing back. Returns the
+/// first of these faults, the directory's before those of the entries in their order: `BadLink`, `Loop`, `OwnedTwice` or
+/// `Unclosed`.
+///
+/// If they are chosen, the entries of other sectors of track 18 come after those of the directory, by the numbers of
+/// the sectors. These have a link as a directory sector has, slots that a drive may have written, and an entry.
+///
+/// If they are chosen, deleted entries come after all others: those with a name and a first block, of which no block that
+/// can be reached is also the map's, the directory's or that of an entry that isn't deleted. `Unclosed` isn't returned for
+/// them.
+///
+/// Each name is that of a file in the folder, and no two are equal (`names_stay_inside`). `ImageSize`: nothing was made.
+/// `File` if the folder failed, or `NoMemory`: the folder has a prefix of the files, and perhaps a part of one more.
+pub fn extract_image<F: NewFolder>(
+    alloc: Global,
+    choice: Choice,
+    image: &[u8],
+    folder: &mut F,
+) -> Result<Option<Fault>, CommandFault>
+    ensures ok { IfOk result (IsExtracted F.files choice image.now folder.old folder.new) }
+    ensures err { IfErr result (IsExtractFault F.files choice image.now folder.old folder.new) }
+{
+    let disk = load(alloc, image)?;
+    let mut sectors = ArrayVec::new();
+    let mut entries = ArrayVec::new();
+    let found = read_so_far(&disk, &mut sectors, &mut entries);
+    add_chosen(&disk, choice, &mut sectors);
+    let files = rescue_chosen(alloc, &disk, choice, sectors.as_slice())?;
+    extract_files(
+        alloc,
+        &disk,
+        folder,
+        sectors.as_slice(),
+        files.as_slice(),
+        found,
+    )
+}

@@ -1,0 +1,125 @@
+//! The files that are made of an entry.
+ghost use Rattle.std.specs.Prelude.{◌≡◌, ◌≤◌, IfErr, IfOk, OnOk, [], ◌∷◌, length};
+ghost use Rattle.d64_image.specs.Memory.{disk_image};
+ghost use Rattle.file_rescues.specs.rescue.Folders.{AddsFiles, AddsPart, StaysInside, new_file};
+ghost use Rattle.file_rescues.specs.rescue.Rescues.{IsMakeFault, IsRescued, bytes_in, entry_file, files_of, line_files};
+ghost use Rattle.file_rescues.specs.Found.{records_length};
+ghost use Rattle.file_rescues.specs.Records.{records_of, records_text};
+ghost use Rattle.command_faults.specs.declared.faults.CommandFault.TheVariants as faults;
+
+use crate::chains::read_file;
+use crate::finding::length_of_records;
+use crate::forms::RecordForm;
+use crate::piece_printing::print_pieces;
+use crate::rescue::folders::NewFolder;
+use crate::rescue::rescuing::Rescued;
+use command_faults::CommandFault;
+use d64_image::MemDisk;
+use line_text::{Ending, file_name};
+use reached_disk::entry_name;
+use std::alloc::Global;
+
+/// Makes a file. `NoMemory` if the folder failed for want of memory, and `File` if it failed otherwise.
+pub(crate) fn make<F: NewFolder>(
+    folder: &mut F,
+    name: &[u8],
+    bytes: &[u8],
+) -> Result<(), CommandFault>
+    requires inside { StaysInside name.now }
+    ensures ok { OnOk result
+        (AddsFiles (F.files folder.old) (F.files folder.new) (new_file name.now bytes.now ∷ [])) }
+    ensures err { IfErr result (λ fault. IsMakeFault fault
+        × AddsPart (F.files folder.old) (F.files folder.new) (new_file name.now bytes.now ∷ [])) }
+{
+    match folder.make(name, bytes) {
+        Ok(()) => Ok(()),
+        Err(error) => Err(CommandFault::of_io(&error)),
+    }
+}
+
+/// Makes the file that stands for entry `number`, with this ending. `File` if the folder failed, or `NoMemory`.
+fn make_entry<F: NewFolder>(
+    folder: &mut F,
+    number: u8,
+    file: &Rescued,
+    ending: Ending,
+    bytes: &[u8],
+) -> Result<(), CommandFault>
+    ensures ok { OnOk result (AddsFiles (F.files folder.old) (F.files folder.new)
+        (entry_file number file.now ending bytes.now ∷ [])) }
+    ensures err { IfErr result (λ fault. IsMakeFault fault
+        × AddsPart (F.files folder.old) (F.files folder.new)
+        (entry_file number file.now ending bytes.now ∷ [])) }
+{
+    let name = file_name(number, entry_name(&file.slot), ending);
+    make(folder, name.as_slice(), bytes)
+}
+
+/// The bytes of a file that can be reached. `NoMemory` if there was none for them.
+fn bytes_of(alloc: Global, disk: &MemDisk, file: &Rescued) -> Result<Vec<u8>, CommandFault>
+    requires { length file.now.blocks.items ≤ 720 }
+    ensures ok { IfOk result (λ bytes. bytes.items ≡ bytes_in (disk_image disk.now) file.now) }
+    ensures err { IfErr result (λ fault. fault ≡ faults.NoMemory) }
+{
+    read_file(alloc, disk, file.blocks.as_slice(), file.last)
+}
+
+/// The lines of the records of `size` bytes among these bytes. `NoMemory` if there was none for them.
+fn record_lines(alloc: Global, bytes: &[u8], size: u8) -> Result<Vec<u8>, CommandFault>
+    requires low { 1 ≤ size }
+    requires high { size ≤ 254 }
+    requires short { length bytes.now ≤ 182880 }
+    ensures ok { IfOk result (λ lines. lines.items ≡ records_text (records_of size bytes.now)) }
+    ensures err { IfErr result (λ fault. fault ≡ faults.NoMemory) }
+{
+    let mut lines = Vec::new(alloc);
+    match print_pieces(&mut lines, RecordForm::Lines, bytes, size as usize) {
+        Ok(()) => Ok(lines),
+        Err(_) => Err(CommandFault::NoMemory),
+    }
+}
+
+/// Makes the file with the lines of the records among these bytes, if entry `number` has records. `File` if the folder
+/// failed, or `NoMemory`.
+fn make_records<F: NewFolder>(
+    alloc: Global,
+    folder: &mut F,
+    number: u8,
+    file: &Rescued,
+    bytes: &[u8],
+) -> Result<(), CommandFault>
+    requires short { length bytes.now ≤ 182880 }
+    ensures ok { OnOk result (AddsFiles (F.files folder.old) (F.files folder.new)
+        (line_files number file.now bytes.now (records_length file.now.slot))) }
+    ensures err { IfErr result (λ fault. IsMakeFault fault
+        × AddsPart (F.files folder.old) (F.files folder.new)
+        (line_files number file.now bytes.now (records_length file.now.slot))) }
+{
+    let Some(length) = length_of_records(&file.slot) else {
+        return Ok(());
+    };
+    let lines = record_lines(alloc, bytes, length)?;
+    make_entry(folder, number, file, Ending::Records, lines.as_slice())
+}
+
+/// Makes the files that stand for entry `number`, and returns how many bytes of it can be reached. `File` if the folder
+/// failed, or `NoMemory`: the folder then has a part of them.
+pub(crate) fn make_files<F: NewFolder>(
+    alloc: Global,
+    disk: &MemDisk,
+    folder: &mut F,
+    number: u8,
+    file: &Rescued,
+) -> Result<usize, CommandFault>
+    requires rescued { IsRescued (disk_image disk.now) file.now }
+    ensures ok { IfOk result (λ count. (count ≡ length (bytes_in (disk_image disk.now) file.now))
+        × AddsFiles (F.files folder.old) (F.files folder.new) (files_of (disk_image disk.now) number file.now)) }
+    ensures err { IfErr result (λ fault. IsMakeFault fault
+        × AddsPart (F.files folder.old) (F.files folder.new) (files_of (disk_image disk.now) number file.now)) }
+{
+    let bytes = bytes_of(alloc, disk, file)?;
+    let ending = Ending::of_type(file.slot.bytes[2]);
+    make_entry(folder, number, file, ending, bytes.as_slice())?;
+    make_records(alloc, folder, number, file, bytes.as_slice())?;
+    Ok(bytes.len())
+}

@@ -1,0 +1,14 @@
+-- Nothing is known of the folder.
+use Rattle.std.proofs.Common.{inl, refl}
+use Rattle.image_log.specs.life.Folders.{IsRemoving, unlogged}
+use Rattle.image_log.proofs.lemmas.life.Unknown.{acts}
+use Rattle.image_log.proofs.life.image_folder.ImageFolderLogFolderSystemLog.remove_log.Goals as goal
+
+pub returns-in_err-see_log : goal.returns-in_err-see_log
+returns-in_err-see_log g c = acts _ _ unlogged IsRemoving _ (λ s. inl refl)
+
+pub returns : goal.returns
+returns g c = acts _ _ unlogged IsRemoving _ (λ s. inl refl)
+
+pub returns-in_err-untag_file : goal.returns-in_err-untag_file
+returns-in_err-untag_file g c = acts _ _ unlogged IsRemoving _ (λ s. inl refl)

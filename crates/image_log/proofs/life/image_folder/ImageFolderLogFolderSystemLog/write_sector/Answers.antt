@@ -1,0 +1,14 @@
+-- Nothing is known of the folder.
+use Rattle.std.proofs.Common.{inl, refl}
+use Rattle.image_log.specs.life.Folders.{IsImageWritten, with_sector}
+use Rattle.image_log.proofs.lemmas.life.Unknown.{acts}
+use Rattle.image_log.proofs.life.image_folder.ImageFolderLogFolderSystemLog.write_sector.Goals as goal
+
+pub returns : goal.returns
+returns g c = acts _ _ (with_sector c.args.index c.args.sector.now) (IsImageWritten c.args.index c.args.sector.now) _
+    (λ s. record { log = refl; making = refl; each = λ i j low small. inl refl })
+
+pub returns-in_err-is_file_tagged : goal.returns-in_err-is_file_tagged
+returns-in_err-is_file_tagged g c =
+    acts _ _ (with_sector c.args.index c.args.sector.now) (IsImageWritten c.args.index c.args.sector.now) _
+    (λ s. record { log = refl; making = refl; each = λ i j low small. inl refl })

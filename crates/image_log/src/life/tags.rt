@@ -1,0 +1,86 @@
+//! What an image says while a service has a log beside it.
+ghost use Rattle.std.specs.Prelude.{◌≡◌, ◌↔◌, IsTrue, false, replicate, take};
+ghost use Rattle.image_log.specs.Blocks.{part};
+ghost use Rattle.image_log.specs.life.Tags.{HasNoTag, HasTagRoom, IsTagged, SaysLogAway, tag};
+
+use d64_image::IMAGE_BYTES;
+
+/// The tag.
+const TAG: [u8; 8] = *b"LOG AWAY";
+
+/// Where it begins in its sector.
+pub(crate) const TAG_START: usize = 248;
+
+/// The index of its sector, 18/0.
+pub(crate) const TAGGED: usize = 357;
+
+/// Whether each of the last eight bytes is 0, or the tag's.
+fn has_tag_room(sector: &[u8; 256]) -> bool
+    ensures { IsTrue result ↔ HasTagRoom sector.now }
+{
+    for j in 0..8usize {
+        if sector[TAG_START + j] != 0 && sector[TAG_START + j] != TAG[j] {
+            return false;
+        }
+    }
+    true
+}
+
+/// Whether all of them are 0.
+fn has_no_tag(sector: &[u8; 256]) -> bool
+    ensures { IsTrue result ↔ HasNoTag sector.now }
+{
+    for j in 0..8usize {
+        if sector[TAG_START + j] != 0 {
+            return false;
+        }
+    }
+    true
+}
+
+/// Whether a sector has the tag, or a part of it, as a write that was cut off leaves it.
+pub(crate) fn is_tagged(sector: &[u8; 256]) -> bool
+    ensures { IsTrue result ↔ IsTagged sector.now }
+{
+    has_tag_room(sector) && !has_no_tag(sector)
+}
+
+/// Takes the tag off a sector. Returns whether it was there.
+pub(crate) fn take_tag(sector: &mut [u8; 256]) -> bool
+    ensures told { IsTrue result ↔ IsTagged sector.old }
+    ensures taken { IsTrue result → part sector.new 248 8 ≡ replicate 8 0 }
+    ensures rest { take 248 sector.new ≡ take 248 sector.old }
+    ensures untagged { result ≡ false → sector.new ≡ sector.old }
+{
+    if !is_tagged(sector) {
+        return false;
+    }
+    sector[TAG_START..].copy_from_slice(&[0; 8]);
+    true
+}
+
+/// Puts the tag on a sector that has room for it. Returns whether it has.
+pub(crate) fn set_tag(sector: &mut [u8; 256]) -> bool
+    ensures told { IsTrue result ↔ HasTagRoom sector.old }
+    ensures put { IsTrue result → part sector.new 248 8 ≡ tag }
+    ensures rest { take 248 sector.new ≡ take 248 sector.old }
+    ensures full { result ≡ false → sector.new ≡ sector.old }
+{
+    if !has_tag_room(sector) {
+        return false;
+    }
+    sector[TAG_START..].copy_from_slice(&TAG);
+    true
+}
+
+/// Whether an image's bytes say that its log has the rest of it: a service has begun a log beside it, and hasn't landed
+/// it. Bytes of another length aren't an image's.
+pub fn is_log_away(image: &[u8]) -> bool
+    ensures { IsTrue result ↔ SaysLogAway image.now }
+{
+    if image.len() != IMAGE_BYTES {
+        return false;
+    }
+    let (sectors, _) = image.as_chunks::<256>();
+    is_tagged(&sectors[TAGGED])
+}

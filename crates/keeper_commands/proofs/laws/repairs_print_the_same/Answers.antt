@@ -1,9 +1,0 @@
--- Both changed the same sectors, freed the same, and left as many.
-use Rattle.keeper_commands.proofs.SameRepairs.{count-same, text-same}
-use Rattle.keeper_commands.proofs.laws.repairs_print_the_same.Goals as goal
-
-pub returns-clause-text : goal.returns-clause-text
-returns-clause-text c = text-same
-
-pub returns-clause-left : goal.returns-clause-left
-returns-clause-left c = count-same

@@ -1,9 +1,0 @@
--- The lines of the records so far were printed.
-use Rattle.std.specs.Io.KnownBytes.{Appends}
-use Rattle.keeper_commands.specs.Forms.{form_lines_to}
-use Rattle.keeper_commands.specs.Records.{records_of}
-use Rattle.keeper_commands.proofs.piece_printing.put_each.Given as goal
-
-abbrev pub invariant-loop-before : goal.invariant-loop-before
-invariant-loop-before g l = Appends (g.W.Write.contents l.fn.out) (g.W.Write.contents l.out)
-    (form_lines_to l.form (records_of l.size l.bytes) l.before)

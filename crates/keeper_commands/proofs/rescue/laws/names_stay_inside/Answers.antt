@@ -1,9 +1,0 @@
--- The names of the entries' files, and that of the index.
-use Rattle.keeper_commands.proofs.lemmas.rescue.Inside.{all-inside, all-once}
-use Rattle.keeper_commands.proofs.rescue.laws.names_stay_inside.Goals as goal
-
-pub returns : goal.returns
-returns c = record {
-  inside = λ img directory files few. all-inside img directory files few;
-  once = λ img directory files few. all-once img directory files few;
-}

@@ -1,9 +1,0 @@
--- The parts of a row.
-use Rattle.std.proofs.Common.{refl}
-use Rattle.std.proofs.Output.{has_written_of_eq}
-use Rattle.keeper_commands.specs.rescue.Index.{row_text}
-use Rattle.keeper_commands.proofs.rescue.rows.RowDisplay.fmt.Goals as goal
-
-pub returns-clause-writes : goal.returns-clause-writes
-unfolding row_text
-returns-clause-writes g c = λ plain done. has_written_of_eq _ _ _ _ _ refl (c.writeln.ensures.writes plain done)

@@ -1,6 +1,0 @@
--- Nothing is known of the folder.
-use Rattle.shop_log.proofs.lemmas.life.Unknown.{returned}
-use Rattle.shop_log.proofs.life.image_folder.ImageFolderLogFolderSystemLog.close_log.Goals as goal
-
-pub returns-clause-returned : goal.returns-clause-returned
-returns-clause-returned g c = returned _ _ _ _

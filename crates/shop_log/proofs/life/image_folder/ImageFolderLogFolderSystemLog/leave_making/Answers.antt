@@ -1,6 +1,0 @@
--- Nothing is known of the folder.
-use Rattle.shop_log.proofs.lemmas.life.Unknown.{given_up}
-use Rattle.shop_log.proofs.life.image_folder.ImageFolderLogFolderSystemLog.leave_making.Goals as goal
-
-pub returns : goal.returns
-returns g c = given_up _ _ _

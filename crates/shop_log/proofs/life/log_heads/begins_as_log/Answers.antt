@@ -1,5 +1,0 @@
-use Rattle.shop_log.proofs.life.log_heads.begins_as_log.Goals as goal
-
-pub returns : goal.returns
-unfolding Rattle.shop_log.specs.Blocks.part
-returns c = c.eq.ensures

@@ -1,6 +1,0 @@
--- Nothing is known of the file.
-use Rattle.shop_log.proofs.lemmas.life.Unknown.{writes}
-use Rattle.shop_log.proofs.life.system_log.SystemLogLogFile.write_at.Goals as goal
-
-pub returns : goal.returns
-returns g c = writes _ _ _ _ _
