@@ -10,5 +10,6 @@ pub use cut::cuts::{find_cut, find_shortfall, sound_cut};
 pub use cut::images::find_image_shortfall;
 pub use cut::laws::whole_is_uncut;
 pub use cut::shortfalls::Shortfall;
+pub use sides::naming::name_sides;
 pub use sides::planning::Loss;
 pub use sides::rebuilding::rebuild_sides;

@@ -2,6 +2,7 @@
 pub(crate) mod candidates;
 pub(crate) mod comparing;
 pub(crate) mod judging;
+pub(crate) mod naming;
 pub(crate) mod planning;
 pub(crate) mod readable;
 pub(crate) mod rebuilding;

@@ -5,6 +5,7 @@ use Rattle.d64_image.specs.Images.{Image, sector}
 use Rattle.d64_image.specs.Memory.{disk_image, sectors_in}
 use Rattle.d64_image.specs.declared.mem_disk.MemDisk.{MemDisk}
 use Rattle.damaged_files.specs.declared.sides.planning.Loss.{Loss}
+use Rattle.damaged_files.specs.sides.Named.{NamesSides}
 use Rattle.damaged_files.specs.sides.Rebuilt as sides
 use Rattle.disk_changes.specs.Repairs.{IsRepairRefusal, IsRepaired}
 use Rattle.disk_changes.specs.declared.changes.Changed.{Changed}
@@ -37,7 +38,7 @@ IsUnbuilt image why = ⊥
 
 -- They were built anew, and the disk was repaired then, if no file of it is cut short or one may be. What both mended is
 -- printed.
-pub record IsRebuilt (image : List ℕ) (free : Bool) (cut : Loss) (made : Changed) : Type 0 where
+pub record IsBuiltAnew (image : List ℕ) (free : Bool) (cut : Loss) (made : Changed) : Type 0 where
   pub bytes : List ℕ
   pub built : IsRebuiltOf image (sectors_in bytes)
   pub second : Changed
@@ -45,6 +46,20 @@ pub record IsRebuilt (image : List ℕ) (free : Bool) (cut : Loss) (made : Chang
   pub disk : made.disk ≡ second.disk
   pub left : made.left ≡ second.left
   pub text : made.text.items ≡ changed_text (sectors_in image) (sectors_in bytes) ++ second.text.items
+
+-- So they were once entries that named no side sector had a place for one. What that changed is printed first.
+pub record IsNamedAndBuilt (image : List ℕ) (free : Bool) (cut : Loss) (made : Changed) : Type 0 where
+  pub bytes : List ℕ
+  pub named : NamesSides (sectors_in image) (sectors_in bytes)
+  pub second : Changed
+  pub built : IsBuiltAnew bytes free cut second
+  pub disk : made.disk ≡ second.disk
+  pub left : made.left ≡ second.left
+  pub text : made.text.items ≡ changed_text (sectors_in image) (sectors_in bytes) ++ second.text.items
+
+-- one of the two
+abbrev pub IsRebuilt : (image : List ℕ) → Bool → Loss → Changed → Type 0
+IsRebuilt image free cut made = IsBuiltAnew image free cut made ⊎ IsNamedAndBuilt image free cut made
 
 -- why not both were done
 abbrev pub IsRebuildRefusal : (image : List ℕ) → CommandFault → Type 0

@@ -1,15 +1,24 @@
 //! The disk of an image with its side sectors built anew, and then repaired.
-ghost use Rattle.std.specs.Prelude.{◌≡◌, ◌++◌, IfErr, IfOk};
-ghost use Rattle.disk_changes.specs.Rebuilds.{IsBuilt, IsRebuildRefusal, IsRebuilt, IsUnbuilt};
+ghost use Rattle.std.specs.Prelude.{◌≡◌, ◌++◌, IfErr, IfOk, Ok, Some};
+ghost use Rattle.disk_changes.specs.Rebuilds.{
+  IsBuilt,
+  IsBuiltAnew,
+  IsNamedAndBuilt,
+  IsRebuildRefusal,
+  IsRebuilt,
+  IsUnbuilt,
+};
 ghost use Rattle.command_faults.specs.declared.faults.CommandFault.TheVariants.{NoMemory};
+ghost use Rattle.disk_changes.specs.declared.changes.Changed as declared;
 
 use crate::changes::Changed;
+use crate::mended::mending::print_changed;
 use crate::mended::rebuilding::rebuild_image;
 use crate::outcomes::in_memory;
 use crate::repairing::repaired;
 use command_faults::{CommandFault, load};
 use d64_image::MemDisk;
-use damaged_files::Loss;
+use damaged_files::{Loss, name_sides};
 use std::alloc::Global;
 
 /// The disk of an image with its side sectors built anew, and a line for each that changed, which goes to `text`.
@@ -45,7 +54,41 @@ fn after(mut text: Vec<u8>, then: Changed) -> Result<Changed, CommandFault>
     }
 }
 
-/// The image with its side sectors built anew and its disk repaired, and a line for each sector that either mended.
+/// The image with its side sectors built anew and its disk repaired, and a line for each sector that either mended. The
+/// places of first side sectors are those that the entries name.
+fn built_anew(alloc: Global, image: &[u8], free: bool, cut: Loss) -> Result<Changed, CommandFault>
+    ensures ok { IfOk result (IsBuiltAnew image.now free cut) }
+    ensures err { IfErr result (IsRebuildRefusal image.now) }
+{
+    let mut text = Vec::new(alloc);
+    let disk = built(alloc, image, cut, &mut text)?;
+    let then = repaired(alloc, disk.bytes(), free, cut)?;
+    after(text, then)
+}
+
+/// The same, once entries that name no side sector have a place for one. None if there is no such entry.
+fn named_and_built(
+    alloc: Global,
+    image: &[u8],
+    free: bool,
+    cut: Loss,
+) -> Result<Option<Changed>, CommandFault>
+    ensures { (made : declared.Changed) → result ≡ Ok (Some made) → IsNamedAndBuilt image.now free cut made }
+{
+    let mut before = load(alloc, image)?;
+    let mut named = load(alloc, image)?;
+    if !name_sides(&mut before, &mut named) {
+        return Ok(None);
+    }
+    let mut text = Vec::new(alloc);
+    print_changed(&mut text, &before, &mut named)?;
+    let then = built_anew(alloc, named.bytes(), free, cut)?;
+    let made = after(text, then)?;
+    Ok(Some(made))
+}
+
+/// The image with its side sectors built anew and its disk repaired, and a line for each sector that was mended. An entry
+/// that names no side sector gets a place for one first.
 pub(crate) fn rebuilt(
     alloc: Global,
     image: &[u8],
@@ -55,8 +98,8 @@ pub(crate) fn rebuilt(
     ensures ok { IfOk result (IsRebuilt image.now free cut) }
     ensures err { IfErr result (IsRebuildRefusal image.now) }
 {
-    let mut text = Vec::new(alloc);
-    let disk = built(alloc, image, cut, &mut text)?;
-    let then = repaired(alloc, disk.bytes(), free, cut)?;
-    after(text, then)
+    match named_and_built(alloc, image, free, cut) {
+        Ok(Some(made)) => Ok(made),
+        _ => built_anew(alloc, image, free, cut),
+    }
 }

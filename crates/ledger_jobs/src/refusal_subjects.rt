@@ -40,7 +40,7 @@ fn said_of_shared(place: Place) -> &'static str {
 /// What is said of a wrong side sector, or of the directory sector of an entry that names none.
 fn said_of_side(place: Place) -> &'static str {
     if place.track() == map_place().track() {
-        "a relative file's entry there names no side sector; `records` prints what it has"
+        "a relative file's entry there names no side sector; `repair --sides` builds those anew"
     } else {
         "a side sector disagrees with its file; `repair --sides` builds those anew"
     }

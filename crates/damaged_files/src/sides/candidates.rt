@@ -73,6 +73,19 @@ fn choose_place(
     first_free(disk.sector(map_place()), unowned, chosen)
 }
 
+/// A place for the first side sector of a file that names none: where it can be read, or where the map calls a sector free.
+pub(crate) fn choose_first(
+    disk: &MemDisk,
+    unowned: &[Place],
+    slot: &Slot,
+    blocks: &[Place],
+) -> Option<Place>
+    requires { length blocks.now ≤ 720 }
+{
+    let readable = find_readable(disk, unowned, slot, blocks, 0);
+    readable.or_else(|| first_free(disk.sector(map_place()), unowned, &[]))
+}
+
 /// Fills `sides` with places for the side sectors of a file with these blocks. False if there aren't enough.
 pub(crate) fn choose_places(
     disk: &MemDisk,

@@ -1,6 +1,8 @@
 //! A disk with its side sectors built anew, in memory.
-ghost use Rattle.std.specs.Prelude.{◌≡◌, ◌≤◌, length};
+ghost use Rattle.std.specs.Prelude.{◌≡◌, ◌≤◌, IfSome, List, length};
 ghost use Rattle.d64_image.specs.Memory.{disk_image};
+ghost use Rattle.d64_image.specs.declared.place.Place as places;
+ghost use Rattle.disk_layout.specs.Directory.{IsDirectory};
 
 use crate::sides::candidates::{choose_places, is_shortened};
 use crate::sides::readable::are_in_order;
@@ -23,14 +25,14 @@ pub enum Loss {
 
 /// What is known of a disk: the sectors that are somebody's. And room for the blocks and side sectors of an entry.
 #[derive(Drop)]
-struct Plan {
-    taken: ArrayVec<Place, MOST_BLOCKS>,
-    blocks: ArrayVec<Place, MOST_BLOCKS>,
+pub(crate) struct Plan {
+    pub(crate) taken: ArrayVec<Place, MOST_BLOCKS>,
+    pub(crate) blocks: ArrayVec<Place, MOST_BLOCKS>,
     sides: ArrayVec<Place, MOST_SIDES>,
 }
 
 /// Fills the plan's blocks with the chain of an entry. Whether it has one and is whole.
-fn find_blocks(disk: &mut MemDisk, slot: &Slot, plan: &mut Plan) -> bool
+pub(crate) fn find_blocks(disk: &mut MemDisk, slot: &Slot, plan: &mut Plan) -> bool
     ensures same { disk_image disk.new ≡ disk_image disk.old }
 {
     match EntryView::new(&slot.bytes).first_block() {
@@ -102,24 +104,35 @@ fn build_sides(
     }
 }
 
+/// What is known of a disk, and its entries. None if its directory can't be read.
+pub(crate) fn begin_plan(disk: &mut MemDisk, slots: &mut ArrayVec<Slot, 144>) -> Option<Plan>
+    ensures same { disk_image disk.new ≡ disk_image disk.old }
+    ensures slots { IfSome result (λ plan. (ps : List places.Place) × IsDirectory (disk_image disk.old) ps slots.new.items) }
+{
+    let mut plan = Plan {
+        taken: ArrayVec::new(),
+        blocks: ArrayVec::new(),
+        sides: ArrayVec::new(),
+    };
+    if read_directory(disk, slots).is_err()
+        || walk_chain(disk, directory_start(), &mut plan.taken).is_err()
+    {
+        return None;
+    }
+    add_all(&mut plan.taken, &[map_place()]);
+    add_files(disk, slots.as_slice(), &mut plan);
+    Some(plan)
+}
+
 /// Builds the side sectors that aren't in order anew in `after`, a copy of `before`. Whether the disk is sound then, the
 /// caller sees.
 pub(crate) fn plan_sides(before: &mut MemDisk, after: &mut MemDisk, shortened: Loss)
     ensures same { disk_image before.new ≡ disk_image before.old }
 {
     let mut slots = ArrayVec::new();
-    let mut plan = Plan {
-        taken: ArrayVec::new(),
-        blocks: ArrayVec::new(),
-        sides: ArrayVec::new(),
-    };
-    if read_directory(before, &mut slots).is_err()
-        || walk_chain(before, directory_start(), &mut plan.taken).is_err()
-    {
+    let Some(mut plan) = begin_plan(before, &mut slots) else {
         return;
-    }
-    add_all(&mut plan.taken, &[map_place()]);
-    add_files(before, slots.as_slice(), &mut plan);
+    };
     for slot in slots.as_slice() {
         if EntryView::new(&slot.bytes).is_relative() {
             build_sides(before, after, slot, shortened, &mut plan);

@@ -3,7 +3,7 @@ use Rattle.std.proofs.Common.{◌∙◌, ◌++◌, Err, List, ap, inr, subst, sy
 use Rattle.std.proofs.lemmas.Result.{IfOk-weaker, err_from_is_err_and}
 use Rattle.d64_image.specs.Memory.{disk_image, sectors_in}
 use Rattle.disk_changes.specs.Rebuilds.{IsRebuiltOf}
-use Rattle.disk_changes.proofs.rebuilding.rebuilt.Goals as goal
+use Rattle.disk_changes.proofs.rebuilding.built_anew.Goals as goal
 use Rattle.disk_changes.specs.mended.Repairs.{changed_text}
 
 pub returns-in_err-then-clause-err : goal.returns-in_err-then-clause-err
