@@ -5,6 +5,7 @@ ghost use Rattle.opened_files.specs.Rights.{MayReadImage};
 use crate::failure_lines::tell_of;
 use crate::jobs::Job;
 use crate::refusal_subjects::{CUT_SHORT, said_of_fault};
+use crate::typed_names::warn_of_name;
 use damaged_files::Shortfall;
 use disk_layout::Fault;
 use image_file::{HostFiles, Locks, ShownPath};
@@ -67,7 +68,7 @@ where
     }
 }
 
-/// Prints for a person which file a job is going to replace. If a job is going to play an image, it prints where the
+/// Prints for a person which file a job is going to replace, and whether a C64 can ask for the name that it gives a file. If a job is going to play an image, it prints where the
 /// first file of the image is cut short, if one is. That image is locked with others that read it while it is read. If a
 /// line can't be printed, this isn't reported: nobody reads standard error.
 pub fn announce<F, R, E>(rt: &R, job: &Job<'_>, err: &mut E)
@@ -85,6 +86,6 @@ where
             }
         }
         Job::Play { image, .. } | Job::PlayLogged { image, .. } => warn_of_cut(rt, image, err),
-        _ => {}
+        job => warn_of_name(job, err),
     }
 }

@@ -12,6 +12,7 @@ mod meanings;
 mod near_names;
 mod refusal_subjects;
 mod size_lines;
+mod typed_names;
 
 pub use announcements::{announce, tell_verdict};
 pub use dispatch::do_job;
