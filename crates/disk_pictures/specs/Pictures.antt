@@ -22,6 +22,7 @@ use Rattle.disk_pictures.specs.Sentences.{summary_text}
 use Rattle.disk_pictures.specs.Texts.{verdict_text}
 use Rattle.reached_disk.specs.Types.{type_text}
 use Rattle.disk_pictures.specs.declared.owners.Owner.{Owner}
+use Rattle.disk_pictures.specs.declared.verdicts.Verdict.{Verdict}
 use Rattle.disk_pictures.specs.declared.owners.Owner.TheVariants as owner
 
 -- the classes of entry k: one of twelve colours, and one of four shapes for entries of one colour: three widths, and half
@@ -191,9 +192,14 @@ dashes = codes
     "[r=\"34600\"]{stroke-dasharray:10152 300000}[r=\"33800\"]{stroke-dasharray:9912 300000}[r=\"33000\"]{stroke-dasharray:9673 300000}[r=\"32200\"]{stroke-dasharray:9434 300000}[r=\"31400\"]{stroke-dasharray:9194 300000}[r=\"30600\"]{stroke-dasharray:8955 300000}[r=\"29800\"]{stroke-dasharray:8716 300000}[r=\"29000\"]{stroke-dasharray:8476 300000}[r=\"28200\"]{stroke-dasharray:8237 300000}[r=\"27400\"]{stroke-dasharray:7998 300000}[r=\"26600\"]{stroke-dasharray:7758 300000}[r=\"25800\"]{stroke-dasharray:7519 300000}[r=\"25000\"]{stroke-dasharray:7279 300000}[r=\"24200\"]{stroke-dasharray:7040 300000}[r=\"23400\"]{stroke-dasharray:6801 300000}[r=\"22600\"]{stroke-dasharray:6561 300000}[r=\"21800\"]{stroke-dasharray:6322 300000}[r=\"21000\"]{stroke-dasharray:6744 300000}[r=\"20200\"]{stroke-dasharray:6480 300000}[r=\"19400\"]{stroke-dasharray:6215 300000}[r=\"18600\"]{stroke-dasharray:5950 300000}[r=\"17800\"]{stroke-dasharray:5686 300000}[r=\"17000\"]{stroke-dasharray:5421 300000}[r=\"16200\"]{stroke-dasharray:5157 300000}[r=\"15400\"]{stroke-dasharray:5175 300000}[r=\"14600\"]{stroke-dasharray:4896 300000}[r=\"13800\"]{stroke-dasharray:4617 300000}[r=\"13000\"]{stroke-dasharray:4337 300000}[r=\"12200\"]{stroke-dasharray:4058 300000}[r=\"11400\"]{stroke-dasharray:3779 300000}[r=\"10600\"]{stroke-dasharray:3717 300000}[r=\"9800\"]{stroke-dasharray:3422 300000}[r=\"9000\"]{stroke-dasharray:3126 300000}[r=\"8200\"]{stroke-dasharray:2830 300000}[r=\"7400\"]{stroke-dasharray:2535 300000}.w3 [r=\"34600\"]{stroke-dasharray:0 2538 5076 300000}.w3 [r=\"33800\"]{stroke-dasharray:0 2478 4956 300000}.w3 [r=\"33000\"]{stroke-dasharray:0 2418 4836 300000}.w3 [r=\"32200\"]{stroke-dasharray:0 2358 4717 300000}.w3 [r=\"31400\"]{stroke-dasharray:0 2298 4597 300000}.w3 [r=\"30600\"]{stroke-dasharray:0 2238 4477 300000}.w3 [r=\"29800\"]{stroke-dasharray:0 2179 4358 300000}.w3 [r=\"29000\"]{stroke-dasharray:0 2119 4238 300000}.w3 [r=\"28200\"]{stroke-dasharray:0 2059 4118 300000}.w3 [r=\"27400\"]{stroke-dasharray:0 1999 3999 300000}.w3 [r=\"26600\"]{stroke-dasharray:0 1939 3879 300000}.w3 [r=\"25800\"]{stroke-dasharray:0 1879 3759 300000}.w3 [r=\"25000\"]{stroke-dasharray:0 1819 3639 300000}.w3 [r=\"24200\"]{stroke-dasharray:0 1760 3520 300000}.w3 [r=\"23400\"]{stroke-dasharray:0 1700 3400 300000}.w3 [r=\"22600\"]{stroke-dasharray:0 1640 3280 300000}.w3 [r=\"21800\"]{stroke-dasharray:0 1580 3161 300000}.w3 [r=\"21000\"]{stroke-dasharray:0 1686 3372 300000}.w3 [r=\"20200\"]{stroke-dasharray:0 1620 3240 300000}.w3 [r=\"19400\"]{stroke-dasharray:0 1553 3107 300000}.w3 [r=\"18600\"]{stroke-dasharray:0 1487 2975 300000}.w3 [r=\"17800\"]{stroke-dasharray:0 1421 2843 300000}.w3 [r=\"17000\"]{stroke-dasharray:0 1355 2710 300000}.w3 [r=\"16200\"]{stroke-dasharray:0 1289 2578 300000}.w3 [r=\"15400\"]{stroke-dasharray:0 1293 2587 300000}.w3 [r=\"14600\"]{stroke-dasharray:0 1224 2448 300000}.w3 [r=\"13800\"]{stroke-dasharray:0 1154 2308 300000}.w3 [r=\"13000\"]{stroke-dasharray:0 1084 2168 300000}.w3 [r=\"12200\"]{stroke-dasharray:0 1014 2029 300000}.w3 [r=\"11400\"]{stroke-dasharray:0 944 1889 300000}.w3 [r=\"10600\"]{stroke-dasharray:0 929 1858 300000}.w3 [r=\"9800\"]{stroke-dasharray:0 855 1711 300000}.w3 [r=\"9000\"]{stroke-dasharray:0 781 1563 300000}.w3 [r=\"8200\"]{stroke-dasharray:0 707 1415 300000}.w3 [r=\"7400\"]{stroke-dasharray:0 633 1267 300000}"
 
 -- how the result of a check is styled
-abbrev pub verdict_class : Option Fault → List ℕ
-verdict_class None = codes "good"
-verdict_class (Some f) = codes "bad"
+abbrev pub class_by : Option Fault → Option Place → List ℕ
+class_by None None = codes "good"
+class_by None (Some p) = codes "bad"
+class_by (Some f) cut = codes "bad"
+
+-- the same of a verdict
+abbrev pub verdict_class : Verdict → List ℕ
+verdict_class v = class_by v.found v.cut
 
 -- the head of the page: the disk's name, as it is typed and as a C64 shows it, and the style
 unfoldable pub title_text : Show → Show → Sector → List ℕ
@@ -205,7 +211,7 @@ title_text show signs map =
 
 -- what follows: id and version; the verdict and what it says; the number of files, and free blocks as the map counts
 -- them. Then the beginning of the drawing, with the disk's name in the middle
-unfoldable pub told_text : Show → Option Fault → Sector → Layout → List ℕ
+unfoldable pub told_text : Show → Verdict → Sector → Layout → List ℕ
 told_text show v map l =
     show (slice_range map 162 164)
     ++ (codes " " ++ (show (slice_range map 165 167) ++ (codes "</p>\n<p class=\"" ++ (verdict_class v
@@ -251,11 +257,11 @@ drawing_text show v map l =
     ++ (others_group map l ++ (open_group map l ++ fault_group v)))
 
 -- the page
-unfoldable pub page_text : Show → Show → Option Fault → Sector → Layout → List ℕ
+unfoldable pub page_text : Show → Show → Verdict → Sector → Layout → List ℕ
 page_text show signs v map l =
-    title_text show signs map ++ (told_text show v map l ++ (drawing_text show v map l ++ (legend_text
+    title_text show signs map ++ (told_text show v map l ++ (drawing_text show v.found map l ++ (legend_text
     ++ (numbered (row_text show signs) 0 l.files ++ end_text))))
 
 -- the picture of a disk
-abbrev pub picture_page : Option Fault → Sector → Layout → List ℕ
+abbrev pub picture_page : Verdict → Sector → Layout → List ℕ
 picture_page v map l = page_text html_of petscii_of v map l

@@ -1,11 +1,10 @@
 -- The poster of a disk: an SVG file of its own, 297 by 420 units. All of it is our own. Bytes of the disk stand in it as `show`
 -- shows them, and names also as `signs` does, and in no other way. The poster that is printed shows them by `html_of` and
 -- `petscii_of`.
-use Rattle.std.specs.Prelude.{ℕ, ◌+◌, ◌*◌, ◌/◌, ◌%◌, List, ◌++◌, Option, codes, decimal, slice_range}
+use Rattle.std.specs.Prelude.{ℕ, ◌+◌, ◌*◌, ◌/◌, ◌%◌, List, ◌++◌, codes, decimal, slice_range}
 use Rattle.d64_image.specs.Images.{Sector}
 use Rattle.disk_layout.specs.Directory.{type_byte}
 use Rattle.disk_layout.specs.Layout.{File, Layout, count_field}
-use Rattle.disk_layout.specs.declared.faults.Fault.{Fault}
 use Rattle.disk_pictures.specs.Html.{Show, html_of}
 use Rattle.reached_disk.specs.Names.{disk_name, name_of}
 use Rattle.disk_pictures.specs.Petscii.{petscii_of}
@@ -13,6 +12,7 @@ use Rattle.disk_pictures.specs.Pictures.{dashes, drawing_text, look}
 use Rattle.disk_pictures.specs.Sentences.{summary_text}
 use Rattle.reached_disk.specs.Types.{type_text}
 use Rattle.disk_pictures.specs.Texts.{numbered}
+use Rattle.disk_pictures.specs.declared.verdicts.Verdict.{Verdict}
 
 -- the poster's style
 unfoldable pub poster_style : List ℕ
@@ -30,7 +30,7 @@ poster_head show signs map =
 
 -- what follows: id and version, the result of a check as a sentence, and the beginning of the drawing, with the disk's
 -- name in the middle
-unfoldable pub poster_told : Show → Option Fault → Sector → Layout → List ℕ
+unfoldable pub poster_told : Show → Verdict → Sector → Layout → List ℕ
 poster_told show v map l =
     show (slice_range map 162 164) ++ (codes " " ++ (show (slice_range map 165 167)
     ++ (codes "</text>\n<text class=\"told\" x=\"148.5\" y=\"40\">" ++ (summary_text show v map l
@@ -65,11 +65,11 @@ poster_line show signs k f =
     ++ (codes "</text></g><text x=\"41.5\" y=\"2.3\">" ++ (signs (name_of f.slot) ++ codes "</text></svg>\n"))))))))
 
 -- the poster, by how bytes of the disk are shown
-unfoldable pub poster_text : Show → Show → Option Fault → Sector → Layout → List ℕ
+unfoldable pub poster_text : Show → Show → Verdict → Sector → Layout → List ℕ
 poster_text show signs v map l =
-    poster_head show signs map ++ (poster_told show v map l ++ (drawing_text show v map l ++ (poster_legend
+    poster_head show signs map ++ (poster_told show v map l ++ (drawing_text show v.found map l ++ (poster_legend
     ++ (numbered (poster_line show signs) 0 l.files ++ codes "</svg>\n"))))
 
 -- the poster of a disk
-abbrev pub poster_of : Option Fault → Sector → Layout → List ℕ
+abbrev pub poster_of : Verdict → Sector → Layout → List ℕ
 poster_of v map l = poster_text html_of petscii_of v map l

@@ -12,6 +12,7 @@ use Rattle.reached_disk.specs.Names.{disk_name}
 use Rattle.disk_pictures.specs.Pictures.{each_place, verdict_class}
 use Rattle.disk_pictures.specs.Texts.{each_below, is_fault_at, is_free, verdict_text}
 use Rattle.disk_pictures.specs.declared.owners.Owner.{Owner}
+use Rattle.disk_pictures.specs.declared.verdicts.Verdict.{Verdict}
 use Rattle.disk_pictures.specs.declared.owners.Owner.TheVariants as owner
 
 -- the shade of a sector, 0 to 28: 1 the map's, 2 the directory's, 3 free, 4 taken and nobody's. A block of an entry has 5
@@ -48,20 +49,20 @@ unfoldable pub small_drawing : Option Fault → Sector → Layout → List ℕ
 small_drawing v map l = each_below 29 (shade_path v map l)
 
 -- the beginning of the tile of a disk that is drawn
-unfoldable pub tile_head : Option Fault → List ℕ
+unfoldable pub tile_head : Verdict → List ℕ
 tile_head v = codes "<figure class=\"" ++ (verdict_class v ++ codes "\"><svg viewBox=\"0 -1 37 23\" aria-hidden=\"true\">")
 
 -- what is printed of it: its path; its name, as it is typed and as a C64 shows it; what a check reports; and how many
 -- blocks the map calls free
-unfoldable pub caption : Show → Show → List ℕ → Option Fault → Sector → List ℕ
+unfoldable pub caption : Show → Show → List ℕ → Verdict → Sector → List ℕ
 caption show signs path v map =
     codes "</svg><figcaption><code>" ++ (show path ++ (codes "</code> <span>" ++ (show (disk_name map)
     ++ (codes "<bdi>" ++ (signs (disk_name map) ++ (codes "</bdi></span> <b>" ++ (verdict_text v
     ++ (codes "</b> <span>" ++ (decimal (blocks_free map) ++ codes " blocks free</span></figcaption></figure>\n")))))))))
 
 -- the tile of a disk that is drawn
-unfoldable pub tile_text : Show → Show → List ℕ → Option Fault → Sector → Layout → List ℕ
-tile_text show signs path v map l = tile_head v ++ (small_drawing v map l ++ caption show signs path v map)
+unfoldable pub tile_text : Show → Show → List ℕ → Verdict → Sector → Layout → List ℕ
+tile_text show signs path v map l = tile_head v ++ (small_drawing v.found map l ++ caption show signs path v map)
 
 -- the beginning of the tile of an image that isn't drawn
 unfoldable pub refused_head : Show → List ℕ → List ℕ

@@ -12,8 +12,8 @@ use crate::html::Html;
 use crate::pages::arcs::Look;
 use crate::pages::sentences::Summary;
 use crate::petscii::Petscii;
-use crate::texts::VerdictText;
-use disk_layout::{BamView, EntryView, Fault};
+use crate::verdicts::Verdict;
+use disk_layout::{BamView, EntryView};
 use reached_disk::{TypeText, disk_name, entry_name};
 use std::fmt::{self, Display, Formatter};
 
@@ -125,13 +125,13 @@ pub(crate) const END: &str = "</table>\n<p class=\"all\"><a href=\"#all\">Show a
     <p class=\"hint\">Point at a sector for its place, file and block. Click a name to see its file alone.</p>\n\
     </div>\n</main>\n";
 
-/// How the result of a check is styled.
-pub(crate) fn class_of(found: Option<Fault>) -> &'static str
-    ensures { result.now ≡ verdict_class found }
+/// How what is reported is styled.
+pub(crate) fn class_of(verdict: Verdict) -> &'static str
+    ensures { result.now ≡ verdict_class verdict }
 {
-    match found {
-        None => "good",
-        Some(_) => "bad",
+    match (verdict.found, verdict.cut) {
+        (None, None) => "good",
+        _ => "bad",
     }
 }
 
@@ -154,24 +154,24 @@ impl Display for Title<'_> {
     }
 }
 
-/// What follows it, from what is drawn and the result of a check, up to the first group of sectors.
+/// What follows it, from what is drawn and reported, up to the first group of sectors.
 #[derive(Clone, Copy)]
 pub(crate) struct Told<'a> {
     /// What is drawn.
     pub drawing: &'a Drawing,
-    /// What a check reports.
-    pub found: Option<Fault>,
+    /// What is reported of it.
+    pub verdict: Verdict,
 }
 
 impl Display for Told<'_> {
-    ghost output = { λ told. Some (told_text html_of told.found told.drawing.now.map (drawn_in told.drawing.now)) };
+    ghost output = { λ told. Some (told_text html_of told.verdict told.drawing.now.map (drawn_in told.drawing.now)) };
 
     fn fmt<W: fmt::Write>(&self, f: &mut Formatter<W>) -> fmt::Result {
         let map = &self.drawing.map;
         let view = BamView::new(map);
         let summary = Summary {
             drawing: self.drawing,
-            found: self.found,
+            verdict: self.verdict,
         };
         write!(
             f,
@@ -182,8 +182,8 @@ impl Display for Told<'_> {
             <text y=\"400\">{}</text></svg>\n<g transform=\"rotate(-90)\" aria-hidden=\"true\">\n",
             Html(view.id()),
             Html(view.version()),
-            class_of(self.found),
-            VerdictText(self.found),
+            class_of(self.verdict),
+            self.verdict,
             Html(disk_name(map))
         )
     }

@@ -13,7 +13,8 @@ use crate::pages::arcs::Look;
 use crate::pages::page::DASHES;
 use crate::pages::sentences::Summary;
 use crate::petscii::Petscii;
-use disk_layout::{BamView, EntryView, Fault};
+use crate::verdicts::Verdict;
+use disk_layout::{BamView, EntryView};
 use reached_disk::{TypeText, disk_name, entry_name};
 use std::fmt::{self, Display, Formatter};
 
@@ -77,24 +78,24 @@ impl Display for Head<'_> {
     }
 }
 
-/// What follows it, from what is drawn and the result of a check, up to the first group of sectors.
+/// What follows it, from what is drawn and reported, up to the first group of sectors.
 #[derive(Clone, Copy)]
 pub(crate) struct Heading<'a> {
     /// What is drawn.
     pub drawing: &'a Drawing,
-    /// What a check reports.
-    pub found: Option<Fault>,
+    /// What is reported of it.
+    pub verdict: Verdict,
 }
 
 impl Display for Heading<'_> {
-    ghost output = { λ told. Some (poster_told html_of told.found told.drawing.now.map (drawn_in told.drawing.now)) };
+    ghost output = { λ told. Some (poster_told html_of told.verdict told.drawing.now.map (drawn_in told.drawing.now)) };
 
     fn fmt<W: fmt::Write>(&self, f: &mut Formatter<W>) -> fmt::Result {
         let map = &self.drawing.map;
         let view = BamView::new(map);
         let summary = Summary {
             drawing: self.drawing,
-            found: self.found,
+            verdict: self.verdict,
         };
         write!(
             f,

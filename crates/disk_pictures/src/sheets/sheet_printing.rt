@@ -127,8 +127,8 @@ pub fn sheet_begin<W: Write>(out: &mut W, count: usize) -> Result<(), CommandFau
 /// image. It is 0 if the disk is clean, 1 if it is damaged, and that of the fault if it can't be drawn.
 ///
 /// It has a small drawing: tracks from left to right, each sector once in the shade of its owner, the fault in red. Below
-/// stand the path, the disk's name as it is typed and as a C64 shows it, what a check reports, and how many blocks the
-/// map calls free. A damaged disk is drawn as far as its links go. An image that can't be drawn (`ImageSize`, `Layout`,
+/// stand the path, the disk's name as it is typed and as a C64 shows it, what a check reports (or where the first file is
+/// cut short), and how many blocks the map calls free. A damaged disk is drawn as far as its links go. An image that can't be drawn (`ImageSize`, `Layout`,
 /// `NoMemory`) has a tile with its path and the reason. Paths and names stand there only as text. A path's bytes are
 /// shown as those of names: $20 to $7E except `"` and `\` as they are, every other one as `\` and two digits.
 ///
@@ -143,9 +143,9 @@ pub fn sheet_tile<W: Write>(
     ensures err { IfErr result (λ fault. fault ≡ faults.File) }
 {
     match judged(alloc, image) {
-        Ok((drawing, found)) => {
-            print_tile(out, path, found, &drawing)?;
-            Ok(found_status(found))
+        Ok((drawing, verdict)) => {
+            print_tile(out, path, verdict, &drawing)?;
+            Ok(found_status(verdict.found))
         }
         Err(fault) => {
             print_refused(out, path, fault)?;
