@@ -32,7 +32,7 @@ from xml.parsers import expat
 
 from disks import shop_after_a_day
 from drawn import DIRECTORY, MAP, PLACES, SIZE, Disk, sectors_on, start
-from pages import Page as Wanted, fault_of
+from pages import Page as Wanted, fault_of, verdict_of
 
 JOBS = 2
 # tags that HTML lets stand open, as XML has them
@@ -220,7 +220,7 @@ class Bench:
         self.file.write_bytes(image)
         disk = Disk(image)
         checked, lines, _ = self.run("check", str(self.file))
-        verdict = lines.decode().splitlines()[-1].rsplit(": ", 1)[1]
+        verdict = verdict_of(lines.decode().splitlines())
         want(checked == (1 if fault_of(verdict) else 0), f"check ends with {checked}")
         drawn = self.run("map"), self.run("picture"), self.run("picture", "--svg")
         if not disk.has_directory:

@@ -4,9 +4,9 @@
     tests/pages.py IMAGE VERDICT [--svg|--tile]
     tests/pages.py --compare IMAGE VERDICT IMAGE VERDICT
 
-VERDICT is the last line that `check` prints of one image of several, or a fault. It isn't judged here. The parts that are the
-same on each page and poster (style, dashes, legend, end) are taken from specs/Pictures.antt, specs/Posters.antt,
-specs/Sheets.antt and specs/ComparedPages.antt, where the contracts have them."""
+VERDICT is what `verdict_of` makes of what `check` prints. It isn't judged here. The parts that are the same on each page and
+poster (style, dashes, legend, end) are taken from specs/Pictures.antt, specs/Posters.antt, specs/Sheets.antt and
+specs/ComparedPages.antt, where the contracts have them."""
 
 import re
 import sys
@@ -38,6 +38,12 @@ def fixed(name):
 def fault_of(verdict):
     """Where the fault is that is told, if one is."""
     return tuple(map(int, verdict.split()[1].split("/"))) if verdict.split()[0] in WORDS else None
+
+
+def verdict_of(lines):
+    """What a picture tells, by these lines of a check of the image and the image again: the fault, or SHORT, or OK."""
+    told = [line.rsplit(": ", 1)[1] for line in lines]
+    return told[-1] if told[0] == "OK" else told[0]
 
 
 def html(text):

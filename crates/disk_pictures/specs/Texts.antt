@@ -52,7 +52,7 @@ verdict_by None None = codes "OK"
 verdict_by None (Some p) = codes "SHORT " ++ place_text p
 verdict_by (Some f) cut = fault_text f
 
--- what is told of a disk in two words
+-- the same of a verdict
 abbrev pub verdict_text : Verdict → List ℕ
 verdict_text v = verdict_by v.found v.cut
 
