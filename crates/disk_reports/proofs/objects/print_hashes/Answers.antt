@@ -3,7 +3,7 @@ use Rattle.std.proofs.Common.{List, subst, ℕ}
 use Rattle.std.proofs.KnownBytes.{Appends-trans}
 use Rattle.std.proofs.lemmas.Result.{on_ok_weaker}
 use Rattle.std.specs.Io.KnownBytes.{Appends}
-use Rattle.std.specs.Prelude.{codes, flat_map}
+use Rattle.std.specs.Prelude.{flat_map}
 use Rattle.disk_reports.proofs.Written.{four}
 use Rattle.disk_reports.specs.Json.{digits}
 use Rattle.disk_reports.proofs.objects.print_hashes.Goals as goal
