@@ -31,7 +31,7 @@ def see_comparison(program, browser, name, first, second, folder, looks):
     done = subprocess.run([program, "picture", "--compare", first[0], second[0]], capture_output=True, timeout=60)
     page, wanted = done.stdout, pair.text()
     want(page.decode() == wanted, f"{name}: the page differs from that of pages.py")
-    want(done.returncode == (0 if second[1].verdict == "OK" else 1) and done.stderr == b"", f"{name}: status {done.returncode}")
+    want(done.returncode == (1 if second[1].fault else 0) and done.stderr == b"", f"{name}: status {done.returncode}")
     references = re.findall(rb"(?:src|href|url|import|action|data)\s*[=(]\s*\"?([^\">]*)", page)
     want(all(re.fullmatch(rb"#(f\d+|all)", found) for found in references), f"{name}: leads out of the page: {references}")
     file = folder / f"{name}.html"

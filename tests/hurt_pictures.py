@@ -32,7 +32,7 @@ from xml.parsers import expat
 
 from disks import shop_after_a_day
 from drawn import DIRECTORY, MAP, PLACES, SIZE, Disk, sectors_on, start
-from pages import Page as Wanted
+from pages import Page as Wanted, fault_of, verdict_of
 
 JOBS = 2
 # tags that HTML lets stand open, as XML has them
@@ -171,7 +171,7 @@ def wanted_circles(disk, verdict):
     lines = [white_line(disk, track) for track in range(1, 36)
              if any(is_open(disk, place) for place in PLACES if place[0] == track)]
     fault = []
-    if verdict != "OK":
+    if fault_of(verdict):
         place = fault_place(verdict)
         fault = [["f", RINGS[place], ("class", "edge"), verdict], ["f", RINGS[place], ("class", "fault"), verdict],
                  ["f", ring(place, 35700), ("class", "fault"), None]]
@@ -219,9 +219,9 @@ class Bench:
         """Compares all that is printed of one image; gives its verdict, or its refusal, and how many bytes its page has."""
         self.file.write_bytes(image)
         disk = Disk(image)
-        checked, verdict, _ = self.run("check")
-        verdict = verdict.decode().strip()
-        want(checked == (0 if verdict == "OK" else 1), f"check ends with {checked}")
+        checked, lines, _ = self.run("check", str(self.file))
+        verdict = verdict_of(lines.decode().splitlines())
+        want(checked == (1 if fault_of(verdict) else 0), f"check ends with {checked}")
         drawn = self.run("map"), self.run("picture"), self.run("picture", "--svg")
         if not disk.has_directory:
             for status, out, error in drawn:
@@ -236,7 +236,7 @@ class Bench:
         return verdict.split()[0], len(page)
 
     def see_map(self, lines, disk, verdict):
-        fault = fault_place(verdict) if verdict != "OK" else None
+        fault = fault_of(verdict)
         tracks = disk.map_lines(fault)
         for line, wanted in zip(lines, tracks):
             want(line == wanted, f"{line} in the map in place of {wanted}")

@@ -11,6 +11,7 @@ reader finds by the D64 layout; free, disk and id are those of 18/0. Files of ot
 object too. The status is 1 at the first difference, whose image is kept. The last line says how many images of each
 verdict were compared, and how long the program took for all of them."""
 
+import hashlib
 import json
 import random
 import subprocess
@@ -23,7 +24,8 @@ from pathlib import Path
 from disks import shop_after_a_day
 from drawn import MAP, PLACES, SIZE, name_text, start
 
-KEYS = ["name", "size", "verdict", "track", "sector", "files", "free", "disk", "id", "short", "fewer"]
+KEYS = ["name", "size", "verdict", "track", "sector", "files", "free", "disk", "id", "short", "fewer", "sha1",
+        "sha256"]
 ON_DISK = set(PLACES)
 RELATIVE = (0x84, 0xC4)
 SOUND = {"OK", "MAPWRONG", "COUNTWRONG"}
@@ -70,11 +72,12 @@ class Reader:
         return self.follow(tuple(slot[3:5]))
 
     def fewer(self):
-        """Where the first PRG, SEQ or USR ends whose entry counts more blocks than its chain has; documents of GEOS are left out."""
+        """Where the first PRG, SEQ or USR ends whose entry counts more blocks than its chain, and the info block of a file of GEOS;
+        its documents of several records are left out."""
         for place, slot in self.slots():
             blocks, _ = self.blocks(place, slot)
-            document = tuple(slot[21:23]) in ON_DISK and slot[23] == 1
-            if slot[2] & 0xBF in (0x81, 0x82, 0x83) and not document and slot[30] + 256 * slot[31] > len(blocks):
+            info = tuple(slot[21:23]) in ON_DISK
+            if slot[2] & 0xBF in (0x81, 0x82, 0x83) and not (info and slot[23] == 1) and slot[30] + 256 * slot[31] > len(blocks) + info:
                 return "%d/%d" % (blocks or [place])[-1]
         return None
 
@@ -162,6 +165,7 @@ def judge(path, image, line, verdict, short):
         "free": sum(head[4 * track] for track in range(1, 36) if track != 18),
         "disk": name_text(head[0x90:0xA0].rstrip(b"\xa0")), "id": name_text(head[0xA2:0xA4]), "short": short,
         "fewer": Reader(image).fewer() if short is None and fault in SOUND else None,
+        "sha1": hashlib.sha1(image).hexdigest(), "sha256": hashlib.sha256(image).hexdigest(),
     }
     if list(told) != KEYS or told != want:
         return f"{told}\n{want}"

@@ -4,9 +4,9 @@
     tests/pages.py IMAGE VERDICT [--svg|--tile]
     tests/pages.py --compare IMAGE VERDICT IMAGE VERDICT
 
-VERDICT is what `check` prints, which isn't judged here. The parts that are the same on each page and poster (style, dashes, legend,
-end) are taken from specs/Pictures.antt, specs/Posters.antt, specs/Sheets.antt and specs/ComparedPages.antt, where the contracts have
-them."""
+VERDICT is what `verdict_of` makes of what `check` prints. It isn't judged here. The parts that are the same on each page and
+poster (style, dashes, legend, end) are taken from specs/Pictures.antt, specs/Posters.antt, specs/Sheets.antt and
+specs/ComparedPages.antt, where the contracts have them."""
 
 import re
 import sys
@@ -25,6 +25,7 @@ WORDS = {
     "BADLENGTH": ("An entry in sector ", " has a record length of 0 or 255; "),
     "COUNTWRONG": ("An entry in sector ", " has a wrong block count; "),
     "MAPWRONG": ("The map of free sectors is wrong at sector ", "; ")}
+CUT = ("A file is cut short at sector ", "; ")
 
 
 def fixed(name):
@@ -32,6 +33,17 @@ def fixed(name):
     text = "".join((SPECS / f"{it}.antt").read_text(encoding="utf-8") for it in ("Pictures", "Posters", "Sheets", "ComparedPages"))
     found = re.search(rf'^{name} = codes\s+"((?:[^"\\]|\\.)*)"', text, re.M)
     return re.sub(r"\\(.)", lambda one: {"n": "\n"}.get(one[1], one[1]), found[1])
+
+
+def fault_of(verdict):
+    """Where the fault is that is told, if one is."""
+    return tuple(map(int, verdict.split()[1].split("/"))) if verdict.split()[0] in WORDS else None
+
+
+def verdict_of(lines):
+    """What a picture tells, by these lines of a check of the image and the image again: the fault, or SHORT, or OK."""
+    told = [line.rsplit(": ", 1)[1] for line in lines]
+    return told[-1] if told[0] == "OK" else told[0]
 
 
 def html(text):
@@ -58,7 +70,7 @@ class Page:
 
     def __init__(self, image, verdict):
         self.disk, self.verdict, self.map = Disk(image), verdict, Disk(image).sector(MAP)
-        self.fault = tuple(map(int, verdict.split()[1].split("/"))) if verdict != "OK" else None
+        self.sound, self.fault = verdict == "OK", fault_of(verdict)
 
     def plain(self, place, group):
         return f'{ring(place)} class="{group}"><title>{html(self.disk.title(place))}</title></circle>\n'
@@ -115,14 +127,14 @@ class Page:
     def summary(self):
         free = sum(self.map[4 * track] for track in range(1, 36) if track != 18)
         ends = f"{len(self.disk.entries)} files, {free} of 664 blocks free"
-        if not self.fault:
+        if self.sound:
             return f"Sound: {ends}"
         word, place = self.verdict.split()
         owners = self.owners(self.fault)
         if word == "OWNEDTWICE" and len(owners) > 1:
             first, second = (self.owner_named(owner) for owner in owners[:2])
             return f"Sector {place} belongs to {first} and to {second}; {ends}"
-        before, after = WORDS[word]
+        before, after = WORDS.get(word, CUT)
         return f"{before}{place}{after}{ends}"
 
     def row(self, number):
@@ -139,7 +151,7 @@ class Page:
                  f'initial-scale=1">\n<title>{name}</title>\n<style>{fixed("style")}{fixed("dashes")}</style>\n<h1>{name}'
                  f"<bdi>{html(self.disk.disk_signs())}</bdi></h1>\n"
                  "<p>1541 disk, id ")
-        told = (f'{html(html_name(self.map[162:164]))} {html(html_name(self.map[165:167]))}</p>\n<p class="{"bad" if self.fault else "good"}">'
+        told = (f'{html(html_name(self.map[162:164]))} {html(html_name(self.map[165:167]))}</p>\n<p class="{"good" if self.sound else "bad"}">'
                 f"<b>{self.verdict}</b> {self.summary()}</p>\n<main>\n"
                 '<svg viewBox="-36600 -36600 73200 73200" role="img" aria-label="The disk as 35 rings of sectors, each in the '
                 'colour of its file; the table lists the files">\n<svg x="-6900" y="-1200" width="13800" height="2400" '
@@ -191,7 +203,7 @@ class Page:
         for place in PLACES:
             strokes[self.shade(place)] += f"M{place[0]} {place[1]}h.8"
         free = sum(self.map[4 * track] for track in range(1, 36) if track != 18)
-        return (f'<figure class="{"bad" if self.fault else "good"}"><svg viewBox="0 -1 37 23" aria-hidden="true">'
+        return (f'<figure class="{"good" if self.sound else "bad"}"><svg viewBox="0 -1 37 23" aria-hidden="true">'
                 + "".join(f'<path class="p{number}" d="{drawn}"/>' for number, drawn in enumerate(strokes))
                 + f'</svg><figcaption><code>{path_text(path)}</code> <span>{html(self.disk.disk_name())}'
                 f"<bdi>{html(self.disk.disk_signs())}</bdi></span> <b>{self.verdict}</b> <span>{free} blocks free</span>"

@@ -6,9 +6,9 @@
 PROGRAM is what `tools/program` prints. The style of the page that `picture` prints of a blank disk has these colours, in
 its light and in its dark part. Of each part is computed: how far each two files' colours are from each other (CIEDE2000)
 for people with normal sight and for people without one kind of cones (protanopia, deuteranopia, tritanopia, simulated by
-the matrices of Machado, Oliveira and Fernandes, 2009), how far they are from the map's, the directory's and the fault's;
-the contrast of each to the colour of free sectors, and that of all text to the page (WCAG 2). The status is 1 where a
-distance is below 10, a contrast of a file below 3, or one of a text below 4.5."""
+the matrices of Machado, Oliveira and Fernandes, 2009), how far they are from the map's, the directory's, the
+fault's, and that of sectors which are taken and in no file; the contrast of each to the colour of free sectors, and that
+of all text to the page (WCAG 2). The status is 1 where a distance is below 10, a contrast of a file below 3, or one of a text below 4.5."""
 
 import itertools
 import math
@@ -107,7 +107,7 @@ def check(theme, style, files):
     page, text = rule(style, "body", "background"), rule(style, "body", "color")
     texts = [text, rule(style, "text", "fill"), rule(style, ".bad b", "color"), rule(style, ".good b", "color")]
     free = rule(style, ".free", "stroke")
-    marks = [rule(style, selector, "stroke") for selector in (".map", ".dir", ".fault")]
+    marks = [rule(style, selector, "stroke") for selector in (".map", ".dir", ".fault", ".lost")]
     near = []
     for sight in SIGHTS:
         seen = [lab(colour, sight) for colour in files]

@@ -21,7 +21,7 @@ from browser import Browser, Proxy
 from comparisons import BLACK, see_comparison
 from drawn import MAP, PLACES, Disk, sectors_on
 from palette import DARKER, LIGHT, rgb
-from pages import Page
+from pages import Page, fault_of, verdict_of
 from renderings import see_dark, see_keys, see_label, see_paper, see_phone, see_poster, see_sheet
 from served import run, want
 
@@ -77,7 +77,7 @@ class Wanted:
     def __init__(self, name, image, lines):
         self.disk = Disk(image)
         self.verdict = lines[-1]
-        self.fault = tuple(map(int, self.verdict.split()[1].split("/"))) if self.verdict != "OK" else None
+        self.fault = fault_of(self.verdict)
         tracks = self.disk.map_lines(self.fault)
         for line, wanted in zip(lines, tracks):
             want(line == wanted, f"{name}: {line} in the map in place of {wanted}")
@@ -340,7 +340,7 @@ def main(program, folder):
         try:
             made = list(made_disks(program, folder))
             seen = [see_page(program, browser, proxy, name, path, folder) for name, path in made]
-            verdicts = [run(program, "check", path)[1][-1] for _, path in made]
+            verdicts = [verdict_of(run(program, "check", path, path)[1]) for _, path in made]
             pages = [(path, Page(path.read_bytes(), verdict)) for (_, path), verdict in zip(made, verdicts)]
             seconds, size = see_sheet(program, browser, pages, folder, LIGHT)
             print(f"sheet of 100 images: {size} bytes in {1000 * seconds:.0f} ms", flush=True)

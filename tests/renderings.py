@@ -10,7 +10,7 @@ import xml.etree.ElementTree as tree
 from PIL import Image
 
 from drawn import PLACES
-from pages import Page, refused_tile, sheet
+from pages import Page, fault_of, refused_tile, sheet
 from palette import DARK, DARKER, rgb
 from served import want
 
@@ -118,7 +118,7 @@ def see_poster(name, program, path, image, verdict, folder, browser, compare):
     picture of the drawing, and who drew it."""
     done = subprocess.run([program, "picture", "--svg", path], capture_output=True, timeout=60)
     want(done.stdout.decode() == Page(image, verdict).poster(), f"{name}: the poster differs from that of pages.py")
-    want(done.returncode == (0 if verdict == "OK" else 1), f"{name}: the poster's status is {done.returncode}")
+    want(done.returncode == (1 if fault_of(verdict) else 0), f"{name}: the poster's status is {done.returncode}")
     root = tree.fromstring(done.stdout)
     want(root.get("viewBox") == "0 0 297 420" and root.find(f"{SVG}title") is not None, f"{name}: the poster's size, or title")
     want(not re.search(rb"href|url\((?!#n\))|@import|<script", done.stdout), f"{name}: the poster leads out of itself")

@@ -3,15 +3,18 @@ use Rattle.std.proofs.Common.{◌≡◌, ◌<◌, List, arith, length, subst, sy
 use Rattle.std.specs.Prelude.{None, Some}
 use Rattle.command_faults.specs.declared.faults.CommandFault.TheVariants as faults
 use Rattle.d64_image.specs.History.{Failed}
-use Rattle.d64_image.specs.Images.{Image}
+use Rattle.d64_image.specs.Images.{Image, sector}
 use Rattle.d64_image.specs.Memory.{memory, sectors_in}
 use Rattle.d64_image.specs.declared.mem_disk.MemDisk.{MemDisk}
 use Rattle.d64_image.specs.declared.place.Place.{Place}
 use Rattle.damaged_files.specs.cut.Told.{HasNoCut, IsCutShort, IsToldOf}
 use Rattle.damaged_files.specs.declared.sides.planning.Loss.{Loss}
-use Rattle.disk_changes.specs.Judged.{IsCleanDisk, IsSoundWhole, IsTaken, IsUnclean, IsUntaken}
+use Rattle.disk_changes.specs.Judged.{IsCleanDisk, IsOfGeos, IsPlainCut, IsSoundWhole, IsTaken, IsUnclean}
+use Rattle.disk_changes.specs.Judged.{IsUnsoundOrShort, IsUntaken}
+use Rattle.disk_changes.specs.mended.Kinds.{HasGeosSign, IsCutRefusal}
 use Rattle.command_faults.specs.declared.faults.CommandFault.{CommandFault}
 use Rattle.disk_layout.specs.Clean.{IsCleanLayout}
+use Rattle.disk_layout.specs.Directory.{map_place}
 use Rattle.disk_layout.specs.Layout.{IsLayout, IsSound, Layout}
 
 -- a disk in memory doesn't fail
@@ -43,6 +46,27 @@ module _ (image : List ℕ) (img : Image) (is : img ≡ sectors_in image) (size 
         cut = first.cut;
       }
 
+-- a file is cut short, and by the disk's 18/0 this is why it isn't changed
+module _ (image : List ℕ) (img : Image) (is : img ≡ sectors_in image) (p : Place) (cut : IsCutShort image p) where
+  at : HasGeosSign (sector img map_place) → IsOfGeos image
+  at = subst (λ (i : Image). HasGeosSign (sector i map_place)) is
+
+  back : IsOfGeos image → HasGeosSign (sector img map_place)
+  back = subst (λ (i : Image). HasGeosSign (sector i map_place)) (sym is)
+
+  plain : (q : Place) → q ≡ p → ¬ (HasGeosSign (sector img map_place)) → IsPlainCut image q
+  plain q same other = (subst (IsCutShort image) (sym same) cut, λ geos. other (back geos))
+
+  pub cut-unsound : (why : CommandFault) → IsCutRefusal (sector img map_place) p why → IsUnsoundOrShort image why
+  cut-unsound faults.Geos geos = (at geos, (p, cut))
+  cut-unsound (faults.Short q) (same, other) = plain q same other
+  cut-unsound _ none = absurd none
+
+  pub cut-untaken : (why : CommandFault) → IsCutRefusal (sector img map_place) p why → IsUntaken image why
+  cut-untaken faults.Geos geos = (at geos, (p, cut))
+  cut-untaken (faults.Short q) (same, other) = plain q same other
+  cut-untaken _ none = absurd none
+
 -- of a sound disk no file is cut short
 pub uncut-is : (image : List ℕ) (img : Image) → img ≡ sectors_in image
     → ((l : Layout) → IsLayout img l → HasNoCut img l None) → (p : Place) → IsCutShort image p → ⊥
@@ -62,6 +86,7 @@ pub untaken-unclean : (image : List ℕ) (why : CommandFault) → IsUntaken imag
 untaken-unclean image faults.ImageSize c = c
 untaken-unclean image faults.NoMemory c = c
 untaken-unclean image (faults.Short p) c = c
+untaken-unclean image faults.Geos c = c
 untaken-unclean image _ c = absurd c
 
 abbrev pub is-clean-disk : (image : List ℕ) (cut : Loss) (img : Image) → img ≡ sectors_in image → IsTaken image cut

@@ -3,12 +3,15 @@ use Rattle.std.specs.Prelude.{◌≡◌, ◌≢◌, ◌<◌, ◌⊎◌, List, No
 use Rattle.command_faults.specs.Faults.{IsCleanFault, IsSoundFault}
 use Rattle.command_faults.specs.declared.faults.CommandFault.{CommandFault}
 use Rattle.command_faults.specs.declared.faults.CommandFault.TheVariants as faults
+use Rattle.d64_image.specs.Images.{sector}
 use Rattle.d64_image.specs.Memory.{sectors_in}
 use Rattle.d64_image.specs.declared.place.Place.{Place}
 use Rattle.damaged_files.specs.cut.Told.{HasNoCut, IsCutShort}
 use Rattle.damaged_files.specs.declared.sides.planning.Loss.{Loss}
 use Rattle.damaged_files.specs.declared.sides.planning.Loss.TheVariants.{Accepted}
+use Rattle.disk_changes.specs.mended.Kinds.{HasGeosSign}
 use Rattle.disk_layout.specs.Clean.{IsCleanLayout}
+use Rattle.disk_layout.specs.Directory.{map_place}
 use Rattle.disk_layout.specs.Layout.{IsLayout, Layout}
 use Rattle.disk_layout.specs.Rest.{slot_name}
 use Rattle.file_changes.specs.Entries.{IsFreeName, entries_of}
@@ -30,19 +33,34 @@ pub record IsCleanDisk (image : List ℕ) (cut : Loss) : Type 0 where
   pub layout : Layout
   pub clean : IsCleanLayout (sectors_in image) layout
 
+-- the image is that of a disk of GEOS
+abbrev pub IsOfGeos : List ℕ → Type 0
+IsOfGeos image = HasGeosSign (sector (sectors_in image) map_place)
+
+-- a file of it is cut short at p, and it isn't of GEOS
+abbrev pub IsPlainCut : List ℕ → Place → Type 0
+IsPlainCut image p = IsCutShort image p × ¬ (IsOfGeos image)
+
+-- a file of it is cut short somewhere, and it is of GEOS
+abbrev pub IsGeosCut : List ℕ → Type 0
+IsGeosCut image = IsOfGeos image × ((p : Place) × IsCutShort image p)
+
 -- why the image isn't so
 abbrev pub IsUnsoundOrShort : List ℕ → CommandFault → Type 0
-IsUnsoundOrShort image (faults.Short p) = IsCutShort image p
+IsUnsoundOrShort image (faults.Short p) = IsPlainCut image p
+IsUnsoundOrShort image faults.Geos = IsGeosCut image
 IsUnsoundOrShort image fault = IsSoundFault image fault
 
 abbrev pub IsUntaken : (image : List ℕ) → CommandFault → Type 0
 IsUntaken image faults.ImageSize = length image ≢ 174848
 IsUntaken image faults.NoMemory = length image ≡ 174848
-IsUntaken image (faults.Short p) = IsCutShort image p
+IsUntaken image (faults.Short p) = IsPlainCut image p
+IsUntaken image faults.Geos = IsGeosCut image
 IsUntaken image why = ⊥
 
 abbrev pub IsUnclean : List ℕ → CommandFault → Type 0
-IsUnclean image (faults.Short p) = IsCutShort image p
+IsUnclean image (faults.Short p) = IsPlainCut image p
+IsUnclean image faults.Geos = IsGeosCut image
 IsUnclean image fault = IsCleanFault image fault
 
 -- it is so, and this holds of its layout

@@ -2,12 +2,28 @@
 ghost use Rattle.std.specs.Prelude.{◌≡◌, IfErr, IfOk};
 ghost use Rattle.d64_image.specs.Memory.{disk_image, sectors_in};
 ghost use Rattle.disk_changes.specs.Judged.{IsCleanDisk, IsSoundWhole, IsTaken, IsUnclean, IsUnsoundOrShort, IsUntaken};
+ghost use Rattle.d64_image.specs.Images.{sector};
+ghost use Rattle.disk_changes.specs.mended.Kinds.{IsCutRefusal};
+ghost use Rattle.disk_layout.specs.Directory.{map_place as map_at};
 
 use command_faults::{CommandFault, load};
-use d64_image::MemDisk;
+use crate::mended::kinds::has_geos_sign;
+use d64_image::{MemDisk, Place};
 use damaged_files::{Loss, find_cut};
+use disk_layout::map_place;
 use layout_check::check;
 use std::alloc::Global;
+
+/// Why a disk of which a file is cut short here isn't changed: `Geos` if it is one of GEOS, otherwise `Short`.
+fn cut_refusal(disk: &MemDisk, place: Place) -> CommandFault
+    ensures { IsCutRefusal (sector (disk_image disk.now) map_at) place result }
+{
+    if has_geos_sign(disk.sector(map_place())) {
+        CommandFault::Geos
+    } else {
+        CommandFault::Short(place)
+    }
+}
 
 /// The disk of an image in memory, if it is sound and no file of it is cut short.
 pub(crate) fn sound_disk(alloc: Global, image: &[u8]) -> Result<MemDisk, CommandFault>
@@ -16,7 +32,7 @@ pub(crate) fn sound_disk(alloc: Global, image: &[u8]) -> Result<MemDisk, Command
 {
     let mut disk = load(alloc, image)?;
     match find_cut(&mut disk, None)? {
-        Some(place) => Err(CommandFault::Short(place)),
+        Some(place) => Err(cut_refusal(&disk, place)),
         None => Ok(disk),
     }
 }
@@ -31,7 +47,7 @@ pub(crate) fn taken_disk(alloc: Global, image: &[u8], cut: Loss) -> Result<MemDi
     match cut {
         Loss::Accepted => Ok(disk),
         Loss::Refused => match find_cut(&mut disk, None) {
-            Ok(Some(place)) => Err(CommandFault::Short(place)),
+            Ok(Some(place)) => Err(cut_refusal(&disk, place)),
             Ok(None) => Ok(disk),
             Err(_) => Ok(disk),
         },

@@ -1,17 +1,27 @@
 -- What is printed of a drawing holds of the image's layout, where it has one.
-use Rattle.std.proofs.Common.{List, ℕ, Option, subst}
+use Rattle.std.proofs.Common.{List, ℕ, Option, refl, subst}
+use Rattle.std.specs.Io.KnownBytes.{Appends}
 use Rattle.d64_image.specs.Images.{Sector}
 use Rattle.d64_image.specs.Memory.{sectors_in}
 use Rattle.disk_layout.specs.Layout.{IsLayout, Layout}
-use Rattle.disk_layout.specs.declared.faults.Fault.{Fault}
 use Rattle.disk_pictures.proofs.Sound.{drawn-own}
 use Rattle.disk_pictures.specs.Held.{drawn_in}
-use Rattle.disk_pictures.specs.Outcomes.{IsJudged, map_in}
+use Rattle.disk_pictures.specs.Outcomes.{IsDrawnAs, IsJudged}
 use Rattle.disk_pictures.specs.declared.drawing.Drawing.{Drawing}
+use Rattle.disk_pictures.specs.declared.verdicts.Verdict.{Verdict}
 
-pub of-layout : (P : Sector → Layout → Type 0) (image : List ℕ) (drawing : Drawing) (found : Option Fault)
-    → IsJudged image drawing found
-    → P drawing.map (drawn_in drawing) → (l : Layout) → IsLayout (sectors_in image) l → P (map_in image) l
-of-layout P image drawing found judged printed l is =
-    subst (P (map_in image)) (drawn-own (sectors_in image) l (drawn_in drawing) is judged.judged.drawn)
-    (subst (λ (map : Sector). P map (drawn_in drawing)) judged.map printed)
+module _ {W : Type 0} (contents : W → Option (List ℕ)) (text : Verdict → Sector → Layout → List ℕ) (image : List ℕ)
+    (drawing : Drawing) (v : Verdict) (judged : IsJudged image drawing v) (old new : W)
+    (printed : Appends (contents old) (contents new) (text v drawing.map (drawn_in drawing))) where
+  pub as-drawn : IsDrawnAs contents text image (drawn_in drawing) old new v.found
+  as-drawn = record {
+    verdict = v;
+    judged = judged.judged;
+    found_is = refl;
+    printed = subst (λ (map : Sector). Appends (contents old) (contents new) (text v map (drawn_in drawing))) judged.map
+        printed;
+  }
+
+  pub of-layout : (l : Layout) → IsLayout (sectors_in image) l → IsDrawnAs contents text image l old new v.found
+  of-layout l is = subst (λ (m : Layout). IsDrawnAs contents text image m old new v.found)
+      (drawn-own (sectors_in image) l (drawn_in drawing) is judged.judged.drawn) as-drawn

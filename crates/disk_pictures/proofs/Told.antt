@@ -1,16 +1,16 @@
 -- The parts of what is told of a disk, as they are written one after another.
 use Rattle.std.proofs.Common.{◌≡◌, ◌++◌, ℕ, List, refl}
-use Rattle.std.specs.Prelude.{Option, codes, slice_range}
+use Rattle.std.specs.Prelude.{codes, slice_range}
 use Rattle.d64_image.specs.Images.{Sector}
 use Rattle.disk_layout.specs.Layout.{Layout}
-use Rattle.disk_layout.specs.declared.faults.Fault.{Fault}
 use Rattle.disk_pictures.specs.Html.{html_of}
 use Rattle.reached_disk.specs.Names.{disk_name}
 use Rattle.disk_pictures.specs.Pictures.{told_text, verdict_class}
 use Rattle.disk_pictures.specs.Sentences.{summary_text}
 use Rattle.disk_pictures.specs.Texts.{verdict_text}
+use Rattle.disk_pictures.specs.declared.verdicts.Verdict.{Verdict}
 
-pub told-written : (v : Option Fault) (map : Sector) (l : Layout) (id version class name : List ℕ)
+pub told-written : (v : Verdict) (map : Sector) (l : Layout) (id version class name : List ℕ)
     → id ≡ slice_range map 162 164
     → version ≡ slice_range map 165 167
     → class ≡ verdict_class v

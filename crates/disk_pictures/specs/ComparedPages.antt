@@ -41,10 +41,10 @@ unfoldable pub compared_legend : List ℕ
 compared_legend = codes
     ".</p>\n<ul>\n<li class=\"differs\"><i></i>a sector that differs has a line along it</li>\n<li class=\"map\"><i></i>map of free sectors</li>\n<li class=\"dir\"><i></i>directory</li>\n<li class=\"free\"><i></i>free</li>\n<li class=\"lost\"><i></i>taken in the map, in no file</li>\n<li class=\"open\"><i></i>in use, but free in the map</li>\n<li class=\"fault\"><i></i>the fault, with a mark at the rim</li>\n</ul>\n<table>\n<tr><th></th><th></th><th>name</th><th>differs in</th><th>records</th></tr>\n"
 
--- with which disk it is compared: its name and what a check of it reports; and how many sectors differ
+-- with which disk it is compared: its name and what is reported of it; and how many sectors differ
 unfoldable pub compared_text : Show → Disk → Disk → List ℕ
 compared_text show a b =
-    compared_head ++ (show (disk_name a.map) ++ (codes " (" ++ (verdict_text a.found ++ (codes "). Sectors that differ: "
+    compared_head ++ (show (disk_name a.map) ++ (codes " (" ++ (verdict_text a.verdict ++ (codes "). Sectors that differ: "
     ++ (decimal (differences a.image b.image) ++ compared_legend)))))
 
 -- in what a file differs: its entry, its sectors, its contents
@@ -126,8 +126,8 @@ changes_text show signs a b =
 -- the page, by how bytes of the disks are shown
 unfoldable pub comparison_text : Show → Show → Disk → Disk → List ℕ
 comparison_text show signs a b =
-    title_text show signs b.map ++ (told_text show b.found b.map b.layout
-    ++ (drawing_text show b.found b.map b.layout ++ (marks_text a.image b.image
+    title_text show signs b.map ++ (told_text show b.verdict b.map b.layout
+    ++ (drawing_text show b.verdict.found b.map b.layout ++ (marks_text a.image b.image
     ++ (compared_text show a b ++ (changes_text show signs a b ++ end_text)))))
 
 -- the comparison of two disks

@@ -7,17 +7,17 @@ use Rattle.d64_image.specs.Places.{index_of}
 use Rattle.d64_image.specs.declared.place.Place.{Place}
 use Rattle.disk_layout.specs.Chain.{byte}
 use Rattle.disk_layout.specs.Layout.{File, Layout, record_length}
-use Rattle.disk_layout.specs.declared.faults.Fault.{Fault}
 use Rattle.reached_disk.specs.Names.{name_of}
 use Rattle.disk_pictures.specs.Pictures.{each_place}
 use Rattle.disk_pictures.specs.Texts.{any_below, has_records, records_in}
+use Rattle.disk_pictures.specs.declared.verdicts.Verdict.{Verdict}
 
--- a disk of a comparison: its sectors, its 18/0, what is drawn of it, and what a check reports
+-- a disk of a comparison: its sectors, its 18/0, what is drawn of it, and what is reported of it
 pub record Disk : Type 0 where
   pub image : Image
   pub map : Sector
   pub layout : Layout
-  pub found : Option Fault
+  pub verdict : Verdict
 
 -- the two disks hold other bytes at this place
 abbrev pub differs : Image → Image → Place → Bool

@@ -13,6 +13,7 @@ use Rattle.reached_disk.specs.Names.{name_of}
 use Rattle.disk_pictures.specs.Texts.{at_place, each_below, has_records, is_fault_at, is_free, numbered, records_in}
 use Rattle.reached_disk.specs.Types.{type_text}
 use Rattle.disk_pictures.specs.Texts.{verdict_text}
+use Rattle.disk_pictures.specs.declared.verdicts.Verdict.{Verdict}
 use Rattle.disk_pictures.specs.declared.owners.Owner.{Owner}
 use Rattle.disk_pictures.specs.declared.owners.Owner.TheVariants as owner
 
@@ -121,6 +122,6 @@ abbrev pub tracks_text : Bool → Option Fault → Sector → Layout → List �
 tracks_text wide v map l = if wide then wide_tracks v map l else narrow_tracks v map l
 
 -- the map: the tracks, the entries, and the result of a check
-unfoldable pub map_text : Option Fault → Sector → Layout → List ℕ
+unfoldable pub map_text : Verdict → Sector → Layout → List ℕ
 map_text v map l =
-    tracks_text (is_wide l) v map l ++ (numbered (entry_line (is_wide l)) 0 l.files ++ (verdict_text v ++ codes "\n"))
+    tracks_text (is_wide l) v.found map l ++ (numbered (entry_line (is_wide l)) 0 l.files ++ (verdict_text v ++ codes "\n"))

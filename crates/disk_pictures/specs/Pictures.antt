@@ -22,6 +22,7 @@ use Rattle.disk_pictures.specs.Sentences.{summary_text}
 use Rattle.disk_pictures.specs.Texts.{verdict_text}
 use Rattle.reached_disk.specs.Types.{type_text}
 use Rattle.disk_pictures.specs.declared.owners.Owner.{Owner}
+use Rattle.disk_pictures.specs.declared.verdicts.Verdict.{Verdict}
 use Rattle.disk_pictures.specs.declared.owners.Owner.TheVariants as owner
 
 -- the classes of entry k: one of twelve colours, and one of four shapes for entries of one colour: three widths, and half
@@ -183,7 +184,7 @@ fault_group (Some f) = fault_sector f
 -- the page's style
 unfoldable pub style : List ℕ
 style = codes
-    ":root{color-scheme:light dark}body{margin:24px;background:#fbfaf7;color:#222;font:14px/1.4 ui-monospace,Menlo,Consolas,\"DejaVu Sans Mono\",monospace}h1{font-size:20px;margin:0}h1,p{overflow-wrap:anywhere}bdi:not(:empty){margin-left:2ch}p{margin:4px 0 12px}a{color:inherit}main{display:grid;gap:16px 32px;grid-template-columns:minmax(0,720px) minmax(0,1fr)}main>div{max-height:calc(100vh - 130px);overflow:auto}main>svg{width:100%;height:auto}table{border-collapse:collapse}td,th{padding:1px 8px;text-align:right;white-space:pre}tr>:nth-child(3),tr>:nth-child(4){text-align:left}td a{display:inline-block;max-width:20ch;overflow:hidden;text-overflow:ellipsis;vertical-align:bottom;text-decoration:none}td a:hover,td a:focus{max-width:none;text-decoration:underline}ul{list-style:none;padding:0;margin:0 0 12px}li{margin:0 0 2px}i{display:inline-block;box-sizing:border-box;width:12px;height:12px;margin:0 6px 0 0;background:currentColor;background-clip:content-box;vertical-align:-1px}.bad b{color:#b00000}.good b{color:#17692b}circle{fill:none;stroke-width:700}.w1 circle{stroke-width:540}.w2 circle{stroke-width:390}i.w1{padding:1.5px 0}i.w2{padding:3px 0}i.w3{padding:0 4px}text{font:1100px ui-monospace,Menlo,Consolas,\"DejaVu Sans Mono\",monospace;fill:#444;text-anchor:middle}.n{pointer-events:none;fill:none;stroke:#444;stroke-width:120}.n text{paint-order:stroke;stroke:#fbfaf7;stroke-width:300}.free{stroke:#e8e4d9}.lost{stroke:#7b7567}.map{stroke:#161616}.dir{stroke:#5e5e5e}.edge{stroke:#fff;stroke-width:1500}.fault{stroke:#d40000;stroke-width:1100}.open circle{stroke:#fff;stroke-width:200;pointer-events:none}.free i{color:#e8e4d9}.lost i{color:#7b7567}.map i{color:#161616}.dir i{color:#5e5e5e}.fault i{color:#d40000}.side i{background:linear-gradient(90deg,#999 50%,#444 50%)}.open i{background:linear-gradient(#999 40%,#fff 40%,#fff 60%,#999 60%)}.c0{stroke:#8c8259;color:#8c8259}.c0 .s{stroke:#4d4831}.c1{stroke:#1c9182;color:#1c9182}.c1 .s{stroke:#0f5048}.c2{stroke:#4b75ff;color:#4b75ff}.c2 .s{stroke:#29408c}.c3{stroke:#e320ba;color:#e320ba}.c3 .s{stroke:#7d1266}.c4{stroke:#406c83;color:#406c83}.c4 .s{stroke:#233b48}.c5{stroke:#716046;color:#716046}.c5 .s{stroke:#3e3526}.c6{stroke:#3a4353;color:#3a4353}.c6 .s{stroke:#20252e}.c7{stroke:#4a3934;color:#4a3934}.c7 .s{stroke:#291f1d}.c8{stroke:#0c0bca;color:#0c0bca}.c8 .s{stroke:#07066f}.c9{stroke:#5d0476;color:#5d0476}.c9 .s{stroke:#330241}.c10{stroke:#630a00;color:#630a00}.c10 .s{stroke:#360600}.c11{stroke:#041c33;color:#041c33}.c11 .s{stroke:#020f1c}g:target circle{stroke-width:800}svg:has(g:target) g g:not(:target):not(#f){opacity:.15}.all{visibility:hidden}main:has(g:target) .all{visibility:visible}main:not(:has(circle.free)) li.free{display:none}main:not(:has(circle.lost)) li.lost{display:none}main:not(:has(circle.s)) li.side{display:none}main:not(:has(.open circle)) li.open{display:none}main:not(:has(circle.fault)) li.fault{display:none}@media(max-width:900px){body{margin:12px}main{display:block}main>div{max-height:none}}@media screen and (prefers-color-scheme:dark){body{background:#15171b;color:#e6e6e6}text{fill:#c8c8c8}.n{stroke:#c8c8c8}.n text{stroke:#15171b}.free{stroke:#2a2d34}.lost{stroke:#8b8d92}.map{stroke:#fff}.dir{stroke:#9aa0aa}.edge{stroke:#15171b}.fault{stroke:#ff4a3d}.bad b{color:#ff7a70}.good b{color:#6fd08c}.free i{color:#2a2d34}.lost i{color:#8b8d92}.map i{color:#fff}.dir i{color:#9aa0aa}.fault i{color:#ff4a3d}.c0{stroke:#627c6e;color:#627c6e}.c0 .s{stroke:#b0beb6}.c1{stroke:#85748f;color:#85748f}.c1 .s{stroke:#c2bac7}.c2{stroke:#aa46f5;color:#aa46f5}.c2 .s{stroke:#d4a2fa}.c3{stroke:#2fa067;color:#2fa067}.c3 .s{stroke:#97d0b3}.c4{stroke:#7b92c5;color:#7b92c5}.c4 .s{stroke:#bdc8e2}.c5{stroke:#2fcd81;color:#2fcd81}.c5 .s{stroke:#97e6c0}.c6{stroke:#96baff;color:#96baff}.c6 .s{stroke:#cadcff}.c7{stroke:#d2bf02;color:#d2bf02}.c7 .s{stroke:#e8df80}.c8{stroke:#c9c5be;color:#c9c5be}.c8 .s{stroke:#e4e2de}.c9{stroke:#c4d2e6;color:#c4d2e6}.c9 .s{stroke:#e2e8f2}.c10{stroke:#a5fdbe;color:#a5fdbe}.c10 .s{stroke:#d2fede}.c11{stroke:#fff700;color:#fff700}.c11 .s{stroke:#fffb80}}@page{size:A4;margin:10mm}@media print{*{print-color-adjust:exact;-webkit-print-color-adjust:exact}body{margin:0;font-size:10px}main{display:block}main>svg{display:block;width:130mm;margin:0 auto}main>div{max-height:none;overflow:visible;columns:90mm;font-size:7px;line-height:1.15}main>div:has(tr:nth-child(81)){columns:60mm}main>div:has(tr:nth-child(81)) bdi{display:none}td,th{padding:0 3px}i{width:9px;height:7px}i.w1{padding:1px 0}i.w2{padding:2px 0}i.w3{padding:0 3px}.hint,.all{display:none}}"
+    ":root{color-scheme:light dark}body{margin:24px;background:#fbfaf7;color:#222;font:14px/1.4 ui-monospace,Menlo,Consolas,\"DejaVu Sans Mono\",monospace}h1{font-size:20px;margin:0}h1,p{overflow-wrap:anywhere}bdi:not(:empty){margin-left:2ch}p{margin:4px 0 12px}a{color:inherit}main{display:grid;gap:16px 32px;grid-template-columns:minmax(0,720px) minmax(0,1fr)}main>div{max-height:calc(100vh - 130px);overflow:auto}main>svg{width:100%;height:auto}table{border-collapse:collapse}td,th{padding:1px 8px;text-align:right;white-space:pre}tr>:nth-child(3),tr>:nth-child(4){text-align:left}td a{display:inline-block;max-width:20ch;overflow:hidden;text-overflow:ellipsis;vertical-align:bottom;text-decoration:none}td a:hover,td a:focus{max-width:none;text-decoration:underline}ul{list-style:none;padding:0;margin:0 0 12px}li{margin:0 0 2px}i{display:inline-block;box-sizing:border-box;width:12px;height:12px;margin:0 6px 0 0;background:currentColor;background-clip:content-box;vertical-align:-1px;forced-color-adjust:none}.bad b{color:#b00000}.good b{color:#17692b}circle{fill:none;stroke-width:700}.w1 circle{stroke-width:540}.w2 circle{stroke-width:390}i.w1{padding:1.5px 0}i.w2{padding:3px 0}i.w3{padding:0 4px}text{font:1100px ui-monospace,Menlo,Consolas,\"DejaVu Sans Mono\",monospace;fill:#444;text-anchor:middle}.n{pointer-events:none;fill:none;stroke:#444;stroke-width:120}.n text{paint-order:stroke;stroke:#fbfaf7;stroke-width:300}.free{stroke:#e8e4d9}.lost{stroke:#9898aa}.map{stroke:#161616}.dir{stroke:#5e5e5e}.edge{stroke:#fff;stroke-width:1500}.fault{stroke:#d40000;stroke-width:1100}.open circle{stroke:#fff;stroke-width:200;pointer-events:none}.free i{color:#e8e4d9}.lost i{color:#9898aa}.map i{color:#161616}.dir i{color:#5e5e5e}.fault i{color:#d40000}.side i{background:linear-gradient(90deg,#999 50%,#444 50%)}.open i{background:linear-gradient(#999 40%,#fff 40%,#fff 60%,#999 60%)}.c0{stroke:#8c8259;color:#8c8259}.c0 .s{stroke:#4d4831}.c1{stroke:#1c9182;color:#1c9182}.c1 .s{stroke:#0f5048}.c2{stroke:#4b75ff;color:#4b75ff}.c2 .s{stroke:#29408c}.c3{stroke:#e320ba;color:#e320ba}.c3 .s{stroke:#7d1266}.c4{stroke:#406c83;color:#406c83}.c4 .s{stroke:#233b48}.c5{stroke:#716046;color:#716046}.c5 .s{stroke:#3e3526}.c6{stroke:#3a4353;color:#3a4353}.c6 .s{stroke:#20252e}.c7{stroke:#4a3934;color:#4a3934}.c7 .s{stroke:#291f1d}.c8{stroke:#0c0bca;color:#0c0bca}.c8 .s{stroke:#07066f}.c9{stroke:#5d0476;color:#5d0476}.c9 .s{stroke:#330241}.c10{stroke:#630a00;color:#630a00}.c10 .s{stroke:#360600}.c11{stroke:#041c33;color:#041c33}.c11 .s{stroke:#020f1c}g:target circle{stroke-width:800}svg:has(g:target) g g:not(:target):not(#f){opacity:.15}.all{visibility:hidden}main:has(g:target) .all{visibility:visible}main:not(:has(circle.free)) li.free{display:none}main:not(:has(circle.lost)) li.lost{display:none}main:not(:has(circle.s)) li.side{display:none}main:not(:has(.open circle)) li.open{display:none}main:not(:has(circle.fault)) li.fault{display:none}@media(max-width:900px){body{margin:12px}main{display:block}main>div{max-height:none}}@media screen and (prefers-color-scheme:dark){body{background:#15171b;color:#e6e6e6}text{fill:#c8c8c8}.n{stroke:#c8c8c8}.n text{stroke:#15171b}.free{stroke:#2a2d34}.lost{stroke:#a29c93}.map{stroke:#fff}.dir{stroke:#9aa0aa}.edge{stroke:#15171b}.fault{stroke:#ff4a3d}.bad b{color:#ff7a70}.good b{color:#6fd08c}.free i{color:#2a2d34}.lost i{color:#a29c93}.map i{color:#fff}.dir i{color:#9aa0aa}.fault i{color:#ff4a3d}.c0{stroke:#627c6e;color:#627c6e}.c0 .s{stroke:#b0beb6}.c1{stroke:#85748f;color:#85748f}.c1 .s{stroke:#c2bac7}.c2{stroke:#aa46f5;color:#aa46f5}.c2 .s{stroke:#d4a2fa}.c3{stroke:#2fa067;color:#2fa067}.c3 .s{stroke:#97d0b3}.c4{stroke:#7b92c5;color:#7b92c5}.c4 .s{stroke:#bdc8e2}.c5{stroke:#2fcd81;color:#2fcd81}.c5 .s{stroke:#97e6c0}.c6{stroke:#96baff;color:#96baff}.c6 .s{stroke:#cadcff}.c7{stroke:#d2bf02;color:#d2bf02}.c7 .s{stroke:#e8df80}.c8{stroke:#c9c5be;color:#c9c5be}.c8 .s{stroke:#e4e2de}.c9{stroke:#c4d2e6;color:#c4d2e6}.c9 .s{stroke:#e2e8f2}.c10{stroke:#a5fdbe;color:#a5fdbe}.c10 .s{stroke:#d2fede}.c11{stroke:#fff700;color:#fff700}.c11 .s{stroke:#fffb80}}@page{size:A4;margin:10mm}@media print{*{print-color-adjust:exact;-webkit-print-color-adjust:exact}body{margin:0;font-size:10px}main{display:block}main>svg{display:block;width:130mm;margin:0 auto}main>div{max-height:none;overflow:visible;columns:90mm;font-size:7px;line-height:1.15}main>div:has(tr:nth-child(81)){columns:60mm}main>div:has(tr:nth-child(81)) bdi{display:none}td,th{padding:0 3px}i{width:9px;height:7px}i.w1{padding:1px 0}i.w2{padding:2px 0}i.w3{padding:0 3px}tr:first-child{break-after:avoid}.hint,.all{display:none}}"
 
 -- the dash of each ring: the arc of a sector less 200, and then nothing; and half as long, for entries of the fourth shape
 unfoldable pub dashes : List ℕ
@@ -191,9 +192,14 @@ dashes = codes
     "[r=\"34600\"]{stroke-dasharray:10152 300000}[r=\"33800\"]{stroke-dasharray:9912 300000}[r=\"33000\"]{stroke-dasharray:9673 300000}[r=\"32200\"]{stroke-dasharray:9434 300000}[r=\"31400\"]{stroke-dasharray:9194 300000}[r=\"30600\"]{stroke-dasharray:8955 300000}[r=\"29800\"]{stroke-dasharray:8716 300000}[r=\"29000\"]{stroke-dasharray:8476 300000}[r=\"28200\"]{stroke-dasharray:8237 300000}[r=\"27400\"]{stroke-dasharray:7998 300000}[r=\"26600\"]{stroke-dasharray:7758 300000}[r=\"25800\"]{stroke-dasharray:7519 300000}[r=\"25000\"]{stroke-dasharray:7279 300000}[r=\"24200\"]{stroke-dasharray:7040 300000}[r=\"23400\"]{stroke-dasharray:6801 300000}[r=\"22600\"]{stroke-dasharray:6561 300000}[r=\"21800\"]{stroke-dasharray:6322 300000}[r=\"21000\"]{stroke-dasharray:6744 300000}[r=\"20200\"]{stroke-dasharray:6480 300000}[r=\"19400\"]{stroke-dasharray:6215 300000}[r=\"18600\"]{stroke-dasharray:5950 300000}[r=\"17800\"]{stroke-dasharray:5686 300000}[r=\"17000\"]{stroke-dasharray:5421 300000}[r=\"16200\"]{stroke-dasharray:5157 300000}[r=\"15400\"]{stroke-dasharray:5175 300000}[r=\"14600\"]{stroke-dasharray:4896 300000}[r=\"13800\"]{stroke-dasharray:4617 300000}[r=\"13000\"]{stroke-dasharray:4337 300000}[r=\"12200\"]{stroke-dasharray:4058 300000}[r=\"11400\"]{stroke-dasharray:3779 300000}[r=\"10600\"]{stroke-dasharray:3717 300000}[r=\"9800\"]{stroke-dasharray:3422 300000}[r=\"9000\"]{stroke-dasharray:3126 300000}[r=\"8200\"]{stroke-dasharray:2830 300000}[r=\"7400\"]{stroke-dasharray:2535 300000}.w3 [r=\"34600\"]{stroke-dasharray:0 2538 5076 300000}.w3 [r=\"33800\"]{stroke-dasharray:0 2478 4956 300000}.w3 [r=\"33000\"]{stroke-dasharray:0 2418 4836 300000}.w3 [r=\"32200\"]{stroke-dasharray:0 2358 4717 300000}.w3 [r=\"31400\"]{stroke-dasharray:0 2298 4597 300000}.w3 [r=\"30600\"]{stroke-dasharray:0 2238 4477 300000}.w3 [r=\"29800\"]{stroke-dasharray:0 2179 4358 300000}.w3 [r=\"29000\"]{stroke-dasharray:0 2119 4238 300000}.w3 [r=\"28200\"]{stroke-dasharray:0 2059 4118 300000}.w3 [r=\"27400\"]{stroke-dasharray:0 1999 3999 300000}.w3 [r=\"26600\"]{stroke-dasharray:0 1939 3879 300000}.w3 [r=\"25800\"]{stroke-dasharray:0 1879 3759 300000}.w3 [r=\"25000\"]{stroke-dasharray:0 1819 3639 300000}.w3 [r=\"24200\"]{stroke-dasharray:0 1760 3520 300000}.w3 [r=\"23400\"]{stroke-dasharray:0 1700 3400 300000}.w3 [r=\"22600\"]{stroke-dasharray:0 1640 3280 300000}.w3 [r=\"21800\"]{stroke-dasharray:0 1580 3161 300000}.w3 [r=\"21000\"]{stroke-dasharray:0 1686 3372 300000}.w3 [r=\"20200\"]{stroke-dasharray:0 1620 3240 300000}.w3 [r=\"19400\"]{stroke-dasharray:0 1553 3107 300000}.w3 [r=\"18600\"]{stroke-dasharray:0 1487 2975 300000}.w3 [r=\"17800\"]{stroke-dasharray:0 1421 2843 300000}.w3 [r=\"17000\"]{stroke-dasharray:0 1355 2710 300000}.w3 [r=\"16200\"]{stroke-dasharray:0 1289 2578 300000}.w3 [r=\"15400\"]{stroke-dasharray:0 1293 2587 300000}.w3 [r=\"14600\"]{stroke-dasharray:0 1224 2448 300000}.w3 [r=\"13800\"]{stroke-dasharray:0 1154 2308 300000}.w3 [r=\"13000\"]{stroke-dasharray:0 1084 2168 300000}.w3 [r=\"12200\"]{stroke-dasharray:0 1014 2029 300000}.w3 [r=\"11400\"]{stroke-dasharray:0 944 1889 300000}.w3 [r=\"10600\"]{stroke-dasharray:0 929 1858 300000}.w3 [r=\"9800\"]{stroke-dasharray:0 855 1711 300000}.w3 [r=\"9000\"]{stroke-dasharray:0 781 1563 300000}.w3 [r=\"8200\"]{stroke-dasharray:0 707 1415 300000}.w3 [r=\"7400\"]{stroke-dasharray:0 633 1267 300000}"
 
 -- how the result of a check is styled
-abbrev pub verdict_class : Option Fault → List ℕ
-verdict_class None = codes "good"
-verdict_class (Some f) = codes "bad"
+abbrev pub class_by : Option Fault → Option Place → List ℕ
+class_by None None = codes "good"
+class_by None (Some p) = codes "bad"
+class_by (Some f) cut = codes "bad"
+
+-- the same of a verdict
+abbrev pub verdict_class : Verdict → List ℕ
+verdict_class v = class_by v.found v.cut
 
 -- the head of the page: the disk's name, as it is typed and as a C64 shows it, and the style
 unfoldable pub title_text : Show → Show → Sector → List ℕ
@@ -205,7 +211,7 @@ title_text show signs map =
 
 -- what follows: id and version; the verdict and what it says; the number of files, and free blocks as the map counts
 -- them. Then the beginning of the drawing, with the disk's name in the middle
-unfoldable pub told_text : Show → Option Fault → Sector → Layout → List ℕ
+unfoldable pub told_text : Show → Verdict → Sector → Layout → List ℕ
 told_text show v map l =
     show (slice_range map 162 164)
     ++ (codes " " ++ (show (slice_range map 165 167) ++ (codes "</p>\n<p class=\"" ++ (verdict_class v
@@ -251,11 +257,11 @@ drawing_text show v map l =
     ++ (others_group map l ++ (open_group map l ++ fault_group v)))
 
 -- the page
-unfoldable pub page_text : Show → Show → Option Fault → Sector → Layout → List ℕ
+unfoldable pub page_text : Show → Show → Verdict → Sector → Layout → List ℕ
 page_text show signs v map l =
-    title_text show signs map ++ (told_text show v map l ++ (drawing_text show v map l ++ (legend_text
+    title_text show signs map ++ (told_text show v map l ++ (drawing_text show v.found map l ++ (legend_text
     ++ (numbered (row_text show signs) 0 l.files ++ end_text))))
 
 -- the picture of a disk
-abbrev pub picture_page : Option Fault → Sector → Layout → List ℕ
+abbrev pub picture_page : Verdict → Sector → Layout → List ℕ
 picture_page v map l = page_text html_of petscii_of v map l

@@ -1,11 +1,10 @@
 -- The poster of a disk: an SVG file of its own, 297 by 420 units. All of it is our own. Bytes of the disk stand in it as `show`
 -- shows them, and names also as `signs` does, and in no other way. The poster that is printed shows them by `html_of` and
 -- `petscii_of`.
-use Rattle.std.specs.Prelude.{ℕ, ◌+◌, ◌*◌, ◌/◌, ◌%◌, List, ◌++◌, Option, codes, decimal, slice_range}
+use Rattle.std.specs.Prelude.{ℕ, ◌+◌, ◌*◌, ◌/◌, ◌%◌, List, ◌++◌, codes, decimal, slice_range}
 use Rattle.d64_image.specs.Images.{Sector}
 use Rattle.disk_layout.specs.Directory.{type_byte}
 use Rattle.disk_layout.specs.Layout.{File, Layout, count_field}
-use Rattle.disk_layout.specs.declared.faults.Fault.{Fault}
 use Rattle.disk_pictures.specs.Html.{Show, html_of}
 use Rattle.reached_disk.specs.Names.{disk_name, name_of}
 use Rattle.disk_pictures.specs.Petscii.{petscii_of}
@@ -13,11 +12,12 @@ use Rattle.disk_pictures.specs.Pictures.{dashes, drawing_text, look}
 use Rattle.disk_pictures.specs.Sentences.{summary_text}
 use Rattle.reached_disk.specs.Types.{type_text}
 use Rattle.disk_pictures.specs.Texts.{numbered}
+use Rattle.disk_pictures.specs.declared.verdicts.Verdict.{Verdict}
 
 -- the poster's style
 unfoldable pub poster_style : List ℕ
 poster_style = codes
-    "text{font:2.2px ui-monospace,Menlo,Consolas,\"DejaVu Sans Mono\",monospace;fill:#222}.paper{fill:#fbfaf7}.name{font-size:12px;text-anchor:middle}.told{font-size:4px;text-anchor:middle}.hub{font-size:1100px;text-anchor:middle}.e{text-anchor:end}circle{fill:none;stroke-width:700}.w1 circle{stroke-width:540}.w2 circle{stroke-width:390}path{fill:none;stroke-width:2}path.w1{stroke-width:1.5}path.w2{stroke-width:1}path.w3{stroke-width:2;stroke-dasharray:0 .75 1.5 9}.n text{font-size:1100px;text-anchor:middle;fill:#444;paint-order:stroke;stroke:#fbfaf7;stroke-width:300}.n path{stroke:#444;stroke-width:120}.free{stroke:#e8e4d9}.lost{stroke:#7b7567}.map{stroke:#161616}.dir{stroke:#5e5e5e}.edge{stroke:#fff;stroke-width:1500}.fault{stroke:#d40000}circle.fault{stroke-width:1100}.open circle{stroke:#fff;stroke-width:200}.white{stroke:#fff;stroke-width:.6}.side{stroke:#4d4831}.c0{stroke:#8c8259}.c0 .s{stroke:#4d4831}.c1{stroke:#1c9182}.c1 .s{stroke:#0f5048}.c2{stroke:#4b75ff}.c2 .s{stroke:#29408c}.c3{stroke:#e320ba}.c3 .s{stroke:#7d1266}.c4{stroke:#406c83}.c4 .s{stroke:#233b48}.c5{stroke:#716046}.c5 .s{stroke:#3e3526}.c6{stroke:#3a4353}.c6 .s{stroke:#20252e}.c7{stroke:#4a3934}.c7 .s{stroke:#291f1d}.c8{stroke:#0c0bca}.c8 .s{stroke:#07066f}.c9{stroke:#5d0476}.c9 .s{stroke:#330241}.c10{stroke:#630a00}.c10 .s{stroke:#360600}.c11{stroke:#041c33}.c11 .s{stroke:#020f1c}"
+    "text{font:2.2px ui-monospace,Menlo,Consolas,\"DejaVu Sans Mono\",monospace;fill:#222}.paper{fill:#fbfaf7}.name{font-size:12px;text-anchor:middle}.told{font-size:4px;text-anchor:middle}.hub{font-size:1100px;text-anchor:middle}.e{text-anchor:end}circle{fill:none;stroke-width:700}.w1 circle{stroke-width:540}.w2 circle{stroke-width:390}path{fill:none;stroke-width:2}path.w1{stroke-width:1.5}path.w2{stroke-width:1}path.w3{stroke-width:2;stroke-dasharray:0 .75 1.5 9}.n text{font-size:1100px;text-anchor:middle;fill:#444;paint-order:stroke;stroke:#fbfaf7;stroke-width:300}.n path{stroke:#444;stroke-width:120}.free{stroke:#e8e4d9}.lost{stroke:#9898aa}.map{stroke:#161616}.dir{stroke:#5e5e5e}.edge{stroke:#fff;stroke-width:1500}.fault{stroke:#d40000}circle.fault{stroke-width:1100}.open circle{stroke:#fff;stroke-width:200}.white{stroke:#fff;stroke-width:.6}.side{stroke:#4d4831}.c0{stroke:#8c8259}.c0 .s{stroke:#4d4831}.c1{stroke:#1c9182}.c1 .s{stroke:#0f5048}.c2{stroke:#4b75ff}.c2 .s{stroke:#29408c}.c3{stroke:#e320ba}.c3 .s{stroke:#7d1266}.c4{stroke:#406c83}.c4 .s{stroke:#233b48}.c5{stroke:#716046}.c5 .s{stroke:#3e3526}.c6{stroke:#3a4353}.c6 .s{stroke:#20252e}.c7{stroke:#4a3934}.c7 .s{stroke:#291f1d}.c8{stroke:#0c0bca}.c8 .s{stroke:#07066f}.c9{stroke:#5d0476}.c9 .s{stroke:#330241}.c10{stroke:#630a00}.c10 .s{stroke:#360600}.c11{stroke:#041c33}.c11 .s{stroke:#020f1c}"
 
 -- the head of the poster, from 18/0: the disk's name, as it is typed and as a C64 shows it, and the style
 unfoldable pub poster_head : Show → Show → Sector → List ℕ
@@ -30,7 +30,7 @@ poster_head show signs map =
 
 -- what follows: id and version, the result of a check as a sentence, and the beginning of the drawing, with the disk's
 -- name in the middle
-unfoldable pub poster_told : Show → Option Fault → Sector → Layout → List ℕ
+unfoldable pub poster_told : Show → Verdict → Sector → Layout → List ℕ
 poster_told show v map l =
     show (slice_range map 162 164) ++ (codes " " ++ (show (slice_range map 165 167)
     ++ (codes "</text>\n<text class=\"told\" x=\"148.5\" y=\"40\">" ++ (summary_text show v map l
@@ -65,11 +65,11 @@ poster_line show signs k f =
     ++ (codes "</text></g><text x=\"41.5\" y=\"2.3\">" ++ (signs (name_of f.slot) ++ codes "</text></svg>\n"))))))))
 
 -- the poster, by how bytes of the disk are shown
-unfoldable pub poster_text : Show → Show → Option Fault → Sector → Layout → List ℕ
+unfoldable pub poster_text : Show → Show → Verdict → Sector → Layout → List ℕ
 poster_text show signs v map l =
-    poster_head show signs map ++ (poster_told show v map l ++ (drawing_text show v map l ++ (poster_legend
+    poster_head show signs map ++ (poster_told show v map l ++ (drawing_text show v.found map l ++ (poster_legend
     ++ (numbered (poster_line show signs) 0 l.files ++ codes "</svg>\n"))))
 
 -- the poster of a disk
-abbrev pub poster_of : Option Fault → Sector → Layout → List ℕ
+abbrev pub poster_of : Verdict → Sector → Layout → List ℕ
 poster_of v map l = poster_text html_of petscii_of v map l

@@ -14,6 +14,7 @@ use Rattle.disk_pictures.specs.Html.{Show}
 use Rattle.reached_disk.specs.Names.{name_of}
 use Rattle.disk_layout.specs.Number.{place_of}
 use Rattle.disk_pictures.specs.declared.owners.Owner.{Owner}
+use Rattle.disk_pictures.specs.declared.verdicts.Verdict.{Verdict}
 use Rattle.disk_pictures.specs.declared.owners.Owner.TheVariants as owner
 
 -- only the owner, if it has the sector
@@ -87,15 +88,20 @@ words_after (fault.CountWrong p) = codes " has a wrong block count; "
 words_after (fault.MapWrong p) = codes "; "
 words_after (fault.Device p) = codes "; "
 
+-- what is said of a disk without a fault: that a file is cut short, if one is
+abbrev pub sound_text : Option Place → List ℕ
+sound_text None = codes "Sound: "
+sound_text (Some p) = codes "A file is cut short at sector " ++ (place_text p ++ codes "; ")
+
 -- what a verdict says, as the beginning of a sentence
-abbrev pub sentence_text : Show → Layout → Option Fault → List ℕ
-sentence_text show l None = codes "Sound: "
-sentence_text show l (Some (fault.OwnedTwice p)) =
+abbrev pub sentence_text : Show → Layout → Option Fault → Option Place → List ℕ
+sentence_text show l None cut = sound_text cut
+sentence_text show l (Some (fault.OwnedTwice p)) cut =
     shared_text show l p (slice_get (owners_of l p) 0) (slice_get (owners_of l p) 1)
-sentence_text show l (Some f) = words_before f ++ (place_text (place_of f) ++ words_after f)
+sentence_text show l (Some f) cut = words_before f ++ (place_text (place_of f) ++ words_after f)
 
 -- and with the number of files and of free blocks as the map counts them
-unfoldable pub summary_text : Show → Option Fault → Sector → Layout → List ℕ
+unfoldable pub summary_text : Show → Verdict → Sector → Layout → List ℕ
 summary_text show v map l =
-    sentence_text show l v ++ (decimal (length l.files) ++ (codes " files, "
+    sentence_text show l v.found v.cut ++ (decimal (length l.files) ++ (codes " files, "
     ++ (decimal (blocks_free map) ++ codes " of 664 blocks free")))

@@ -7,9 +7,10 @@ use Rattle.d64_image.specs.declared.place.Place.{Place}
 use Rattle.disk_layout.specs.Layout.{File, is_rel, record_length}
 use Rattle.disk_layout.specs.Map.{map_bit}
 use Rattle.disk_layout.specs.Number.{place_of}
-use Rattle.disk_layout.specs.Texts.{fault_text}
+use Rattle.disk_layout.specs.Texts.{fault_text, place_text}
 use Rattle.disk_layout.specs.declared.faults.Fault.{Fault}
 use Rattle.disk_pictures.specs.Drawings.{is_place}
+use Rattle.disk_pictures.specs.declared.verdicts.Verdict.{Verdict}
 
 -- the lines of 0, 1 and so on below n
 unfoldable pub each_below : ℕ → (ℕ → List ℕ) → List ℕ
@@ -45,10 +46,15 @@ abbrev pub is_fault_at : Option Fault → Place → Bool
 is_fault_at None p = false
 is_fault_at (Some f) p = is_place (place_of f) p
 
--- the result of a check: OK if nothing is wrong
-abbrev pub verdict_text : Option Fault → List ℕ
-verdict_text None = codes "OK"
-verdict_text (Some f) = fault_text f
+-- the fault; otherwise where the first file ends that is cut short; otherwise OK
+abbrev pub verdict_by : Option Fault → Option Place → List ℕ
+verdict_by None None = codes "OK"
+verdict_by None (Some p) = codes "SHORT " ++ place_text p
+verdict_by (Some f) cut = fault_text f
+
+-- the same of a verdict
+abbrev pub verdict_text : Verdict → List ℕ
+verdict_text v = verdict_by v.found v.cut
 
 -- record length and records are printed: the entry is relative and has both a length and a block
 abbrev pub has_records : File → Bool

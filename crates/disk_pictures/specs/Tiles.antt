@@ -8,6 +8,7 @@ use Rattle.disk_pictures.specs.Html.{html_of}
 use Rattle.disk_pictures.specs.Outcomes.{IsDrawnAndJudged, IsPictureFault, map_in}
 use Rattle.disk_pictures.specs.Petscii.{petscii_of}
 use Rattle.disk_pictures.specs.Sheets.{refused_tile, tile_text}
+use Rattle.disk_pictures.specs.declared.verdicts.Verdict.{Verdict}
 use Rattle.command_faults.specs.declared.faults.CommandFault.{CommandFault}
 use Rattle.command_faults.specs.declared.faults.CommandFault.TheVariants as faults
 
@@ -20,10 +21,10 @@ found_status (Some fault) = 1
 pub record IsDrawnTile {W : Type 0} (contents : W → Option (List ℕ)) (path image : List ℕ) (old new : W) (status : ℕ) :
     Type 0 where
   pub layout : Layout
-  pub found : Option Fault
-  pub judged : IsDrawnAndJudged image layout found
-  pub printed : Appends (contents old) (contents new) (tile_text html_of petscii_of path found (map_in image) layout)
-  pub status_is : status ≡ found_status found
+  pub verdict : Verdict
+  pub judged : IsDrawnAndJudged image layout verdict
+  pub printed : Appends (contents old) (contents new) (tile_text html_of petscii_of path verdict (map_in image) layout)
+  pub status_is : status ≡ found_status verdict.found
 
 -- the image can't be drawn, for a reason that holds, and its tile, which has that reason, was passed to the output
 pub record IsFaultTile {W : Type 0} (contents : W → Option (List ℕ)) (path image : List ℕ) (old new : W) (status : ℕ) :

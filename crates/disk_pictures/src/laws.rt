@@ -19,6 +19,7 @@ ghost use Rattle.disk_pictures.specs.Sheets.{refused_tile, small_drawing, tile_t
 ghost use Rattle.disk_pictures.specs.Texts.{is_fault_at};
 ghost use Rattle.disk_pictures.specs.TileSectors.{small_by};
 ghost use Rattle.disk_pictures.specs.declared.owners.Owner.{Owner};
+ghost use Rattle.disk_pictures.specs.declared.verdicts.Verdict.{Verdict};
 ghost use Rattle.disk_pictures.specs.declared.owners.Owner.TheVariants as kinds;
 
 /// Names, id and version of a disk bring nothing but text into a page, a poster or a tile. As they are shown there, typed
@@ -30,11 +31,11 @@ pub fn names_bring_no_markup()
     ensures escaped { (bytes : List ℕ) → IsEscaped (html_of bytes) }
     ensures signs { (bytes : List ℕ) → (markup_of (petscii_of bytes) ≡ []) × IsEscaped (petscii_of bytes) }
     ensures short { (bytes : List ℕ) → length bytes ≤ 16 → length (html_of bytes) ≤ 48 }
-    ensures page { (v : Option Fault) (map : Sector) (l : Layout)
+    ensures page { (v : Verdict) (map : Sector) (l : Layout)
         → markup_of (picture_page v map l) ≡ markup_of (page_text (λ _. []) (λ _. []) v map l) }
-    ensures poster { (v : Option Fault) (map : Sector) (l : Layout)
+    ensures poster { (v : Verdict) (map : Sector) (l : Layout)
         → markup_of (poster_of v map l) ≡ markup_of (poster_text (λ _. []) (λ _. []) v map l) }
-    ensures tile { (path : List ℕ) (v : Option Fault) (map : Sector) (l : Layout)
+    ensures tile { (path : List ℕ) (v : Verdict) (map : Sector) (l : Layout)
         → markup_of (tile_text html_of petscii_of path v map l) ≡ markup_of (tile_text (λ _. []) (λ _. []) path v map l) }
     ensures refused { (path told : List ℕ)
         → markup_of (refused_tile html_of path told) ≡ markup_of (refused_tile (λ _. []) path told) }

@@ -6,7 +6,7 @@ ghost use Rattle.disk_layout.specs.Layout.{IsLayout, Layout};
 ghost use Rattle.disk_pictures.specs.Drawings.{file_in};
 ghost use Rattle.disk_pictures.specs.Held.{drawn_in};
 ghost use Rattle.disk_pictures.specs.Maps.{entry_line, is_wide as wide_of, map_text, records_text};
-ghost use Rattle.disk_pictures.specs.Outcomes.{IsMapPrinted, IsPictureFault, map_in};
+ghost use Rattle.disk_pictures.specs.Outcomes.{IsDrawnAs, IsMapPrinted, IsPictureFault};
 ghost use Rattle.disk_pictures.specs.Texts.{numbered};
 ghost use Rattle.command_faults.specs.declared.faults.CommandFault.TheVariants as faults;
 
@@ -14,8 +14,7 @@ use crate::drawing::Drawing;
 use crate::drawn_file::DrawnFile;
 use crate::map_tracks::print_either_tracks;
 use crate::signs::EntryMark;
-use crate::texts::VerdictText;
-use crate::verdicts::judged;
+use crate::verdicts::{Verdict, judged};
 use command_faults::{CommandFault, flush, print_text};
 use disk_layout::{EntryView, Fault};
 use line_text::Text;
@@ -96,25 +95,22 @@ fn print_entries<W: Write>(out: &mut W, wide: bool, files: &[DrawnFile]) -> Resu
 }
 
 /// Prints the map.
-fn print_map<W: Write>(
-    out: &mut W,
-    found: Option<Fault>,
-    drawing: &Drawing,
-) -> Result<(), CommandFault>
+fn print_map<W: Write>(out: &mut W, verdict: Verdict, drawing: &Drawing) -> Result<(), CommandFault>
     ensures ok { OnOk result (Appends (W.contents out.old) (W.contents out.new)
-        (map_text found drawing.now.map (drawn_in drawing.now))) }
+        (map_text verdict drawing.now.map (drawn_in drawing.now))) }
     ensures err { IfErr result (λ fault. fault ≡ faults.File) }
 {
     let wide = is_wide(drawing);
-    print_either_tracks(out, wide, found, drawing)?;
+    print_either_tracks(out, wide, verdict.found, drawing)?;
     print_entries(out, wide, drawing.files.as_slice())?;
-    print_text(out, VerdictText(found))?;
+    print_text(out, verdict)?;
     print_text(out, "\n")?;
     flush(out)
 }
 
 /// Prints which sector is whose, for a terminal: a line for each track, with a mark for each of its sectors, and a line
-/// for each entry. At last stands what a check of the disk reports, which is also the result. A damaged disk is drawn as
+/// for each entry. At last stands what a check of the disk reports, which is also the result, or if that is nothing, where the
+/// first file is cut short. A damaged disk is drawn as
 /// far as its links go. The map of a sound disk is that of its layout.
 ///
 /// `*` is the map, and `=` the directory. A letter is a block of the entry whose line begins with it, and the capital one
@@ -131,11 +127,11 @@ pub fn map_image<W: Write>(
 ) -> Result<Option<Fault>, CommandFault>
     ensures ok { IfOk result (IsMapPrinted W.contents image.now out.old out.new) }
     ensures sound { IfOk result (λ found. (l : Layout) → IsLayout (sectors_in image.now) l
-        → Appends (W.contents out.old) (W.contents out.new) (map_text found (map_in image.now) l)) }
+        → IsDrawnAs W.contents map_text image.now l out.old out.new found) }
     ensures err { IfErr result (IsPictureFault image.now) }
     ensures untouched { IfErr result (λ fault. (fault ≢ faults.File) → out.new ≡ out.old) }
 {
-    let (drawing, found) = judged(alloc, image)?;
-    print_map(out, found, &drawing)?;
-    Ok(found)
+    let (drawing, verdict) = judged(alloc, image)?;
+    print_map(out, verdict, &drawing)?;
+    Ok(verdict.found)
 }

@@ -2,13 +2,12 @@
 ghost use Rattle.std.specs.Prelude.{◌≡◌, ◌≤◌, IfSome, None, Some, if◌then◌else◌};
 ghost use Rattle.disk_layout.specs.Layout.{record_length};
 ghost use Rattle.disk_pictures.specs.Drawings.{file_in};
-ghost use Rattle.disk_pictures.specs.Texts.{has_records, records_in, verdict_text};
+ghost use Rattle.disk_pictures.specs.Texts.{has_records, records_in};
 ghost use Rattle.disk_pictures.specs.Texts.{is_fault_at as fault_at};
 
 use crate::drawn_file::DrawnFile;
 use d64_image::Place;
 use disk_layout::{DATA, EntryView, Fault};
-use std::fmt::{self, Display, Formatter};
 
 /// Whether the fault that was found is at this place.
 pub(crate) fn is_fault_at(found: Option<Fault>, place: Place) -> bool
@@ -17,21 +16,6 @@ pub(crate) fn is_fault_at(found: Option<Fault>, place: Place) -> bool
     match found {
         None => false,
         Some(fault) => place == fault.place(),
-    }
-}
-
-/// The result of a check, as it is printed.
-#[derive(Clone, Copy)]
-pub(crate) struct VerdictText(pub Option<Fault>);
-
-impl Display for VerdictText {
-    ghost output = { λ text. Some (verdict_text text.0) };
-
-    fn fmt<W: fmt::Write>(&self, f: &mut Formatter<W>) -> fmt::Result {
-        match self.0 {
-            None => f.write_str("OK"),
-            Some(fault) => write!(f, "{fault}"),
-        }
     }
 }
 

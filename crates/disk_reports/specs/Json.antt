@@ -3,6 +3,10 @@ use Rattle.std.specs.Prelude.{◌≡◌, ◌≢◌, ◌⊎◌, ℕ, ◌+◌, ◌
 use Rattle.std.specs.Prelude.{if◌then◌else◌, nat_eq, nat_lt}
 use Rattle.line_text.specs.bytes.Texts.{digit}
 
+-- a byte in hexadecimal digits
+abbrev pub digits : ℕ → List ℕ
+digits b = digit (b / 16) ∷ (digit (b % 16) ∷ [])
+
 -- a byte of a string: the quotation mark and the backslash stand after a backslash, a control character is \u and four
 -- hexadecimal digits, such as \u001b, and every other byte is as it is
 unfoldable pub json_char : ℕ → List ℕ

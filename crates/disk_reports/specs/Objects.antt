@@ -9,7 +9,9 @@ use Rattle.disk_layout.specs.Texts.{fault_text, place_text}
 use Rattle.disk_layout.specs.View.{blocks_free}
 use Rattle.disk_layout.specs.declared.faults.Fault.{Fault}
 use Rattle.disk_layout.specs.declared.slot.Slot.{Slot}
-use Rattle.disk_reports.specs.Json.{json_string}
+use Rattle.disk_reports.specs.Json.{digits, json_string}
+use Rattle.sha1.specs.Sha1.{sha1}
+use Rattle.sha2.specs.Sha256.{sha256}
 use Rattle.reached_disk.specs.Names.{disk_name, name_of}
 
 -- bytes of the disk as a string: the text that can be typed for them
@@ -37,17 +39,17 @@ abbrev pub disk_name_text : Sector → List ℕ
 disk_name_text map =
     codes ",\"free\":" ++ (decimal (blocks_free map) ++ codes ",\"disk\":") ++ typed (disk_name map)
 
--- where the file ends that is cut short, or has fewer blocks than its entry says, and the end of the object
+-- where the file ends that is cut short, or has fewer blocks than its entry says
 abbrev pub lack_text : Shortfall → List ℕ
-lack_text (lacks.Short p) = codes ",\"short\":\"" ++ (place_text p ++ codes "\",\"fewer\":null}\n")
-lack_text (lacks.Fewer p) = codes ",\"short\":null,\"fewer\":\"" ++ (place_text p ++ codes "\"}\n")
+lack_text (lacks.Short p) = codes ",\"short\":\"" ++ (place_text p ++ codes "\",\"fewer\":null")
+lack_text (lacks.Fewer p) = codes ",\"short\":null,\"fewer\":\"" ++ (place_text p ++ codes "\"")
 
 -- the same, if there is one
 abbrev pub end_text : Option Shortfall → List ℕ
-end_text None = codes ",\"short\":null,\"fewer\":null}\n"
+end_text None = codes ",\"short\":null,\"fewer\":null"
 end_text (Some lack) = lack_text lack
 
--- the disk's name, its id, what a file lacks, and the end of the object
+-- the disk's name, its id, and what a file lacks
 abbrev pub disk_text : Sector → Option Shortfall → List ℕ
 disk_text map lack =
     disk_name_text map ++ (codes ",\"id\":" ++ (typed (slice_range map 162 164) ++ end_text lack))
@@ -64,9 +66,16 @@ files_text files = codes ",\"files\":[" ++ (names_text files ++ codes "]")
 abbrev pub verdict_text : List ℕ → Option Fault → List ℕ
 verdict_text name found = head_text name ++ (codes ",\"size\":174848,\"verdict\":" ++ found_text found)
 
+-- the SHA-1 and the SHA-256 of the image, and the end of the object
+abbrev pub hashes_text : List ℕ → List ℕ
+hashes_text image =
+    codes ",\"sha1\":\"" ++ (flat_map digits (sha1 image) ++ (codes "\",\"sha256\":\""
+    ++ (flat_map digits (sha256 image) ++ codes "\"}\n")))
+
 -- the object of an image
-abbrev pub object_text : List ℕ → Option Fault → List Slot → Sector → Option Shortfall → List ℕ
-object_text name found files map lack = verdict_text name found ++ (files_text files ++ disk_text map lack)
+abbrev pub object_text : List ℕ → Option Fault → List Slot → Sector → Option Shortfall → List ℕ → List ℕ
+object_text name found files map lack image =
+    verdict_text name found ++ (files_text files ++ (disk_text map lack ++ hashes_text image))
 
 -- the size of a file, if it is known
 abbrev pub size_text : Option ℕ → List ℕ
@@ -81,4 +90,4 @@ refused_head name size = head_text name ++ (codes ",\"size\":" ++ (size_text siz
 abbrev pub refused_text : List ℕ → Option ℕ → List ℕ → List ℕ
 refused_text name size why =
     refused_head name size ++ (json_string why
-    ++ codes ",\"track\":null,\"sector\":null,\"files\":[],\"free\":null,\"disk\":null,\"id\":null,\"short\":null,\"fewer\":null}\n")
+    ++ codes ",\"track\":null,\"sector\":null,\"files\":[],\"free\":null,\"disk\":null,\"id\":null,\"short\":null,\"fewer\":null,\"sha1\":null,\"sha256\":null}\n")

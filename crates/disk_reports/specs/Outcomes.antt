@@ -46,7 +46,7 @@ AreFound img None files = files ≡ []
 AreFound img (Some fault) files = AreFilesOf img fault files
 
 -- The image was described on an output that held `old` and holds `new`: by the object of what a check finds, with the
--- files that this concerns, and of what its files lack.
+-- files that this concerns, of what its files lack, and of its hashes.
 pub record IsDescribed {W : Type 0} (contents : W → Option (List ℕ)) (name image : List ℕ) (old new : W)
     (found : Option Fault) : Type 0 where
   pub size : length image ≡ 174848
@@ -56,7 +56,7 @@ pub record IsDescribed {W : Type 0} (contents : W → Option (List ℕ)) (name i
   pub lack : Option Shortfall
   pub lacks : IsShortfallOf (sectors_in image) lack
   pub printed : Appends (contents old) (contents new)
-      (object_text name found files (sector (sectors_in image) map_place) lack)
+      (object_text name found files (sector (sectors_in image) map_place) lack image)
 
 -- the line of the first file that is cut short
 abbrev pub cut_line : Option Place → List ℕ

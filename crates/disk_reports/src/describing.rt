@@ -17,8 +17,9 @@ use std::io::Write;
 
 /// Prints an object of JSON, in a line of its own, that describes the image: its name and size, and what a check finds,
 /// as `check` prints it. Then follow the track and the sector of a fault, as numbers, and the names of the files that the
-/// fault concerns, as they can be typed. Last are the free blocks as the map counts them, the disk's name and id, and the
-/// sector where the first file ends that is cut short, or has fewer blocks than its entry says. Returns the fault.
+/// fault concerns, as they can be typed. Then come the free blocks as the map counts them, the disk's name and id, and the
+/// sector where the first file ends that is cut short, or has fewer blocks than its entry says. Last are the SHA-1 and the
+/// SHA-256 of the image, in hexadecimal digits. Returns the fault.
 ///
 /// `ImageSize`; `NoMemory`: nothing was printed then. `File` if the output failed, which may then have a part.
 pub fn describe_image<W: Write>(
@@ -38,7 +39,7 @@ pub fn describe_image<W: Write>(
     list_files(&mut disk, found, &mut files);
     let lack = find_shortfall(&mut disk);
     let map = disk.sector(map_place());
-    match print_object(out, name, found, files.as_slice(), map, lack) {
+    match print_object(out, name, found, files.as_slice(), map, lack, image) {
         Ok(()) => Ok(found),
         Err(_) => Err(CommandFault::File),
     }

@@ -2,7 +2,7 @@
 ghost use Rattle.std.specs.Prelude.{◌≡◌, ◌<◌, OnOk, flat_map};
 ghost use Rattle.std.specs.Io.KnownBytes.{Appends};
 ghost use Rattle.line_text.specs.bytes.Texts.{digit as digit_of};
-ghost use Rattle.disk_reports.specs.Json.{json_char, json_string};
+ghost use Rattle.disk_reports.specs.Json.{digits, json_char, json_string};
 ghost use Rattle.disk_reports.specs.Objects.{typed};
 
 use arrayvec::ArrayVec;
@@ -54,6 +54,23 @@ pub(crate) fn print_string<W: Write>(out: &mut W, bytes: &[u8]) -> io::Result<()
     out.write_all(b"\"")?;
     print_chars(out, bytes)?;
     out.write_all(b"\"")
+}
+
+/// Writes the two digits of a byte.
+fn print_digits<W: Write>(out: &mut W, byte: u8) -> io::Result<()>
+    ensures { OnOk result (Appends (W.contents out.old) (W.contents out.new) (digits byte)) }
+{
+    out.write_all(&[digit(byte / 16), digit(byte % 16)])
+}
+
+/// Writes bytes in hexadecimal digits.
+pub(crate) fn print_hex<W: Write>(out: &mut W, bytes: &[u8]) -> io::Result<()>
+    ensures { OnOk result (Appends (W.contents out.old) (W.contents out.new) (flat_map digits bytes.now)) }
+{
+    for &byte in bytes {
+        print_digits(out, byte)?;
+    }
+    Ok(())
 }
 
 /// Writes as a string the text that can be typed for a name on the disk.

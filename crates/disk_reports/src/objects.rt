@@ -1,13 +1,15 @@
 //! Objects of JSON, written.
 ghost use Rattle.std.specs.Prelude.{◌≡◌, OnOk, flat_map};
 ghost use Rattle.std.specs.Io.KnownBytes.{Appends};
-ghost use Rattle.disk_reports.specs.Objects.{disk_name_text, disk_text, end_text, files_text, found_text, head_text, lack_text, names_text, next_name};
+ghost use Rattle.disk_reports.specs.Objects.{disk_name_text, disk_text, end_text, files_text, found_text, hashes_text, head_text, lack_text, names_text, next_name};
 ghost use Rattle.disk_reports.specs.Objects.{object_text, refused_head, refused_text, size_text, verdict_text};
 
-use crate::json::{print_string, print_typed};
+use crate::json::{print_hex, print_string, print_typed};
 use damaged_files::Shortfall;
 use disk_layout::{BamView, Fault, Slot};
 use reached_disk::{disk_name, entry_name};
+use sha1::Sha1;
+use sha2::{Digest, Sha256};
 use std::io::{self, Write};
 
 /// Writes what an object begins with.
@@ -82,18 +84,18 @@ fn print_disk_name<W: Write>(out: &mut W, map: &[u8; 256]) -> io::Result<()>
     print_typed(out, disk_name(map))
 }
 
-/// Writes what a file lacks, and the end of the object.
+/// Writes what a file lacks.
 fn print_shortfall<W: Write>(out: &mut W, lack: Shortfall) -> io::Result<()>
     ensures { OnOk result (Appends (W.contents out.old) (W.contents out.new) (lack_text lack)) }
 {
     match lack {
         Shortfall::Short(place) => {
             let (track, sector) = (place.track(), place.sector());
-            writeln!(out, ",\"short\":\"{track}/{sector}\",\"fewer\":null}}")
+            write!(out, ",\"short\":\"{track}/{sector}\",\"fewer\":null")
         }
         Shortfall::Fewer(place) => {
             let (track, sector) = (place.track(), place.sector());
-            writeln!(out, ",\"short\":null,\"fewer\":\"{track}/{sector}\"}}")
+            write!(out, ",\"short\":null,\"fewer\":\"{track}/{sector}\"")
         }
     }
 }
@@ -103,12 +105,12 @@ fn print_end<W: Write>(out: &mut W, lack: Option<Shortfall>) -> io::Result<()>
     ensures { OnOk result (Appends (W.contents out.old) (W.contents out.new) (end_text lack)) }
 {
     match lack {
-        None => out.write_all(b",\"short\":null,\"fewer\":null}\n"),
+        None => out.write_all(b",\"short\":null,\"fewer\":null"),
         Some(lack) => print_shortfall(out, lack),
     }
 }
 
-/// Writes what 18/0 says of the disk, what a file lacks, and the end.
+/// Writes what 18/0 says of the disk, and what a file lacks.
 fn print_disk<W: Write>(out: &mut W, map: &[u8; 256], lack: Option<Shortfall>) -> io::Result<()>
     ensures { OnOk result (Appends (W.contents out.old) (W.contents out.new) (disk_text map.now lack)) }
 {
@@ -127,8 +129,19 @@ fn print_verdict<W: Write>(out: &mut W, name: &[u8], found: Option<Fault>) -> io
     print_found(out, found)
 }
 
-/// Writes the object of an image of which a check finds this, with the files that this concerns, the bytes of 18/0, and what
-/// the files lack.
+/// Writes the hashes of an image, and the end of its object.
+fn print_hashes<W: Write>(out: &mut W, image: &[u8]) -> io::Result<()>
+    ensures { OnOk result (Appends (W.contents out.old) (W.contents out.new) (hashes_text image.now)) }
+{
+    out.write_all(b",\"sha1\":\"")?;
+    print_hex(out, &Sha1::digest(image))?;
+    out.write_all(b"\",\"sha256\":\"")?;
+    print_hex(out, &Sha256::digest(image))?;
+    out.write_all(b"\"}\n")
+}
+
+/// Writes the object of an image of which a check finds this, with the files that this concerns, the bytes of 18/0, what
+/// the files lack, and the image's hashes.
 pub(crate) fn print_object<W: Write>(
     out: &mut W,
     name: &[u8],
@@ -136,13 +149,15 @@ pub(crate) fn print_object<W: Write>(
     files: &[Slot],
     map: &[u8; 256],
     lack: Option<Shortfall>,
+    image: &[u8],
 ) -> io::Result<()>
     ensures { OnOk result (Appends (W.contents out.old) (W.contents out.new)
-        (object_text name.now found files.now map.now lack)) }
+        (object_text name.now found files.now map.now lack image.now)) }
 {
     print_verdict(out, name, found)?;
     print_files(out, files)?;
-    print_disk(out, map, lack)
+    print_disk(out, map, lack)?;
+    print_hashes(out, image)
 }
 
 /// Writes a size, if it is known.
@@ -177,6 +192,6 @@ pub(crate) fn print_refused<W: Write>(
     print_refused_head(out, name, size)?;
     print_string(out, why)?;
     out.write_all(
-        b",\"track\":null,\"sector\":null,\"files\":[],\"free\":null,\"disk\":null,\"id\":null,\"short\":null,\"fewer\":null}\n",
+        b",\"track\":null,\"sector\":null,\"files\":[],\"free\":null,\"disk\":null,\"id\":null,\"short\":null,\"fewer\":null,\"sha1\":null,\"sha256\":null}\n",
     )
 }

@@ -71,8 +71,8 @@ fn look_among<W: Write>(
 }
 
 /// Prints what is asked of one of several images. The lines are those that the command prints of this image alone, after a
-/// check `SHORT` and where its first file is cut short, and the line that it would report on standard error. Each stands after the image's name, a colon and a space. Returns the
-/// exit status that the command would have.
+/// check `SHORT` and where its first file is cut short, and the line that it would report on standard error. Each stands
+/// after the image's name, a colon and a space. Returns the exit status that the command would have.
 ///
 /// `File` if the output failed, which may then have a part; `NoMemory`, and nothing is printed.
 pub fn overview_run<W: Write>(

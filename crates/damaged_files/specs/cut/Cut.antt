@@ -2,7 +2,7 @@
 -- than its side sectors or its block count say. Chains, side sectors, counts and the map are those of the 1541 User's
 -- Guide; what counts as cut is our own.
 use Rattle.std.specs.Prelude.{◌≡◌, ◌⊎◌, ℕ, ◌-◌, ◌/◌, ◌<◌, ◌∷◌, ◌||◌, IsSome, IsTrue}
-use Rattle.std.specs.Prelude.{Some, [], length, Contains, replicate, slice_get}
+use Rattle.std.specs.Prelude.{None, Option, Some, [], length, Contains, replicate, slice_get}
 use Rattle.d64_image.specs.Images.{Image, sector}
 use Rattle.d64_image.specs.declared.place.Place.{Place}
 use Rattle.disk_layout.specs.Chain.{named_at}
@@ -23,9 +23,15 @@ pub record IsListedPast (img : Image) (never_grows : Type 0) (f : File) : Type 0
 abbrev pub IsVlir : Slot → Type 0
 IsVlir s = IsSome (named_at s.bytes 21) × (record_length s ≡ 1)
 
--- the entry of a SEQ, PRG or USR counts more than n blocks, and those that it counts are a chain
+-- an entry that names the info block of a file of GEOS counts it, too
+abbrev pub info_blocks : Option Place → ℕ
+info_blocks None = 0
+info_blocks (Some p) = 1
+
+-- the entry of a SEQ, PRG or USR counts more than n blocks of a chain, and those that it counts are one
 abbrev pub CountsMore : Slot → ℕ → Type 0
-CountsMore s n = IsTrue (is_plain s) × ¬ (IsVlir s) × (n < count_field s)
+CountsMore s n =
+    IsTrue (is_plain s) × ¬ (IsVlir s) × (n < count_field s - info_blocks (named_at s.bytes 21))
 
 -- The chain of the file, which ends at p, is too short: its side sectors list more; or its block count is greater while
 -- the map has strays; or a sector of zeros ends it, as imaging tools leave one that they couldn't read.

@@ -4,7 +4,8 @@ ghost use Rattle.d64_image.specs.Images.{sector};
 ghost use Rattle.d64_image.specs.Memory.{disk_image};
 ghost use Rattle.d64_image.specs.declared.place.Place.{Place};
 ghost use Rattle.disk_layout.specs.Layout.{File, IsFile};
-ghost use Rattle.damaged_files.specs.cut.Cut.{CountsMore, HasFewer, IsCutIn, IsShort, IsVlir};
+ghost use Rattle.disk_layout.specs.Chain.{named_at};
+ghost use Rattle.damaged_files.specs.cut.Cut.{CountsMore, HasFewer, IsCutIn, IsShort, IsVlir, info_blocks as info_of};
 
 use crate::cut::listed::is_listed_past;
 use crate::cut::names::{is_plain, never_grows};
@@ -57,12 +58,23 @@ fn is_vlir(slot: &Slot) -> bool
     entry.first_side().is_some() && entry.record_length() == 1
 }
 
+/// How many blocks the entry counts beside its chain: the info block of a file of GEOS.
+fn info_blocks(slot: &Slot) -> usize
+    ensures { result ≡ info_of (named_at slot.now.bytes 21) }
+{
+    match EntryView::new(&slot.bytes).first_side() {
+        None => 0,
+        Some(_) => 1,
+    }
+}
+
 /// Whether the entry of a SEQ, PRG or USR counts more blocks of a chain than this number.
 fn counts_more(slot: &Slot, blocks: usize) -> bool
     ensures { IsTrue result ↔ CountsMore slot.now blocks }
 {
     let entry = EntryView::new(&slot.bytes);
-    is_plain(slot) && !is_vlir(slot) && blocks < entry.block_count() as usize
+    let counted = (entry.block_count() as usize).saturating_sub(info_blocks(slot));
+    is_plain(slot) && !is_vlir(slot) && blocks < counted
 }
 
 /// Whether the sector holds nothing but zeros.

@@ -2,6 +2,7 @@
 -- the directory header. For the 1541: its format byte (Inside Commodore DOS).
 use Rattle.std.specs.Prelude.{◌≡◌, codes, slice_index, slice_range}
 use Rattle.d64_image.specs.Images.{Sector}
+use Rattle.d64_image.specs.declared.place.Place.{Place}
 use Rattle.command_faults.specs.declared.faults.CommandFault.{CommandFault}
 use Rattle.command_faults.specs.declared.faults.CommandFault.TheVariants as faults
 
@@ -23,3 +24,9 @@ abbrev pub IsKindFault : Sector → CommandFault → Type 0
 IsKindFault bytes faults.Geos = HasGeosSign bytes
 IsKindFault bytes faults.Format = ¬ (HasFormatByte bytes)
 IsKindFault bytes _ = ⊥
+
+-- why a disk with this 18/0 isn't changed of which a file is cut short at p: GEOS comes first
+abbrev pub IsCutRefusal : Sector → Place → CommandFault → Type 0
+IsCutRefusal bytes p faults.Geos = HasGeosSign bytes
+IsCutRefusal bytes p (faults.Short q) = (q ≡ p) × ¬ (HasGeosSign bytes)
+IsCutRefusal bytes p _ = ⊥

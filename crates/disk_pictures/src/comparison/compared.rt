@@ -1,11 +1,10 @@
-//! A disk of a comparison: its sectors, what is drawn of it, and what a check reports.
+//! A disk of a comparison: its sectors, what is drawn of it, and what is reported of it.
 ghost use Rattle.std.specs.Prelude.{◌≡◌, length};
 
 use crate::drawing::Drawing;
-use crate::verdicts::judged;
+use crate::verdicts::{Verdict, judged};
 use command_faults::CommandFault;
 use d64_image::Place;
-use disk_layout::Fault;
 use std::alloc::Global;
 
 /// A disk of a comparison.
@@ -15,8 +14,8 @@ pub(crate) struct Compared<'a> {
     pub(crate) sectors: &'a [[u8; 256]],
     /// What is drawn of it.
     pub(crate) drawing: Drawing,
-    /// What a check of it reports.
-    pub(crate) found: Option<Fault>,
+    /// What is reported of it.
+    pub(crate) verdict: Verdict,
     pub ghost full: { length sectors.now ≡ 683 },
 }
 
@@ -33,12 +32,12 @@ impl<'a> Compared<'a> {
         ensures err { IfErr result (IsPictureFault image.now) }
         ensures not_file { IfErr result (λ fault. fault ≢ faults.File) }
     {
-        let (drawing, found) = judged(alloc, image)?;
+        let (drawing, verdict) = judged(alloc, image)?;
         let (sectors, _) = image.as_chunks::<256>();
         Ok(Compared {
             sectors,
             drawing,
-            found,
+            verdict,
         })
     }
 

@@ -12,7 +12,6 @@ use crate::comparison::differences::{count, print_marks};
 use crate::html::Html;
 use crate::pages::page::{END, Title, Told};
 use crate::pages::picture_printing::print_drawing;
-use crate::texts::VerdictText;
 use command_faults::{CommandFault, flush, print_text};
 use disk_layout::Fault;
 use reached_disk::disk_name;
@@ -45,7 +44,7 @@ impl Display for ComparedText<'_> {
             <li class=\"fault\"><i></i>the fault, with a mark at the rim</li>\n</ul>\n<table>\n\
             <tr><th></th><th></th><th>name</th><th>differs in</th><th>records</th></tr>\n",
             Html(disk_name(&self.before.drawing.map)),
-            VerdictText(self.before.found),
+            self.before.verdict,
             count(self.before, self.after)
         )
     }
@@ -62,10 +61,10 @@ fn print_comparison<W: Write>(
     ensures err { IfErr result (λ fault. fault ≡ faults.File) }
 {
     let drawing = &after.drawing;
-    let found = after.found;
+    let verdict = after.verdict;
     print_text(out, Title(&drawing.map))?;
-    print_text(out, Told { drawing, found })?;
-    print_drawing(out, found, drawing)?;
+    print_text(out, Told { drawing, verdict })?;
+    print_drawing(out, verdict.found, drawing)?;
     print_marks(out, before, after)?;
     print_text(out, ComparedText { before, after })?;
     print_changes(out, before, after)?;
@@ -97,5 +96,5 @@ pub fn compare_images<W: Write>(
     let first = Compared::of(alloc, before)?;
     let second = Compared::of(alloc, after)?;
     print_comparison(out, &first, &second)?;
-    Ok(second.found)
+    Ok(second.verdict.found)
 }

@@ -12,8 +12,8 @@ use crate::html::Html;
 use crate::pages::arcs::Look;
 use crate::pages::sentences::Summary;
 use crate::petscii::Petscii;
-use crate::texts::VerdictText;
-use disk_layout::{BamView, EntryView, Fault};
+use crate::verdicts::Verdict;
+use disk_layout::{BamView, EntryView};
 use reached_disk::{TypeText, disk_name, entry_name};
 use std::fmt::{self, Display, Formatter};
 
@@ -21,21 +21,23 @@ use std::fmt::{self, Display, Formatter};
 /// stay apart for people who are colour-blind, and one of four shapes.
 const STYLE: &str = ":root{color-scheme:light dark}body{margin:24px;background:#fbfaf7;color:#222;\
     font:14px/1.4 ui-monospace,Menlo,Consolas,\"DejaVu Sans Mono\",monospace}h1{font-size:20px;margin:0}\
-    h1,p{overflow-wrap:anywhere}bdi:not(:empty){margin-left:2ch}p{margin:4px 0 12px}a{color:inherit}main{display:grid;gap:16px 32px;\
+    h1,p{overflow-wrap:anywhere}bdi:not(:empty){margin-left:2ch}p{margin:4px 0 12px}a{color:inherit}\
+    main{display:grid;gap:16px 32px;\
     grid-template-columns:minmax(0,720px) minmax(0,1fr)}main>div{max-height:calc(100vh - 130px);overflow:auto}\
     main>svg{width:100%;height:auto}table{border-collapse:collapse}td,th{padding:1px 8px;text-align:right;\
     white-space:pre}tr>:nth-child(3),tr>:nth-child(4){text-align:left}td a{display:inline-block;max-width:20ch;\
     overflow:hidden;text-overflow:ellipsis;vertical-align:bottom;text-decoration:none}\
     td a:hover,td a:focus{max-width:none;text-decoration:underline}ul{list-style:none;padding:0;margin:0 0 12px}\
     li{margin:0 0 2px}i{display:inline-block;box-sizing:border-box;width:12px;height:12px;margin:0 6px 0 0;\
-    background:currentColor;background-clip:content-box;vertical-align:-1px}.bad b{color:#b00000}.good b{color:#17692b}\
+    background:currentColor;background-clip:content-box;vertical-align:-1px;forced-color-adjust:none}\
+    .bad b{color:#b00000}.good b{color:#17692b}\
     circle{fill:none;stroke-width:700}.w1 circle{stroke-width:540}.w2 circle{stroke-width:390}\
     i.w1{padding:1.5px 0}i.w2{padding:3px 0}i.w3{padding:0 4px}\
     text{font:1100px ui-monospace,Menlo,Consolas,\"DejaVu Sans Mono\",monospace;fill:#444;text-anchor:middle}\
     .n{pointer-events:none;fill:none;stroke:#444;stroke-width:120}.n text{paint-order:stroke;stroke:#fbfaf7;\
-    stroke-width:300}.free{stroke:#e8e4d9}.lost{stroke:#7b7567}.map{stroke:#161616}.dir{stroke:#5e5e5e}\
+    stroke-width:300}.free{stroke:#e8e4d9}.lost{stroke:#9898aa}.map{stroke:#161616}.dir{stroke:#5e5e5e}\
     .edge{stroke:#fff;stroke-width:1500}.fault{stroke:#d40000;stroke-width:1100}.open circle{stroke:#fff;\
-    stroke-width:200;pointer-events:none}.free i{color:#e8e4d9}.lost i{color:#7b7567}.map i{color:#161616}\
+    stroke-width:200;pointer-events:none}.free i{color:#e8e4d9}.lost i{color:#9898aa}.map i{color:#161616}\
     .dir i{color:#5e5e5e}.fault i{color:#d40000}.side i{background:linear-gradient(90deg,#999 50%,#444 50%)}\
     .open i{background:linear-gradient(#999 40%,#fff 40%,#fff 60%,#999 60%)}.c0{stroke:#8c8259;color:#8c8259}\
     .c0 .s{stroke:#4d4831}.c1{stroke:#1c9182;color:#1c9182}.c1 .s{stroke:#0f5048}.c2{stroke:#4b75ff;color:#4b75ff}\
@@ -50,9 +52,9 @@ const STYLE: &str = ":root{color-scheme:light dark}body{margin:24px;background:#
     main:not(:has(.open circle)) li.open{display:none}main:not(:has(circle.fault)) li.fault{display:none}\
     @media(max-width:900px){body{margin:12px}main{display:block}main>div{max-height:none}}\
     @media screen and (prefers-color-scheme:dark){body{background:#15171b;color:#e6e6e6}text{fill:#c8c8c8}\
-    .n{stroke:#c8c8c8}.n text{stroke:#15171b}.free{stroke:#2a2d34}.lost{stroke:#8b8d92}.map{stroke:#fff}\
+    .n{stroke:#c8c8c8}.n text{stroke:#15171b}.free{stroke:#2a2d34}.lost{stroke:#a29c93}.map{stroke:#fff}\
     .dir{stroke:#9aa0aa}.edge{stroke:#15171b}.fault{stroke:#ff4a3d}.bad b{color:#ff7a70}.good b{color:#6fd08c}\
-    .free i{color:#2a2d34}.lost i{color:#8b8d92}.map i{color:#fff}.dir i{color:#9aa0aa}.fault i{color:#ff4a3d}\
+    .free i{color:#2a2d34}.lost i{color:#a29c93}.map i{color:#fff}.dir i{color:#9aa0aa}.fault i{color:#ff4a3d}\
     .c0{stroke:#627c6e;color:#627c6e}.c0 .s{stroke:#b0beb6}.c1{stroke:#85748f;color:#85748f}.c1 .s{stroke:#c2bac7}\
     .c2{stroke:#aa46f5;color:#aa46f5}.c2 .s{stroke:#d4a2fa}.c3{stroke:#2fa067;color:#2fa067}.c3 .s{stroke:#97d0b3}\
     .c4{stroke:#7b92c5;color:#7b92c5}.c4 .s{stroke:#bdc8e2}.c5{stroke:#2fcd81;color:#2fcd81}.c5 .s{stroke:#97e6c0}\
@@ -63,7 +65,7 @@ const STYLE: &str = ":root{color-scheme:light dark}body{margin:24px;background:#
     font-size:10px}main{display:block}main>svg{display:block;width:130mm;margin:0 auto}main>div{max-height:none;\
     overflow:visible;columns:90mm;font-size:7px;line-height:1.15}main>div:has(tr:nth-child(81)){columns:60mm}\
     main>div:has(tr:nth-child(81)) bdi{display:none}td,th{padding:0 3px}i{width:9px;height:7px}\
-    i.w1{padding:1px 0}i.w2{padding:2px 0}i.w3{padding:0 3px}.hint,.all{display:none}}";
+    i.w1{padding:1px 0}i.w2{padding:2px 0}i.w3{padding:0 3px}tr:first-child{break-after:avoid}.hint,.all{display:none}}";
 
 /// The dash of each ring: the arc of a sector less 200, and then nothing; and half as long, for entries of the fourth
 /// shape.
@@ -125,13 +127,13 @@ pub(crate) const END: &str = "</table>\n<p class=\"all\"><a href=\"#all\">Show a
     <p class=\"hint\">Point at a sector for its place, file and block. Click a name to see its file alone.</p>\n\
     </div>\n</main>\n";
 
-/// How the result of a check is styled.
-pub(crate) fn class_of(found: Option<Fault>) -> &'static str
-    ensures { result.now ≡ verdict_class found }
+/// How what is reported is styled.
+pub(crate) fn class_of(verdict: Verdict) -> &'static str
+    ensures { result.now ≡ verdict_class verdict }
 {
-    match found {
-        None => "good",
-        Some(_) => "bad",
+    match (verdict.found, verdict.cut) {
+        (None, None) => "good",
+        _ => "bad",
     }
 }
 
@@ -154,24 +156,24 @@ impl Display for Title<'_> {
     }
 }
 
-/// What follows it, from what is drawn and the result of a check, up to the first group of sectors.
+/// What follows it, from what is drawn and reported, up to the first group of sectors.
 #[derive(Clone, Copy)]
 pub(crate) struct Told<'a> {
     /// What is drawn.
     pub drawing: &'a Drawing,
-    /// What a check reports.
-    pub found: Option<Fault>,
+    /// What is reported of it.
+    pub verdict: Verdict,
 }
 
 impl Display for Told<'_> {
-    ghost output = { λ told. Some (told_text html_of told.found told.drawing.now.map (drawn_in told.drawing.now)) };
+    ghost output = { λ told. Some (told_text html_of told.verdict told.drawing.now.map (drawn_in told.drawing.now)) };
 
     fn fmt<W: fmt::Write>(&self, f: &mut Formatter<W>) -> fmt::Result {
         let map = &self.drawing.map;
         let view = BamView::new(map);
         let summary = Summary {
             drawing: self.drawing,
-            found: self.found,
+            verdict: self.verdict,
         };
         write!(
             f,
@@ -182,8 +184,8 @@ impl Display for Told<'_> {
             <text y=\"400\">{}</text></svg>\n<g transform=\"rotate(-90)\" aria-hidden=\"true\">\n",
             Html(view.id()),
             Html(view.version()),
-            class_of(self.found),
-            VerdictText(self.found),
+            class_of(self.verdict),
+            self.verdict,
             Html(disk_name(map))
         )
     }

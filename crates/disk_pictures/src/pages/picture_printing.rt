@@ -7,7 +7,7 @@ ghost use Rattle.disk_pictures.specs.Drawings.{file_in};
 ghost use Rattle.disk_pictures.specs.Held.{drawn_in};
 ghost use Rattle.disk_pictures.specs.Html.{html_of};
 ghost use Rattle.disk_pictures.specs.Petscii.{petscii_of};
-ghost use Rattle.disk_pictures.specs.Outcomes.{IsPictureFault, IsPicturePrinted, map_in};
+ghost use Rattle.disk_pictures.specs.Outcomes.{IsDrawnAs, IsPictureFault, IsPicturePrinted};
 ghost use Rattle.disk_pictures.specs.Pictures.{drawing_text, fault_group, file_group, group_head};
 ghost use Rattle.disk_pictures.specs.Pictures.{own_block, own_side, picture_page, row_text, system_group};
 ghost use Rattle.disk_pictures.specs.Texts.{numbered};
@@ -20,7 +20,7 @@ use crate::pages::arcs::{BlockArc, FaultGroup, Look, PlainArc, SideArc};
 use crate::pages::others::{GROUP_END, print_others};
 use crate::pages::page::{END, LEGEND, Row, Title, Told};
 use crate::pages::white_lines::print_open;
-use crate::verdicts::judged;
+use crate::verdicts::{Verdict, judged};
 use command_faults::{CommandFault, flush, print_text};
 use d64_image::Place;
 use disk_layout::Fault;
@@ -227,16 +227,16 @@ pub(crate) fn print_drawing<W: Write>(
 /// Prints the page.
 fn print_page<W: Write>(
     out: &mut W,
-    found: Option<Fault>,
+    verdict: Verdict,
     drawing: &Drawing,
 ) -> Result<(), CommandFault>
     ensures ok { OnOk result (Appends (W.contents out.old) (W.contents out.new)
-        (picture_page found drawing.now.map (drawn_in drawing.now))) }
+        (picture_page verdict drawing.now.map (drawn_in drawing.now))) }
     ensures err { IfErr result (λ fault. fault ≡ faults.File) }
 {
     print_text(out, Title(&drawing.map))?;
-    print_text(out, Told { drawing, found })?;
-    print_drawing(out, found, drawing)?;
+    print_text(out, Told { drawing, verdict })?;
+    print_drawing(out, verdict.found, drawing)?;
     print_text(out, LEGEND)?;
     print_rows(out, drawing.files.as_slice())?;
     print_text(out, END)?;
@@ -259,11 +259,11 @@ pub fn picture_image<W: Write>(
 ) -> Result<Option<Fault>, CommandFault>
     ensures ok { IfOk result (IsPicturePrinted W.contents image.now out.old out.new) }
     ensures sound { IfOk result (λ found. (l : Layout) → IsLayout (sectors_in image.now) l
-        → Appends (W.contents out.old) (W.contents out.new) (picture_page found (map_in image.now) l)) }
+        → IsDrawnAs W.contents picture_page image.now l out.old out.new found) }
     ensures err { IfErr result (IsPictureFault image.now) }
     ensures untouched { IfErr result (λ fault. (fault ≢ faults.File) → out.new ≡ out.old) }
 {
-    let (drawing, found) = judged(alloc, image)?;
-    print_page(out, found, &drawing)?;
-    Ok(found)
+    let (drawing, verdict) = judged(alloc, image)?;
+    print_page(out, verdict, &drawing)?;
+    Ok(verdict.found)
 }

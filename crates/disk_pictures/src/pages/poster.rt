@@ -13,7 +13,8 @@ use crate::pages::arcs::Look;
 use crate::pages::page::DASHES;
 use crate::pages::sentences::Summary;
 use crate::petscii::Petscii;
-use disk_layout::{BamView, EntryView, Fault};
+use crate::verdicts::Verdict;
+use disk_layout::{BamView, EntryView};
 use reached_disk::{TypeText, disk_name, entry_name};
 use std::fmt::{self, Display, Formatter};
 
@@ -25,7 +26,7 @@ const STYLE: &str =
     .w2 circle{stroke-width:390}path{fill:none;stroke-width:2}path.w1{stroke-width:1.5}path.w2{stroke-width:1}\
     path.w3{stroke-width:2;stroke-dasharray:0 .75 1.5 9}.n text{font-size:1100px;text-anchor:middle;fill:#444;\
     paint-order:stroke;stroke:#fbfaf7;stroke-width:300}.n path{stroke:#444;stroke-width:120}.free{stroke:#e8e4d9}\
-    .lost{stroke:#7b7567}.map{stroke:#161616}.dir{stroke:#5e5e5e}.edge{stroke:#fff;stroke-width:1500}\
+    .lost{stroke:#9898aa}.map{stroke:#161616}.dir{stroke:#5e5e5e}.edge{stroke:#fff;stroke-width:1500}\
     .fault{stroke:#d40000}circle.fault{stroke-width:1100}.open circle{stroke:#fff;stroke-width:200}\
     .white{stroke:#fff;stroke-width:.6}.side{stroke:#4d4831}.c0{stroke:#8c8259}.c0 .s{stroke:#4d4831}\
     .c1{stroke:#1c9182}.c1 .s{stroke:#0f5048}.c2{stroke:#4b75ff}.c2 .s{stroke:#29408c}.c3{stroke:#e320ba}\
@@ -77,24 +78,24 @@ impl Display for Head<'_> {
     }
 }
 
-/// What follows it, from what is drawn and the result of a check, up to the first group of sectors.
+/// What follows it, from what is drawn and reported, up to the first group of sectors.
 #[derive(Clone, Copy)]
 pub(crate) struct Heading<'a> {
     /// What is drawn.
     pub drawing: &'a Drawing,
-    /// What a check reports.
-    pub found: Option<Fault>,
+    /// What is reported of it.
+    pub verdict: Verdict,
 }
 
 impl Display for Heading<'_> {
-    ghost output = { λ told. Some (poster_told html_of told.found told.drawing.now.map (drawn_in told.drawing.now)) };
+    ghost output = { λ told. Some (poster_told html_of told.verdict told.drawing.now.map (drawn_in told.drawing.now)) };
 
     fn fmt<W: fmt::Write>(&self, f: &mut Formatter<W>) -> fmt::Result {
         let map = &self.drawing.map;
         let view = BamView::new(map);
         let summary = Summary {
             drawing: self.drawing,
-            found: self.found,
+            verdict: self.verdict,
         };
         write!(
             f,

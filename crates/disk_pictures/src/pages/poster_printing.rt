@@ -7,7 +7,7 @@ ghost use Rattle.disk_pictures.specs.Drawings.{file_in};
 ghost use Rattle.disk_pictures.specs.Held.{drawn_in};
 ghost use Rattle.disk_pictures.specs.Html.{html_of};
 ghost use Rattle.disk_pictures.specs.Petscii.{petscii_of};
-ghost use Rattle.disk_pictures.specs.Outcomes.{IsPictureFault, IsPosterPrinted, map_in};
+ghost use Rattle.disk_pictures.specs.Outcomes.{IsDrawnAs, IsPictureFault, IsPosterPrinted};
 ghost use Rattle.disk_pictures.specs.Posters.{poster_line, poster_of};
 ghost use Rattle.disk_pictures.specs.Texts.{numbered};
 ghost use Rattle.command_faults.specs.declared.faults.CommandFault.TheVariants as faults;
@@ -16,7 +16,7 @@ use crate::drawing::Drawing;
 use crate::drawn_file::DrawnFile;
 use crate::pages::picture_printing::print_drawing;
 use crate::pages::poster::{END, Head, Heading, LEGEND, Line};
-use crate::verdicts::judged;
+use crate::verdicts::{Verdict, judged};
 use command_faults::{CommandFault, flush, print_text};
 use disk_layout::Fault;
 use std::alloc::Global;
@@ -37,16 +37,16 @@ fn print_lines<W: Write>(out: &mut W, files: &[DrawnFile]) -> Result<(), Command
 /// Prints the poster.
 fn print_poster<W: Write>(
     out: &mut W,
-    found: Option<Fault>,
+    verdict: Verdict,
     drawing: &Drawing,
 ) -> Result<(), CommandFault>
     ensures ok { OnOk result (Appends (W.contents out.old) (W.contents out.new)
-        (poster_of found drawing.now.map (drawn_in drawing.now))) }
+        (poster_of verdict drawing.now.map (drawn_in drawing.now))) }
     ensures err { IfErr result (λ fault. fault ≡ faults.File) }
 {
     print_text(out, Head(&drawing.map))?;
-    print_text(out, Heading { drawing, found })?;
-    print_drawing(out, found, drawing)?;
+    print_text(out, Heading { drawing, verdict })?;
+    print_drawing(out, verdict.found, drawing)?;
     print_text(out, LEGEND)?;
     print_lines(out, drawing.files.as_slice())?;
     print_text(out, END)?;
@@ -68,11 +68,11 @@ pub fn poster_image<W: Write>(
 ) -> Result<Option<Fault>, CommandFault>
     ensures ok { IfOk result (IsPosterPrinted W.contents image.now out.old out.new) }
     ensures sound { IfOk result (λ found. (l : Layout) → IsLayout (sectors_in image.now) l
-        → Appends (W.contents out.old) (W.contents out.new) (poster_of found (map_in image.now) l)) }
+        → IsDrawnAs W.contents poster_of image.now l out.old out.new found) }
     ensures err { IfErr result (IsPictureFault image.now) }
     ensures untouched { IfErr result (λ fault. (fault ≢ faults.File) → out.new ≡ out.old) }
 {
-    let (drawing, found) = judged(alloc, image)?;
-    print_poster(out, found, &drawing)?;
-    Ok(found)
+    let (drawing, verdict) = judged(alloc, image)?;
+    print_poster(out, verdict, &drawing)?;
+    Ok(verdict.found)
 }

@@ -3,13 +3,14 @@ ghost use Rattle.std.specs.Prelude.{◌≡◌, Some};
 ghost use Rattle.disk_pictures.specs.Held.{drawn_in};
 ghost use Rattle.disk_pictures.specs.Html.{html_of};
 ghost use Rattle.disk_pictures.specs.Sentences.{entry_named, owner_named, sentence_text, shared_text, summary_text};
-ghost use Rattle.disk_pictures.specs.Sentences.{words_after, words_before};
+ghost use Rattle.disk_pictures.specs.Sentences.{sound_text, words_after, words_before};
 
 use crate::drawing::Drawing;
 use crate::html::Html;
 use crate::owners::Owner;
 use crate::pages::arcs::PlaceText;
 use crate::pages::sharing::{Two, two_owners};
+use crate::verdicts::Verdict;
 use d64_image::Place;
 use disk_layout::{BamView, Fault};
 use reached_disk::entry_name;
@@ -109,19 +110,35 @@ impl Display for Shared<'_> {
     }
 }
 
+/// What is said of a disk without a fault: where its first file is cut short, if one is.
+#[derive(Clone, Copy)]
+struct Sound(Option<Place>);
+
+impl Display for Sound {
+    ghost output = { λ said. Some (sound_text said.0) };
+
+    fn fmt<W: fmt::Write>(&self, f: &mut Formatter<W>) -> fmt::Result {
+        match self.0 {
+            None => f.write_str("Sound: "),
+            Some(place) => write!(f, "A file is cut short at sector {}; ", PlaceText(place)),
+        }
+    }
+}
+
 /// What a verdict says, as the beginning of a sentence.
 #[derive(Clone, Copy)]
 struct Sentence<'a> {
     drawing: &'a Drawing,
-    found: Option<Fault>,
+    verdict: Verdict,
 }
 
 impl Display for Sentence<'_> {
-    ghost output = { λ said. Some (sentence_text html_of (drawn_in said.drawing.now) said.found) };
+    ghost output = { λ said. Some (sentence_text html_of (drawn_in said.drawing.now) said.verdict.found
+        said.verdict.cut) };
 
     fn fmt<W: fmt::Write>(&self, f: &mut Formatter<W>) -> fmt::Result {
-        match self.found {
-            None => f.write_str("Sound: "),
+        match self.verdict.found {
+            None => write!(f, "{}", Sound(self.verdict.cut)),
             Some(Fault::OwnedTwice(place)) => {
                 let drawing = self.drawing;
                 let two = two_owners(drawing, place);
@@ -148,18 +165,19 @@ impl Display for Sentence<'_> {
 pub(crate) struct Summary<'a> {
     /// What is drawn.
     pub drawing: &'a Drawing,
-    /// What a check reports.
-    pub found: Option<Fault>,
+    /// What is reported of it.
+    pub verdict: Verdict,
 }
 
 impl Display for Summary<'_> {
-    ghost output = { λ said. Some (summary_text html_of said.found said.drawing.now.map (drawn_in said.drawing.now)) };
+    ghost output = { λ said. Some (summary_text html_of said.verdict said.drawing.now.map
+        (drawn_in said.drawing.now)) };
 
     fn fmt<W: fmt::Write>(&self, f: &mut Formatter<W>) -> fmt::Result {
         let drawing = self.drawing;
         let sentence = Sentence {
             drawing,
-            found: self.found,
+            verdict: self.verdict,
         };
         let files = drawing.files.as_slice().len();
         let free = BamView::new(&drawing.map).blocks_free();

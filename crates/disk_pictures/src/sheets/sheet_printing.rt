@@ -28,7 +28,7 @@ const STYLE: &str = ":root{color-scheme:light dark}body{margin:24px;background:#
     box-sizing:border-box;border:1px dashed}bdi:not(:empty){margin-left:1ch}.bad b{color:#b00000}\
     .good b{color:#17692b}ul{list-style:none;padding:0;margin:16px 0 0}li svg{display:inline-block;width:12px;\
     height:12px;margin:0 6px 0 0;vertical-align:-2px}path{fill:none;stroke-width:.8}.p0{stroke:#d40000}\
-    .p1{stroke:#161616}.p2{stroke:#5e5e5e}.p3{stroke:#e8e4d9}.p4{stroke:#7b7567}.p5{stroke:#8c8259}\
+    .p1{stroke:#161616}.p2{stroke:#5e5e5e}.p3{stroke:#e8e4d9}.p4{stroke:#9898aa}.p5{stroke:#8c8259}\
     .p6{stroke:#1c9182}.p7{stroke:#4b75ff}.p8{stroke:#e320ba}.p9{stroke:#406c83}.p10{stroke:#716046}\
     .p11{stroke:#3a4353}.p12{stroke:#4a3934}.p13{stroke:#0c0bca}.p14{stroke:#5d0476}.p15{stroke:#630a00}\
     .p16{stroke:#041c33}.p17{stroke:#4d4831}.p18{stroke:#0f5048}.p19{stroke:#29408c}.p20{stroke:#7d1266}\
@@ -36,7 +36,7 @@ const STYLE: &str = ":root{color-scheme:light dark}body{margin:24px;background:#
     .p26{stroke:#330241}.p27{stroke:#360600}.p28{stroke:#020f1c}@media(max-width:900px){body{margin:12px}}\
     @media screen and (prefers-color-scheme:dark){body{background:#15171b;color:#e6e6e6}.bad b{color:#ff7a70}\
     .good b{color:#6fd08c}.p0{stroke:#ff4a3d}.p1{stroke:#fff}.p2{stroke:#9aa0aa}.p3{stroke:#2a2d34}\
-    .p4{stroke:#8b8d92}.p5{stroke:#627c6e}.p6{stroke:#85748f}.p7{stroke:#aa46f5}.p8{stroke:#2fa067}\
+    .p4{stroke:#a29c93}.p5{stroke:#627c6e}.p6{stroke:#85748f}.p7{stroke:#aa46f5}.p8{stroke:#2fa067}\
     .p9{stroke:#7b92c5}.p10{stroke:#2fcd81}.p11{stroke:#96baff}.p12{stroke:#d2bf02}.p13{stroke:#c9c5be}\
     .p14{stroke:#c4d2e6}.p15{stroke:#a5fdbe}.p16{stroke:#fff700}.p17{stroke:#b0beb6}.p18{stroke:#c2bac7}\
     .p19{stroke:#d4a2fa}.p20{stroke:#97d0b3}.p21{stroke:#bdc8e2}.p22{stroke:#97e6c0}.p23{stroke:#cadcff}\
@@ -127,8 +127,8 @@ pub fn sheet_begin<W: Write>(out: &mut W, count: usize) -> Result<(), CommandFau
 /// image. It is 0 if the disk is clean, 1 if it is damaged, and that of the fault if it can't be drawn.
 ///
 /// It has a small drawing: tracks from left to right, each sector once in the shade of its owner, the fault in red. Below
-/// stand the path, the disk's name as it is typed and as a C64 shows it, what a check reports, and how many blocks the
-/// map calls free. A damaged disk is drawn as far as its links go. An image that can't be drawn (`ImageSize`, `Layout`,
+/// stand the path, the disk's name as it is typed and as a C64 shows it, what a check reports (or where the first file is
+/// cut short), and how many blocks the map calls free. A damaged disk is drawn as far as its links go. An image that can't be drawn (`ImageSize`, `Layout`,
 /// `NoMemory`) has a tile with its path and the reason. Paths and names stand there only as text. A path's bytes are
 /// shown as those of names: $20 to $7E except `"` and `\` as they are, every other one as `\` and two digits.
 ///
@@ -143,9 +143,9 @@ pub fn sheet_tile<W: Write>(
     ensures err { IfErr result (λ fault. fault ≡ faults.File) }
 {
     match judged(alloc, image) {
-        Ok((drawing, found)) => {
-            print_tile(out, path, found, &drawing)?;
-            Ok(found_status(found))
+        Ok((drawing, verdict)) => {
+            print_tile(out, path, verdict, &drawing)?;
+            Ok(found_status(verdict.found))
         }
         Err(fault) => {
             print_refused(out, path, fault)?;

@@ -16,7 +16,7 @@ use crate::html::Html;
 use crate::pages::page::class_of;
 use crate::petscii::Petscii;
 use crate::sheets::shades::{SHADES, Shades, shade};
-use crate::texts::VerdictText;
+use crate::verdicts::Verdict;
 use command_faults::{CommandFault, print_text};
 use d64_image::{Place, TRACK_SECTORS, TRACKS};
 use disk_layout::{BamView, Fault};
@@ -150,7 +150,7 @@ fn print_small<W: Write>(
 
 /// The beginning of a tile.
 #[derive(Clone, Copy)]
-struct TileHead(Option<Fault>);
+struct TileHead(Verdict);
 
 impl Display for TileHead {
     ghost output = { λ head. Some (tile_head head.0) };
@@ -168,12 +168,12 @@ impl Display for TileHead {
 #[derive(Clone, Copy)]
 struct Caption<'a> {
     path: &'a str,
-    found: Option<Fault>,
+    verdict: Verdict,
     map: &'a [u8; 256],
 }
 
 impl Display for Caption<'_> {
-    ghost output = { λ told. Some (caption html_of petscii_of told.path.now told.found told.map.now) };
+    ghost output = { λ told. Some (caption html_of petscii_of told.path.now told.verdict told.map.now) };
 
     fn fmt<W: fmt::Write>(&self, f: &mut Formatter<W>) -> fmt::Result {
         let name = disk_name(self.map);
@@ -185,7 +185,7 @@ impl Display for Caption<'_> {
             Html(self.path.as_bytes()),
             Html(name),
             Petscii(name),
-            VerdictText(self.found)
+            self.verdict
         )
     }
 }
@@ -194,20 +194,20 @@ impl Display for Caption<'_> {
 pub(crate) fn print_tile<W: Write>(
     out: &mut W,
     path: &str,
-    found: Option<Fault>,
+    verdict: Verdict,
     drawing: &Drawing,
 ) -> Result<(), CommandFault>
     ensures ok { OnOk result (Appends (W.contents out.old) (W.contents out.new)
-        (tile_text html_of petscii_of path.now found drawing.now.map (drawn_in drawing.now))) }
+        (tile_text html_of petscii_of path.now verdict drawing.now.map (drawn_in drawing.now))) }
     ensures err { IfErr result (λ fault. fault ≡ faults.File) }
 {
-    print_text(out, TileHead(found))?;
-    print_small(out, found, drawing)?;
+    print_text(out, TileHead(verdict))?;
+    print_small(out, verdict.found, drawing)?;
     print_text(
         out,
         Caption {
             path,
-            found,
+            verdict,
             map: &drawing.map,
         },
     )

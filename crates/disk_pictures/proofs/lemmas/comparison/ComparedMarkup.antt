@@ -60,5 +60,5 @@ module _ (f g : Show) (same : (bytes : List ℕ) → IsSameMarkup (f bytes) (g b
   pub on-comparison : (a b : Disk) → IsSameMarkup (comparison_text f s a b) (comparison_text g u a b)
   unfolding comparison_text
   on-comparison a b = both _ _ _ _ (on-title f g same s u alike-signs b.map)
-      (both _ _ _ _ (on-told f g same b.found b.map b.layout) (both _ _ _ _ (on-drawing f g same b.found b.map b.layout)
+      (both _ _ _ _ (on-told f g same b.verdict b.map b.layout) (both _ _ _ _ (on-drawing f g same b.verdict.found b.map b.layout)
       (behind (marks_text a.image b.image) _ _ (both _ _ _ _ (on-compared a b) (before _ _ _ (on-changes a b))))))

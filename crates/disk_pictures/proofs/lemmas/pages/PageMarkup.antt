@@ -14,10 +14,11 @@ use Rattle.reached_disk.specs.Names.{disk_name, name_of}
 use Rattle.disk_pictures.specs.Pictures.{block_arc, dashes, drawing_text, file_group, group_head, look}
 use Rattle.disk_pictures.specs.Pictures.{is_blocks, is_sides, legend_text, link_text, own_block, own_side, page_text}
 use Rattle.disk_pictures.specs.Pictures.{ring_of, row_text, side_arc, style, title_text, told_text, verdict_class}
-use Rattle.disk_pictures.specs.Sentences.{named, owner_named, owners_of, sentence_text, shared_text, summary_text}
+use Rattle.disk_pictures.specs.Sentences.{named, owner_named, owners_of, sentence_text, shared_text, sound_text, summary_text}
 use Rattle.disk_pictures.specs.Texts.{numbered, verdict_text}
 use Rattle.disk_layout.specs.declared.faults.Fault.TheVariants as fault
 use Rattle.disk_pictures.specs.declared.owners.Owner.{Owner}
+use Rattle.disk_pictures.specs.declared.verdicts.Verdict.{Verdict}
 use Rattle.disk_pictures.specs.declared.owners.Owner.TheVariants as owner
 
 -- the two have the same markup
@@ -95,26 +96,27 @@ module _ (f g : Show) (same : (bytes : List ℕ) → IsSameMarkup (f bytes) (g b
   on-shared l p None b = alike (shared_text f l p None b)
   on-shared l p (Some a) None = alike (shared_text f l p (Some a) None)
 
-  on-sentence : (l : Layout) (v : Option Fault) → IsSameMarkup (sentence_text f l v) (sentence_text g l v)
-  on-sentence l None = alike (codes "Sound: ")
-  on-sentence l (Some (fault.OwnedTwice p)) =
+  on-sentence : (l : Layout) (v : Option Fault) (cut : Option Place)
+      → IsSameMarkup (sentence_text f l v cut) (sentence_text g l v cut)
+  on-sentence l None cut = alike (sound_text cut)
+  on-sentence l (Some (fault.OwnedTwice p)) cut =
       on-shared l p (slice_get (owners_of l p) 0) (slice_get (owners_of l p) 1)
-  on-sentence l (Some (fault.BadLink p)) = alike _
-  on-sentence l (Some (fault.Loop p)) = alike _
-  on-sentence l (Some (fault.BadType p)) = alike _
-  on-sentence l (Some (fault.Unclosed p)) = alike _
-  on-sentence l (Some (fault.BadSide p)) = alike _
-  on-sentence l (Some (fault.BadLength p)) = alike _
-  on-sentence l (Some (fault.CountWrong p)) = alike _
-  on-sentence l (Some (fault.MapWrong p)) = alike _
-  on-sentence l (Some (fault.Device p)) = alike _
+  on-sentence l (Some (fault.BadLink p)) cut = alike _
+  on-sentence l (Some (fault.Loop p)) cut = alike _
+  on-sentence l (Some (fault.BadType p)) cut = alike _
+  on-sentence l (Some (fault.Unclosed p)) cut = alike _
+  on-sentence l (Some (fault.BadSide p)) cut = alike _
+  on-sentence l (Some (fault.BadLength p)) cut = alike _
+  on-sentence l (Some (fault.CountWrong p)) cut = alike _
+  on-sentence l (Some (fault.MapWrong p)) cut = alike _
+  on-sentence l (Some (fault.Device p)) cut = alike _
 
-  pub on-summary : (v : Option Fault) (map : Sector) (l : Layout)
+  pub on-summary : (v : Verdict) (map : Sector) (l : Layout)
       → IsSameMarkup (summary_text f v map l) (summary_text g v map l)
   unfolding summary_text
-  on-summary v map l = before _ _ _ (on-sentence l v)
+  on-summary v map l = before _ _ _ (on-sentence l v.found v.cut)
 
-  pub on-told : (v : Option Fault) (map : Sector) (l : Layout)
+  pub on-told : (v : Verdict) (map : Sector) (l : Layout)
       → IsSameMarkup (told_text f v map l) (told_text g v map l)
   unfolding told_text
   on-told v map l =
@@ -155,9 +157,9 @@ module _ (f g : Show) (same : (bytes : List ℕ) → IsSameMarkup (f bytes) (g b
       (behind (decimal (count_field d.slot)) _ _ (behind (codes "</td><td>") _ _
       (before (link_text f s k (name_of d.slot)) (link_text g u k (name_of d.slot)) _ (on-link k (name_of d.slot)))))))
 
-  pub on-page : (v : Option Fault) (map : Sector) (l : Layout)
+  pub on-page : (v : Verdict) (map : Sector) (l : Layout)
       → IsSameMarkup (page_text f s v map l) (page_text g u v map l)
   unfolding page_text
   on-page v map l = both _ _ _ _ (on-title map) (both _ _ _ _ (on-told f g same v map l)
-      (both _ _ _ _ (on-drawing f g same v map l)
+      (both _ _ _ _ (on-drawing f g same v.found map l)
       (behind legend_text _ _ (before _ _ _ (each (row_text f s) (row_text g u) on-row 0 l.files)))))

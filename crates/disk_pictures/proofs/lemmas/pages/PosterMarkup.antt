@@ -1,15 +1,15 @@
 -- The markup of a poster is the same, however bytes of the disk are shown, where what is shown has the same markup.
 use Rattle.std.proofs.Common.{ℕ, List}
-use Rattle.std.specs.Prelude.{Option, codes, decimal, slice_range}
+use Rattle.std.specs.Prelude.{codes, decimal, slice_range}
 use Rattle.d64_image.specs.Images.{Sector}
 use Rattle.disk_layout.specs.Directory.{type_byte}
 use Rattle.disk_layout.specs.Layout.{File, Layout, count_field}
-use Rattle.disk_layout.specs.declared.faults.Fault.{Fault}
 use Rattle.disk_pictures.specs.Html.{Show}
 use Rattle.reached_disk.specs.Names.{disk_name, name_of}
 use Rattle.disk_pictures.specs.Pictures.{dashes}
 use Rattle.disk_pictures.specs.Posters.{line_start, poster_head, poster_legend, poster_line, poster_style, poster_text}
 use Rattle.disk_pictures.specs.Posters.{poster_told}
+use Rattle.disk_pictures.specs.declared.verdicts.Verdict.{Verdict}
 use Rattle.reached_disk.specs.Types.{type_text}
 use Rattle.disk_pictures.proofs.lemmas.pages.PageMarkup.{IsSameMarkup, before, behind, both, each, on-drawing, on-summary}
 
@@ -27,7 +27,7 @@ module _ (f g : Show) (same : (bytes : List ℕ) → IsSameMarkup (f bytes) (g b
       (behind (codes "</text>\n<text class=\"told\" x=\"148.5\" y=\"33\"><tspan>") _ _
       (before (s name) (u name) _ (alike-signs name)))))))))
 
-  on-told : (v : Option Fault) (map : Sector) (l : Layout) → IsSameMarkup (poster_told f v map l) (poster_told g v map l)
+  on-told : (v : Verdict) (map : Sector) (l : Layout) → IsSameMarkup (poster_told f v map l) (poster_told g v map l)
   unfolding poster_told
   on-told v map l =
       let id = slice_range map 162 164 in
@@ -50,9 +50,9 @@ module _ (f g : Show) (same : (bytes : List ℕ) → IsSameMarkup (f bytes) (g b
       (both (f name) (g name) _ _ (same name) (behind (codes "</text></g><text x=\"41.5\" y=\"2.3\">") _ _
       (before (s name) (u name) _ (alike-signs name)))))))))
 
-  pub on-poster : (v : Option Fault) (map : Sector) (l : Layout)
+  pub on-poster : (v : Verdict) (map : Sector) (l : Layout)
       → IsSameMarkup (poster_text f s v map l) (poster_text g u v map l)
   unfolding poster_text
   on-poster v map l = both _ _ _ _ (on-head map) (both _ _ _ _ (on-told v map l)
-      (both _ _ _ _ (on-drawing f g same v map l)
+      (both _ _ _ _ (on-drawing f g same v.found map l)
       (behind poster_legend _ _ (before _ _ _ (each (poster_line f s) (poster_line g u) on-line 0 l.files)))))

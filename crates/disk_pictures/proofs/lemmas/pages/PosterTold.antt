@@ -1,19 +1,19 @@
 -- The parts of a poster, as they are written one after another.
 use Rattle.std.proofs.Common.{◌≡◌, ◌++◌, ℕ, List, refl}
-use Rattle.std.specs.Prelude.{Option, codes, decimal, slice_range}
+use Rattle.std.specs.Prelude.{codes, decimal, slice_range}
 use Rattle.d64_image.specs.Images.{Sector}
 use Rattle.disk_layout.specs.Directory.{type_byte}
 use Rattle.disk_layout.specs.Layout.{File, Layout, count_field}
-use Rattle.disk_layout.specs.declared.faults.Fault.{Fault}
 use Rattle.disk_pictures.specs.Html.{html_of}
 use Rattle.reached_disk.specs.Names.{disk_name, name_of}
 use Rattle.disk_pictures.specs.Petscii.{petscii_of}
 use Rattle.disk_pictures.specs.Pictures.{look}
 use Rattle.disk_pictures.specs.Posters.{line_left, line_start, line_top, poster_line, poster_told}
 use Rattle.disk_pictures.specs.Sentences.{summary_text}
+use Rattle.disk_pictures.specs.declared.verdicts.Verdict.{Verdict}
 use Rattle.reached_disk.specs.Types.{type_text}
 
-pub heading-written : (v : Option Fault) (map : Sector) (l : Layout) (id version name : List ℕ)
+pub heading-written : (v : Verdict) (map : Sector) (l : Layout) (id version name : List ℕ)
     → id ≡ slice_range map 162 164 → version ≡ slice_range map 165 167 → name ≡ disk_name map
     → html_of id ++ (codes " " ++ (html_of version
     ++ (codes "</text>\n<text class=\"told\" x=\"148.5\" y=\"40\">" ++ (summary_text html_of v map l

@@ -41,9 +41,9 @@ returns-in-Ok g c =
         lack = lack;
         lacks = subst (λ (i : Image). IsShortfallOf i lack) listed c.find_shortfall-lack.ensures.told;
         printed = subst (λ (m : Sector). Appends (g.W.Write.contents c.args.out.now) (g.W.Write.contents c.print_object.new.out)
-            (object_text c.args.name.now found files m lack)) map
+            (object_text c.args.name.now found files m lack c.args.image.now)) map
             (subst (λ (ss : List Slot). Appends (g.W.Write.contents c.args.out.now) (g.W.Write.contents c.print_object.new.out)
-            (object_text c.args.name.now found ss c.sector-map.result.now lack)) c.as_slice.ensures.value c.in-Ok.ensures);
+            (object_text c.args.name.now found ss c.sector-map.result.now lack c.args.image.now)) c.as_slice.ensures.value c.in-Ok.ensures);
       };
       err = tt;
       untouched = tt;

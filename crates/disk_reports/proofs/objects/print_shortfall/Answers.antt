@@ -17,16 +17,16 @@ placed p t s front rest track sector =
 pub returns-in-Short : goal.returns-in-Short
 returns-in-Short g c =
     let a = g.W.Write.contents c.args.out.now in
-    let b = g.W.Write.contents c.writeln.new.self in
-    rw c.in-Short.is (subst (λ (xs : List ℕ). OnOk c.writeln.result (Appends a b xs))
+    let b = g.W.Write.contents c.write.new.self in
+    rw c.in-Short.is (subst (λ (xs : List ℕ). OnOk c.write.result (Appends a b xs))
     (placed c.in-Short.place c.track-track.result c.sector-sector.result (codes ",\"short\":\"")
-    (codes "\",\"fewer\":null}\n") c.track-track.ensures c.sector-sector.ensures) c.writeln.ensures.bytes)
+    (codes "\",\"fewer\":null") c.track-track.ensures c.sector-sector.ensures) c.write.ensures.bytes)
 
 pub returns-in-Fewer : goal.returns-in-Fewer
 returns-in-Fewer g c =
     let a = g.W.Write.contents c.args.out.now in
-    let b = g.W.Write.contents c.writeln-in-Fewer.new.self in
-    rw c.in-Fewer.is (subst (λ (xs : List ℕ). OnOk c.writeln-in-Fewer.result (Appends a b xs))
+    let b = g.W.Write.contents c.write-in-Fewer.new.self in
+    rw c.in-Fewer.is (subst (λ (xs : List ℕ). OnOk c.write-in-Fewer.result (Appends a b xs))
     (placed c.in-Fewer.place c.track-track-in-Fewer.result c.sector-sector-in-Fewer.result
-    (codes ",\"short\":null,\"fewer\":\"") (codes "\"}\n") c.track-track-in-Fewer.ensures
-    c.sector-sector-in-Fewer.ensures) c.writeln-in-Fewer.ensures.bytes)
+    (codes ",\"short\":null,\"fewer\":\"") (codes "\"") c.track-track-in-Fewer.ensures
+    c.sector-sector-in-Fewer.ensures) c.write-in-Fewer.ensures.bytes)

@@ -1,5 +1,6 @@
 -- The disk is sound, and the facts are its own.
 use Rattle.std.proofs.Common.{map, refl, subst, ◌∙◌, ◌≡◌, IsTrue}
+use Rattle.std.proofs.lemmas.Bool.{false≢true}
 use Rattle.std.specs.Prelude.{◌↔◌}
 use Rattle.d64_image.specs.Images.{Image}
 use Rattle.d64_image.specs.Memory.{disk_image}
@@ -18,3 +19,6 @@ returns-in-Ok-clause-told c =
     let Q : Image → Type 0 = λ i. IsLayout i l → c.as_slice.result.now ≡ map (λ (f : File). f.slot) l.files
     → (IsTrue facts.strays ↔ HasStray i l) → (IsTrue facts.shop ↔ HasStock l) → IsShortfall i l c.first_shortfall.result in
     subst Q c.read_facts.ensures.same (c.first_shortfall.ensures.told l) is (c.as_slice.ensures.value ∙ slots) strays shop)
+
+pub returns-in-Err-clause-told : goal.returns-in-Err-clause-told
+returns-in-Err-clause-told c l is = absurd (false≢true (c.in-Err.ensures.sound.1 (l, is)))

@@ -15,8 +15,8 @@ use Rattle.disk_pictures.proofs.comparison.comparing.print_comparison.Goals as g
 
 all-printed : (a b c d e f h i j : Option (List ℕ)) (x y : Disk)
     → Appends a b (title_text html_of petscii_of y.map)
-    → Appends b c (told_text html_of y.found y.map y.layout)
-    → Appends c d (drawing_text html_of y.found y.map y.layout)
+    → Appends b c (told_text html_of y.verdict y.map y.layout)
+    → Appends c d (drawing_text html_of y.verdict.found y.map y.layout)
     → Appends d e (marks_text x.image y.image) → Appends e f (compared_text html_of x y)
     → Appends f h (changes_text html_of petscii_of x y) → Appends h i end_text → Keeps i j
     → Appends a j (comparison_page x y)

@@ -5,7 +5,6 @@ use Rattle.std.specs.Io.KnownBytes.{Appends, Keeps}
 use Rattle.std.proofs.KnownBytes.{Appends-kept, Appends-trans}
 use Rattle.d64_image.specs.Images.{Sector}
 use Rattle.disk_layout.specs.Layout.{Layout}
-use Rattle.disk_layout.specs.declared.faults.Fault.{Fault}
 use Rattle.d64_image.proofs.Told.{at-ok}
 use Rattle.disk_pictures.proofs.Printing.{four}
 use Rattle.disk_pictures.specs.Drawings.{file_in}
@@ -15,11 +14,12 @@ use Rattle.disk_pictures.specs.Petscii.{petscii_of}
 use Rattle.disk_pictures.specs.Pictures.{drawing_text, end_text, legend_text, page_text, picture_page, row_text}
 use Rattle.disk_pictures.specs.Pictures.{title_text, told_text}
 use Rattle.disk_pictures.specs.Texts.{numbered}
+use Rattle.disk_pictures.specs.declared.verdicts.Verdict.{Verdict}
 use Rattle.disk_pictures.proofs.pages.picture_printing.print_page.Goals as goal
 
-all-printed : (a b c d e f h i : Option (List ℕ)) (v : Option Fault) (bytes : Sector) (l : Layout)
+all-printed : (a b c d e f h i : Option (List ℕ)) (v : Verdict) (bytes : Sector) (l : Layout)
     → Appends a b (title_text html_of petscii_of bytes)
-    → Appends b c (told_text html_of v bytes l) → Appends c d (drawing_text html_of v bytes l)
+    → Appends b c (told_text html_of v bytes l) → Appends c d (drawing_text html_of v.found bytes l)
     → Appends d e legend_text
     → Appends e f (numbered (row_text html_of petscii_of) 0 l.files) → Appends f h end_text → Keeps h i
     → Appends a i (picture_page v bytes l)
@@ -35,7 +35,7 @@ returns-clause-ok g c =
     let d = c.args.drawing.now in
     let rows = subst (λ fs. Appends (g.W.Write.contents c.print_text-3.new.out) (g.W.Write.contents c.print_rows.new.out)
     (numbered (row_text html_of petscii_of) 0 (map file_in fs))) c.as_slice.ensures.value c.in_ok-print_rows.ensures.ok in
-    at-ok c.flush.result (all-printed _ _ _ _ _ _ _ _ c.args.found d.map (drawn_in d)
+    at-ok c.flush.result (all-printed _ _ _ _ _ _ _ _ c.args.verdict d.map (drawn_in d)
     c.in_ok-print_text.ensures.ok
     c.in_ok-print_text-2.ensures.ok
     c.in_ok-print_drawing.ensures.ok c.in_ok-print_text-3.ensures.ok rows c.in_ok-print_text-4.ensures.ok c.flush.ensures.kept)

@@ -5,7 +5,6 @@ use Rattle.std.specs.Io.KnownBytes.{Appends, Keeps}
 use Rattle.std.proofs.KnownBytes.{Appends-kept, Appends-trans}
 use Rattle.d64_image.specs.Images.{Sector}
 use Rattle.disk_layout.specs.Layout.{Layout}
-use Rattle.disk_layout.specs.declared.faults.Fault.{Fault}
 use Rattle.d64_image.proofs.Told.{at-ok}
 use Rattle.disk_pictures.proofs.Printing.{four}
 use Rattle.disk_pictures.specs.Drawings.{file_in}
@@ -15,11 +14,12 @@ use Rattle.disk_pictures.specs.Pictures.{drawing_text}
 use Rattle.disk_pictures.specs.Petscii.{petscii_of}
 use Rattle.disk_pictures.specs.Posters.{poster_head, poster_legend, poster_line, poster_of, poster_text, poster_told}
 use Rattle.disk_pictures.specs.Texts.{numbered}
+use Rattle.disk_pictures.specs.declared.verdicts.Verdict.{Verdict}
 use Rattle.disk_pictures.proofs.pages.poster_printing.print_poster.Goals as goal
 
-all-printed : (a b c d e f h i : Option (List ℕ)) (v : Option Fault) (bytes : Sector) (l : Layout)
+all-printed : (a b c d e f h i : Option (List ℕ)) (v : Verdict) (bytes : Sector) (l : Layout)
     → Appends a b (poster_head html_of petscii_of bytes)
-    → Appends b c (poster_told html_of v bytes l) → Appends c d (drawing_text html_of v bytes l)
+    → Appends b c (poster_told html_of v bytes l) → Appends c d (drawing_text html_of v.found bytes l)
     → Appends d e poster_legend
     → Appends e f (numbered (poster_line html_of petscii_of) 0 l.files) → Appends f h (codes "</svg>\n") → Keeps h i
     → Appends a i (poster_of v bytes l)
@@ -35,7 +35,7 @@ returns-clause-ok g c =
     let d = c.args.drawing.now in
     let lines = subst (λ fs. Appends (g.W.Write.contents c.print_text-3.new.out) (g.W.Write.contents c.print_lines.new.out)
     (numbered (poster_line html_of petscii_of) 0 (map file_in fs))) c.as_slice.ensures.value c.in_ok-print_lines.ensures.ok in
-    at-ok c.flush.result (all-printed _ _ _ _ _ _ _ _ c.args.found d.map (drawn_in d)
+    at-ok c.flush.result (all-printed _ _ _ _ _ _ _ _ c.args.verdict d.map (drawn_in d)
     c.in_ok-print_text.ensures.ok
     c.in_ok-print_text-2.ensures.ok
     c.in_ok-print_drawing.ensures.ok c.in_ok-print_text-3.ensures.ok lines c.in_ok-print_text-4.ensures.ok c.flush.ensures.kept)

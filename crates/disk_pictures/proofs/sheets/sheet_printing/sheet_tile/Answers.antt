@@ -14,10 +14,10 @@ returns-in_ok-print_tile-in-Ok-clause-ok g c =
     let told = g.W.Write.contents in
     inl (record {
       layout = drawn_in d;
-      found = c.in-Ok.found;
+      verdict = c.in-Ok.verdict;
       judged = c.in-Ok.ensures.ok.judged;
       printed = subst (λ (map : Sector). Appends (told c.args.out.now) (told c.print_tile.new.out)
-          (tile_text html_of petscii_of c.args.path.now c.in-Ok.found map (drawn_in d))) c.in-Ok.ensures.ok.map
+          (tile_text html_of petscii_of c.args.path.now c.in-Ok.verdict map (drawn_in d))) c.in-Ok.ensures.ok.map
           c.in_ok-print_tile-in-Ok.ensures.ok;
       status_is = c.found_status.ensures;
     })

@@ -6,7 +6,7 @@ use Rattle.disk_pictures.proofs.pages.page.ToldDisplay.fmt.Goals as goal
 
 pub returns-clause-writes : goal.returns-clause-writes
 returns-clause-writes g c = λ plain done. has_written_of_eq _ _ _ _ _
-    (told-written c.args.self.now.found c.args.self.now.drawing.now.map (drawn_in c.args.self.now.drawing.now)
+    (told-written c.args.self.now.verdict c.args.self.now.drawing.now.map (drawn_in c.args.self.now.drawing.now)
     c.id.result.now c.version.result.now c.class_of.result.now c.disk_name.result.now
     (rw c.new-view.ensures at c.id.ensures) (rw c.new-view.ensures at c.version.ensures)
     c.class_of.ensures c.disk_name.ensures)

@@ -13,5 +13,5 @@ returns-clause-writes g c =
     let many : length c.as_slice.result.now ≡ length (map file_in d.files.items) =
     ap length c.as_slice.ensures.value ∙ sym (length-map d.files.items file_in) in
     λ plain done. has_written_of_eq _ _ _ _ _
-    (summary-written c.args.self.now.found d.map (drawn_in d) _ _ many (rw c.new.ensures at c.blocks_free-free.ensures))
+    (summary-written c.args.self.now.verdict d.map (drawn_in d) _ _ many (rw c.new.ensures at c.blocks_free-free.ensures))
     (c.write.ensures.writes plain done)

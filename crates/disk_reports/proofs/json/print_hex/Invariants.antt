@@ -1,0 +1,10 @@
+-- The digits of the bytes so far were written.
+use Rattle.std.proofs.Common.{take}
+use Rattle.std.specs.Prelude.{flat_map}
+use Rattle.std.specs.Io.KnownBytes.{Appends}
+use Rattle.disk_reports.specs.Json.{digits}
+use Rattle.disk_reports.proofs.json.print_hex.Given as goal
+
+abbrev pub invariant-loop-byte : goal.invariant-loop-byte
+invariant-loop-byte g l =
+    Appends (g.W.Write.contents l.fn.out) (g.W.Write.contents l.out) (flat_map digits (take l.byte-index l.bytes))
