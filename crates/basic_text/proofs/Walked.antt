@@ -87,7 +87,7 @@ pub ends-more : (all : Bool) (at : BytePlace) (xs : List ℕ) (i : ℕ) → i < 
 ends-more all at xs i low so_far =
     sym (ends-next at (get_or xs i 0) (drop (i + 1) xs)) ∙ ap (ends_from at) (sym (drop_more xs i 0 low)) ∙ so_far
 
--- behind the last byte a line that isn't ended gets its end
+-- after the last byte a line that isn't ended gets its end
 pub text-end : (all done : List ℕ) (at : BytePlace) (xs : List ℕ) (i : ℕ) → length xs ≤ i
     → done ++ text_from at (drop i xs) ≡ all → done ++ text_from at [] ≡ all
 text-end all done at xs i past so_far = ap (λ (bs : List ℕ). done ++ text_from at bs) (sym (drop_all i xs past)) ∙ so_far

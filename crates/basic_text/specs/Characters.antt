@@ -48,6 +48,6 @@ braced None b = codes "{$" ++ (hex b ++ codes "}")
 abbrev pub character : ℕ → List ℕ
 character b = braced (letter b) b
 
--- a byte of a line; it is literal between quotation marks and behind REM
+-- a byte of a line; it is literal between quotation marks and after REM
 abbrev pub shown : (is_literal : Bool) → ℕ → List ℕ
 shown is_literal b = if not is_literal && is_in 128 203 b then keyword b else character b

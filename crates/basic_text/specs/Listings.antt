@@ -7,7 +7,7 @@ use Rattle.basic_text.specs.Characters.{hex, shown}
 abbrev pub is_quoted_after : Bool → ℕ → Bool
 is_quoted_after quoted b = if nat_eq b 34 then not quoted else quoted
 
--- whether it stands behind REM, $8F
+-- whether it stands after REM, $8F
 abbrev pub is_remark_after : (quoted remark : Bool) → ℕ → Bool
 is_remark_after quoted remark b = remark || (not quoted && nat_eq b 143)
 
@@ -17,7 +17,7 @@ abbrev mutual
   lines (low ∷ suc high ∷ a ∷ b ∷ rest) = decimal (a + 256 * b) ++ (codes " " ++ line_rest false false rest)
   lines _ = []
 
-  -- the text of the rest of a line, and of the lines behind it
+  -- the text of the rest of a line, and of the lines after it
   pub line_rest : (quoted remark : Bool) → List ℕ → List ℕ
   line_rest quoted remark [] = codes "\n"
   line_rest quoted remark (zero ∷ rest) = codes "\n" ++ lines rest

@@ -5,7 +5,7 @@ use Rattle.basic_text.specs.Listings.{is_quoted_after, is_remark_after}
 use Rattle.basic_text.specs.declared.places.BytePlace.{BytePlace}
 use Rattle.basic_text.specs.declared.places.BytePlace.TheVariants as places
 
--- where the byte behind this one stands
+-- where the byte after this one stands
 abbrev pub place_after : BytePlace → ℕ → BytePlace
 place_after places.Link b = places.LinkHigh
 place_after places.LinkHigh zero = places.End

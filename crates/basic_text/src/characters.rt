@@ -79,7 +79,7 @@ fn keyword_of(byte: u8) -> &'static str
 /// A byte of a line.
 #[derive(Clone, Copy)]
 pub(crate) struct Shown {
-    /// Whether it stands between quotation marks or behind REM, where no byte is a keyword.
+    /// Whether it stands between quotation marks or after REM, where no byte is a keyword.
     pub(crate) is_literal: bool,
     pub(crate) byte: u8,
 }

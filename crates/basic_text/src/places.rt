@@ -11,21 +11,21 @@ pub(crate) enum BytePlace {
     LinkHigh,
     /// The first of a line's number.
     Number,
-    /// The second, behind this one.
+    /// The second, after this one.
     NumberHigh(u8),
     /// Within a line.
     Line {
         /// Whether it is between quotation marks.
         quoted: bool,
-        /// Whether it is behind REM.
+        /// Whether it is after REM.
         remark: bool,
     },
-    /// Behind the program.
+    /// After the program.
     End,
 }
 
 impl BytePlace {
-    /// Where the byte behind this one stands.
+    /// Where the byte after this one stands.
     pub(crate) fn after(self, byte: u8) -> BytePlace
         ensures { result ≡ place_after self byte }
     {

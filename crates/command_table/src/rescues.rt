@@ -67,7 +67,7 @@ const BASIC: Subcommand = Subcommand {
     about: "Print the listing of a program in BASIC 2.0",
     more: "\
 It prints a line with the load address, then the lines of the program, up to its
-end: what stands behind that, such as machine code, isn't printed. `petcat -w2`
+end: what stands after that, such as machine code, isn't printed. `petcat -w2`
 of VICE makes the program again (with -l and the load address, if this isn't
 0801). Keywords and a C64's letters are small, its shifted letters capitals, and
 pi is ~. Any other byte is a number: {$93}. With --unclosed it takes the first

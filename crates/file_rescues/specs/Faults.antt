@@ -20,7 +20,7 @@ abbrev pub keep_none : Option Fault → CommandFault
 keep_none None = faults.NoFile
 keep_none (Some fault) = faults.Layout fault
 
--- how the printing of a file ends, or else at this place
+-- how the printing of a file ends; without a place, at this one
 abbrev pub end_or_past : Result (Option Place) CommandFault → Option Place → Result (Option Place) CommandFault
 end_or_past (Ok found) past = Ok (option_or found past)
 end_or_past (Err fault) past = Err fault

@@ -25,7 +25,7 @@ pub(crate) fn ended(disk: &mut MemDisk, file: &FoundFile) -> Result<Option<Place
     }
 }
 
-/// How the printing ends, or else at this place.
+/// How the printing ends; without a place, at this one.
 fn end_or(
     end: Result<Option<Place>, CommandFault>,
     past: Option<Place>,

@@ -9,8 +9,8 @@ use crate::faults::JobFault;
 use crate::forms::{byte_form, choice, loss, name_form, repairing};
 use crate::images::{checking, picturing, viewing};
 use crate::names::{
-    deleting, empty_disk, locking, making, putting, renaming, storing, taking_file,
-    taking_records, titling,
+    deleting, empty_disk, locking, making, putting, renaming, storing, taking_file, taking_records,
+    titling,
 };
 use crate::numbers::{place_of, tills_of};
 use crate::shops::{copying, formatting, playing};

@@ -1,8 +1,7 @@
 -- The program is walked byte by byte.
-use Rattle.std.proofs.Common.{◌≡◌, ◌+◌, ◌∙◌, arith, ap, drop, sym}
-use Rattle.basic_text.proofs.Walked.{ends-more, ends_from}
+use Rattle.std.proofs.Common.{arith}
+use Rattle.basic_text.proofs.Walked.{ends-more}
 use Rattle.basic_text.specs.Listings.{has_end}
-use Rattle.basic_text.specs.declared.places.BytePlace.{BytePlace}
 use Rattle.basic_text.proofs.listing.have_end.Goals as goal
 
 pub loop-byte-preserved : goal.loop-byte-preserved

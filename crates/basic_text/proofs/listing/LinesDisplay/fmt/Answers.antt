@@ -1,10 +1,9 @@
 -- The text of the lines is written byte by byte.
-use Rattle.std.proofs.Common.{◌≡◌, ◌+◌, ◌++◌, ◌∙◌, List, [], ap, arith, drop, get_or, refl, rules, subst, sym, true, ℕ}
+use Rattle.std.proofs.Common.{◌++◌, ◌∙◌, List, [], ap, arith, get_or, refl, rules, subst, sym, true, ℕ}
 use Rattle.std.proofs.lemmas.Grind.{put_two}
 use Rattle.std.proofs.lemmas.List.{append-nil}
 use Rattle.std.specs.Fmt.{HasWritten}
 use Rattle.basic_text.proofs.Walked.{text-end, text-more, text-none, text_from}
-use Rattle.basic_text.specs.Listings.{lines}
 use Rattle.basic_text.specs.Places.{text_at}
 use Rattle.basic_text.specs.declared.places.BytePlace.{BytePlace}
 use Rattle.basic_text.proofs.listing.LinesDisplay.fmt.Goals as goal
