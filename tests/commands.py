@@ -81,6 +81,8 @@ COMMANDS = [
     command(LOOKS, f"bytes {IMAGE} STOCK"),
     command(LOOKS, f"bytes {IMAGE} STOCK --text"),
     command(LOOKS, f"bytes {IMAGE} STOCK --unclosed"),
+    command(LOOKS, f"basic {IMAGE} STOCK"),
+    command(LOOKS, f"basic {IMAGE} STOCK --unclosed"),
     command(LOOKS, f"trim {IMAGE}"),
     command(LOOKS, f"repair {IMAGE} --dry-run"),
     command(TAKES, f"extract {IMAGE} {FOLDER}"),

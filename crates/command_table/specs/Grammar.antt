@@ -102,6 +102,10 @@ records = may_be_unclosed (may_have_columns (may_be_text (with_rule (over_image 
 abbrev pub bytes : App
 bytes = may_be_unclosed (may_be_text (with_rule (over_image (codes "bytes")) (required (codes "NAME"))))
 
+-- basic IMAGE NAME [--unclosed]
+abbrev pub basic : App
+basic = may_be_unclosed (with_rule (over_image (codes "basic")) (required (codes "NAME")))
+
 -- make IMAGE NAME --length BYTES [--accept-loss] [--dry-run]
 abbrev pub make : App
 make = may_run_dry (may_accept_loss (with_rule (with_rule (over_image (codes "make")) (required (codes "NAME")))
@@ -203,8 +207,8 @@ with_looks a = with_command (with_command (with_command (with_command (with_comm
 
 -- a program that has those that rescue files and disks too
 abbrev pub with_rescue : App → App
-with_rescue a = with_command (with_command (with_command (with_command (with_command
-    a records) bytes) extract) repair) trim
+with_rescue a = with_command (with_command (with_command (with_command (with_command (with_command
+    a records) bytes) basic) extract) repair) trim
 
 -- a program that has those that change the files of a disk too
 abbrev pub with_changes : App → App

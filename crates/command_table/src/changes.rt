@@ -130,7 +130,9 @@ const PUT: Subcommand = Subcommand {
     name: "put",
     about: "Put a file of the host on the disk",
     more: "\
-It prints PUT. An empty FILE gives a file with one byte, a carriage return.
+It prints PUT. An empty FILE gives a file with one byte, a carriage return. A
+P00 is put without its header, and of a T64 its program; one that has several is
+refused (FILE): cbmconvert takes them out.
 
 Exit status:
   0  the file is on the disk

@@ -5,7 +5,7 @@ use crate::values::{
 };
 
 /// The subcommands that rescue files and disks, in the order in which help lists them.
-pub(crate) const RESCUES: &[Subcommand] = &[RECORDS, BYTES, EXTRACT, REPAIR, TRIM];
+pub(crate) const RESCUES: &[Subcommand] = &[RECORDS, BYTES, BASIC, EXTRACT, REPAIR, TRIM];
 
 /// The flag of those that print a file that may be unclosed.
 const UNCLOSED: Value = Value {
@@ -59,6 +59,29 @@ Exit status:
 
 Example: ledger bytes old.d64 'ADD\\c1' > add.prg",
     values: &[IMAGE, NAME, TEXT, MIXED, UNCLOSED],
+};
+
+/// `basic IMAGE NAME [--unclosed]`
+const BASIC: Subcommand = Subcommand {
+    name: "basic",
+    about: "Print the listing of a program in BASIC 2.0",
+    more: "\
+It prints a line with the load address, then the lines of the program, up to its
+end: what stands after that, such as machine code, isn't printed. `petcat -w2`
+of VICE makes the program again (with -l and the load address, if this isn't
+0801). Keywords and a C64's letters are small, its shifted letters capitals, and
+pi is ~. Any other byte is a number: {$93}. With --unclosed it takes the first
+file with this name, and reports UNCLOSED if that isn't closed.
+
+Exit status:
+  0  the program was listed to its end
+  1  LAYOUT and a fault, or SHORT (the file has lost its end, or is no program):
+     what can be read was printed; or NO FILE, IMAGE SIZE, LOG: nothing was
+  2  NAME
+  3  FILE, NO MEMORY, IN USE
+
+Example: ledger basic old.d64 MENU > menu.bas",
+    values: &[IMAGE, NAME, UNCLOSED],
 };
 
 /// The folder that files are taken out to.

@@ -14,10 +14,10 @@ use Rattle.reached_disk.specs.Reached.{IsReached}
 use Rattle.reached_disk.specs.Sharing.{IsOwned, first_shared, shared_fault}
 use Rattle.file_rescues.specs.Bytes.{HasFile, HasNoFile, file_bytes}
 use Rattle.command_faults.specs.Faults.{IsLoadFault}
-use Rattle.file_rescues.specs.Faults.{IsEnded, keep_none}
+use Rattle.file_rescues.specs.Faults.{IsEnded, end_or_past, keep_none}
 use Rattle.file_rescues.specs.Found.{HasNone, IsFirstAsked, IsHad, unclosed}
 use Rattle.file_rescues.specs.Printed.{IsBytesPart, IsFileFault, IsUnclosedPart}
-use Rattle.file_rescues.specs.Forms.{bytes_as, records_as}
+use Rattle.file_rescues.specs.Forms.{file_as, records_as}
 use Rattle.file_rescues.specs.Records.{records_of}
 use Rattle.command_faults.specs.Outputs.{HandsPart}
 use Rattle.disk_layout.specs.Layout.{record_length}
@@ -27,7 +27,7 @@ use Rattle.file_rescues.specs.declared.finding.Candidates.{Candidates}
 use Rattle.file_rescues.specs.declared.finding.Candidates.TheVariants.{All}
 use Rattle.file_rescues.specs.declared.finding.Kind.{Kind}
 use Rattle.file_rescues.specs.declared.finding.Kind.TheVariants.{Any, Records}
-use Rattle.file_rescues.specs.declared.forms.ByteForm.{ByteForm}
+use Rattle.file_rescues.specs.declared.forms.FileForm.{FileForm}
 use Rattle.file_rescues.specs.declared.forms.RecordForm.{RecordForm}
 use Rattle.rel_records.proofs.lemmas.reading.Found.{same-slot}
 use Rattle.command_faults.proofs.Loads.{by-load}
@@ -125,19 +125,37 @@ module _ {W : Type 0} (image : List ℕ) (kind : Kind) (name : List ℕ) (Printe
   put-stopped new fault file why (inr (is, same)) =
       subst (λ (w : CommandFault). IsFileFault image kind name Printed old new w) (sym is) (file.size, same)
 
+-- the end of the printing is the place that was found, or otherwise the one past which the program goes on
+pub ended-past : {A : Type 0} (Told : A → Option Place → Type 0) (past_of : A → Option Place) (past : Option Place)
+    (r r' : Result (Option Place) CommandFault) → r' ≡ end_or_past r past
+    → IfOk r (λ cut. (p : (a : A) × (past ≡ past_of a)) × Told p.0 cut)
+    → IfOk r' (λ cut. (a : A) × (found : Option Place) × Told a found × (cut ≡ option_or found (past_of a)))
+ended-past {A} Told past_of past (Ok found) r' is ((a, at), told) = subst (λ (e : Result (Option Place) CommandFault).
+    IfOk e (λ cut. (a : A) × (found : Option Place) × Told a found × (cut ≡ option_or found (past_of a)))) (sym is)
+    (a, found, told, ap (option_or found) at)
+ended-past {A} Told past_of past (Err why) r' is told = subst (λ (e : Result (Option Place) CommandFault).
+    IfOk e (λ cut. (a : A) × (found : Option Place) × Told a found × (cut ≡ option_or found (past_of a)))) (sym is) tt
+
+pub stopped-past : (Why : CommandFault → Type 0) (past : Option Place) (r r' : Result (Option Place) CommandFault)
+    → r' ≡ end_or_past r past → IfErr r Why → IfErr r' Why
+stopped-past Why past (Ok found) r' is why =
+    subst (λ (e : Result (Option Place) CommandFault). IfErr e Why) (sym is) tt
+stopped-past Why past (Err fault) r' is why =
+    subst (λ (e : Result (Option Place) CommandFault). IfErr e Why) (sym is) why
+
 -- what was printed of the bytes of a file
-pub bytes-part : {W : Type 0} (contents : W → Option (List ℕ)) (form : ByteForm) (candidates : Candidates)
+pub bytes-part : {W : Type 0} (contents : W → Option (List ℕ)) (form : FileForm) (candidates : Candidates)
     (image name : List ℕ) (old new : W) (fault : Option Fault) (file : HasFile image (Any candidates) name fault)
     (now : Image) → now ≡ sectors_in image → (ps : List Place) → ps ≡ file.blocks
-    → HandsPart (contents old) (contents new) (bytes_as form (file_bytes now ps file.last))
+    → HandsPart (contents old) (contents new) (file_as form (file_bytes now ps file.last))
     → IsBytesPart contents form candidates image name old new
 bytes-part contents form candidates image name old new fault file now same ps are part = inr (
   fault,
   file,
-  subst (λ (i : Image). HandsPart (contents old) (contents new) (bytes_as form (file_bytes i file.blocks file.last)))
+  subst (λ (i : Image). HandsPart (contents old) (contents new) (file_as form (file_bytes i file.blocks file.last)))
       same
       (subst (λ (xs : List Place). HandsPart (contents old) (contents new)
-      (bytes_as form (file_bytes now xs file.last))) are part),
+      (file_as form (file_bytes now xs file.last))) are part),
 )
 
 -- what was printed of the records among the bytes of a file

@@ -1,5 +1,7 @@
 -- How what is taken out of an image is printed. All of it is our own.
-use Rattle.std.specs.Prelude.{ℕ, zero, suc, ◌+◌, ◌++◌, List, [], codes, decimal, get_or, length, ⊤}
+use Rattle.std.specs.Prelude.{ℕ, zero, suc, ◌+◌, ◌-◌, ◌++◌, List, [], None, Option, codes, decimal, get_or, if◌then◌else◌, length, slice_get, ⊤}
+use Rattle.basic_text.specs.Listings.{is_ended, listing}
+use Rattle.d64_image.specs.declared.place.Place.{Place}
 use Rattle.line_text.specs.bytes.Texts.{record_line, trimmed}
 use Rattle.line_text.specs.petscii.Characters.{readable}
 use Rattle.line_text.specs.declared.petscii.characters.CharacterSet.{CharacterSet}
@@ -12,6 +14,8 @@ use Rattle.file_rescues.specs.declared.forms.ByteForm.{ByteForm}
 use Rattle.file_rescues.specs.declared.forms.ByteForm.TheVariants as bytes
 use Rattle.file_rescues.specs.declared.forms.ColumnForm.{ColumnForm}
 use Rattle.file_rescues.specs.declared.forms.ColumnForm.TheVariants as columns
+use Rattle.file_rescues.specs.declared.forms.FileForm.{FileForm}
+use Rattle.file_rescues.specs.declared.forms.FileForm.TheVariants as files
 use Rattle.file_rescues.specs.declared.forms.RecordForm.{RecordForm}
 use Rattle.file_rescues.specs.declared.forms.RecordForm.TheVariants as forms
 
@@ -55,3 +59,13 @@ records_as (forms.Columns form) rs = form_lines_to (forms.Columns form) rs (leng
 abbrev pub bytes_as : ByteForm → List ℕ → List ℕ
 bytes_as bytes.Plain file = file
 bytes_as (bytes.Text set) file = readable set file
+
+-- a file in each form
+abbrev pub file_as : FileForm → List ℕ → List ℕ
+file_as (files.Bytes form) file = bytes_as form file
+file_as files.Listing file = listing file
+
+-- the last block of a file whose program goes on past it
+abbrev pub past_end : FileForm → (file : List ℕ) (blocks : List Place) → Option Place
+past_end (files.Bytes form) file blocks = None
+past_end files.Listing file blocks = if is_ended file then None else slice_get blocks (length blocks - 1)

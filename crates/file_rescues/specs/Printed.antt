@@ -1,6 +1,7 @@
 -- What was printed of a file of an image. All of it is our own.
 use Rattle.std.specs.Prelude.{◌≡◌, ◌≢◌, ◌⊎◌, ℕ, List, None, Option, Some, length}
 use Rattle.std.specs.Io.KnownBytes.{Appends}
+use Rattle.std.specs.Option.{option_or}
 use Rattle.d64_image.specs.Images.{Image}
 use Rattle.d64_image.specs.Memory.{sectors_in}
 use Rattle.d64_image.specs.declared.place.Place.{Place}
@@ -10,7 +11,7 @@ use Rattle.disk_layout.specs.Records.{records}
 use Rattle.disk_layout.specs.declared.faults.Fault.{Fault}
 use Rattle.command_faults.specs.Outputs.{HandsPart}
 use Rattle.file_rescues.specs.Bytes.{HasFile, HasNoFile, file_bytes}
-use Rattle.file_rescues.specs.Forms.{bytes_as, records_as}
+use Rattle.file_rescues.specs.Forms.{file_as, past_end, records_as}
 use Rattle.file_rescues.specs.Records.{HasNoReached, HasNoRecordFile, IsReachedFile, IsRecordFile, records_of}
 use Rattle.command_faults.specs.declared.faults.CommandFault.{CommandFault}
 use Rattle.command_faults.specs.declared.faults.CommandFault.TheVariants as faults
@@ -18,7 +19,7 @@ use Rattle.file_rescues.specs.declared.finding.Candidates.{Candidates}
 use Rattle.file_rescues.specs.declared.finding.Candidates.TheVariants.{All}
 use Rattle.file_rescues.specs.declared.finding.Kind.{Kind}
 use Rattle.file_rescues.specs.declared.finding.Kind.TheVariants.{Any, Records}
-use Rattle.file_rescues.specs.declared.forms.ByteForm.{ByteForm}
+use Rattle.file_rescues.specs.declared.forms.FileForm.{FileForm}
 use Rattle.file_rescues.specs.declared.forms.RecordForm.{RecordForm}
 
 -- the lines of the records of the image's first closed relative file of that name, and nothing else, were handed to an
@@ -74,25 +75,28 @@ IsRecordsPart contents form image name old new =
 
 -- the bytes that can be reached of the first file of that name, and nothing else, were; and this fault is in the way of
 -- more, or none is
-pub record AreBytesPrinted {W : Type 0} (contents : W → Option (List ℕ)) (form : ByteForm) (candidates : Candidates)
+pub record AreBytesPrinted {W : Type 0} (contents : W → Option (List ℕ)) (form : FileForm) (candidates : Candidates)
     (image name : List ℕ) (old new : W) (fault : Option Fault) : Type 0 where
   pub file : HasFile image (Any candidates) name fault
   pub printed : Appends (contents old) (contents new)
-      (bytes_as form (file_bytes (sectors_in image) file.blocks file.last))
+      (file_as form (file_bytes (sectors_in image) file.blocks file.last))
 
--- all of them were, and this file is cut short there, or isn't
-abbrev pub AreBytesTaken : {W : Type 0} → (W → Option (List ℕ)) → ByteForm → Candidates → (image name : List ℕ) → W → W
+-- All of them were, and this file is cut short there, or isn't: where a check says so, or otherwise where its program goes
+-- on past its end
+abbrev pub AreBytesTaken : {W : Type 0} → (W → Option (List ℕ)) → FileForm → Candidates → (image name : List ℕ) → W → W
     → Option Place → Type 0
 AreBytesTaken contents form candidates image name old new cut =
-    (printed : AreBytesPrinted contents form candidates image name old new None)
-    × IsToldOfImage image (Some printed.file.number) cut
+    (printed : AreBytesPrinted contents form candidates image name old new None) × (found : Option Place)
+    × IsToldOfImage image (Some printed.file.number) found
+    × (cut ≡ option_or found
+    (past_end form (file_bytes (sectors_in image) printed.file.blocks printed.file.last) printed.file.blocks))
 
 -- what was printed of bytes that aren't all printed: nothing, or a beginning of those that can be reached
-abbrev pub IsBytesPart : {W : Type 0} → (W → Option (List ℕ)) → ByteForm → Candidates → (image name : List ℕ) → W → W
+abbrev pub IsBytesPart : {W : Type 0} → (W → Option (List ℕ)) → FileForm → Candidates → (image name : List ℕ) → W → W
     → Type 0
 IsBytesPart contents form candidates image name old new = (new ≡ old)
     ⊎ ((fault : Option Fault) × (file : HasFile image (Any candidates) name fault)
-    × HandsPart (contents old) (contents new) (bytes_as form (file_bytes (sectors_in image) file.blocks file.last)))
+    × HandsPart (contents old) (contents new) (file_as form (file_bytes (sectors_in image) file.blocks file.last)))
 
 -- the records among the bytes that can be reached of the first file of that name that has records, closed or not, and
 -- nothing else, were; and this fault is in the way of more, or none is
@@ -129,7 +133,7 @@ IsFileFault image kind name Printed old new faults.File = (fault : Option Fault)
 IsFileFault image kind name Printed old new _ = ⊥
 
 -- why not all bytes of a file are printed
-abbrev pub IsBytesFault : {W : Type 0} → (W → Option (List ℕ)) → ByteForm → Candidates → (image name : List ℕ) → W → W
+abbrev pub IsBytesFault : {W : Type 0} → (W → Option (List ℕ)) → FileForm → Candidates → (image name : List ℕ) → W → W
     → CommandFault → Type 0
 IsBytesFault contents form candidates image name old new fault = IsFileFault image (Any candidates) name
     (AreBytesPrinted contents form candidates image name old new) old new fault

@@ -1,12 +1,12 @@
 //! The bytes of a file of any type, as they are printed.
 ghost use Rattle.std.specs.Prelude.{◌≡◌, IfErr, IfOk, OnErr};
 ghost use Rattle.d64_image.specs.Memory.{disk_image};
-ghost use Rattle.file_rescues.specs.Faults.{IsEnded, keep_none};
+ghost use Rattle.file_rescues.specs.Faults.{IsEnded, end_or_past, keep_none};
 ghost use Rattle.file_rescues.specs.Printed.{AreBytesTaken, IsBytesFault, IsBytesPart};
 
-use crate::chains::print_bytes;
+use crate::file_printing::print_file;
 use crate::finding::{Candidates, FoundFile, Kind, find_file};
-use crate::forms::ByteForm;
+use crate::forms::FileForm;
 use arrayvec::ArrayVec;
 use command_faults::{CommandFault, flush, load};
 use d64_image::{MemDisk, Place};
@@ -22,6 +22,19 @@ pub(crate) fn ended(disk: &mut MemDisk, file: &FoundFile) -> Result<Option<Place
     match file.fault {
         Some(fault) => Err(CommandFault::Layout(fault)),
         None => Ok(sound_cut(disk, Some(file.number))),
+    }
+}
+
+/// How the printing ends; without a place, at this one.
+fn end_or(
+    end: Result<Option<Place>, CommandFault>,
+    past: Option<Place>,
+) -> Result<Option<Place>, CommandFault>
+    ensures { result ≡ end_or_past end past }
+{
+    match end {
+        Ok(found) => Ok(found.or(past)),
+        Err(fault) => Err(fault),
     }
 }
 
@@ -55,7 +68,7 @@ pub fn bytes_image<W: Write>(
     image: &[u8],
     candidates: Candidates,
     name: &[u8],
-    form: ByteForm,
+    form: FileForm,
     out: &mut W,
 ) -> Result<Option<Place>, CommandFault>
     ensures ok { IfOk result (AreBytesTaken W.contents form candidates image.now name.now out.old out.new) }
@@ -68,7 +81,7 @@ pub fn bytes_image<W: Write>(
         Ok(file) => file,
         Err(ended) => return Err(no_file(ended)),
     };
-    print_bytes(out, &disk, blocks.as_slice(), file.last, form)?;
+    let past = print_file(alloc, out, &disk, blocks.as_slice(), file.last, form)?;
     flush(out)?;
-    ended(&mut disk, &file)
+    end_or(ended(&mut disk, &file), past)
 }

@@ -29,3 +29,12 @@ pub enum ByteForm {
     /// As text that people read, in the characters of this set.
     Text(CharacterSet),
 }
+
+/// How a file is printed.
+#[derive(Clone, Copy, Debug, PartialEq, Eq)]
+pub enum FileForm {
+    /// As its bytes, in this form.
+    Bytes(ByteForm),
+    /// As the listing of a program in BASIC 2.0 (`basic_text`).
+    Listing,
+}

@@ -3,6 +3,7 @@
 
 mod byte_printing;
 mod chains;
+mod file_printing;
 mod finding;
 mod forms;
 mod line_printing;
@@ -15,7 +16,7 @@ mod unclosed_records;
 pub use byte_printing::bytes_image;
 pub use chains::{print_bytes, read_file};
 pub use finding::{Candidates, length_of_records};
-pub use forms::{ByteForm, ColumnForm, RecordForm};
+pub use forms::{ByteForm, ColumnForm, FileForm, RecordForm};
 pub use piece_printing::print_pieces;
 pub use record_printing::records_image;
 pub use rescue::choices::Choice;

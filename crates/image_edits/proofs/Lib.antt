@@ -1,4 +1,5 @@
 pub mod ChangedOver
 pub mod EditRead
+pub mod Held
 pub mod NewMade
 pub mod Salvaged

@@ -1,5 +1,5 @@
 -- What comes of a change of an image's files, as the words ask for it. Our own.
-use Rattle.std.specs.Prelude.{◌≡◌, ◌≤◌, ⊤, ℕ, Bool, List, false, length, true}
+use Rattle.std.specs.Prelude.{◌≡◌, ◌≤◌, ⊤, ℕ, Bool, List, Some, false, length, true}
 use Rattle.disk_changes.specs.Deletes.{IsDeleteRefusal, IsDeleted}
 use Rattle.disk_changes.specs.Locks.{IsLockRefusal, IsLockSet}
 use Rattle.disk_changes.specs.Makes.{IsMade, IsMakeRefusal}
@@ -15,6 +15,7 @@ use Rattle.command_faults.specs.declared.faults.CommandFault.{CommandFault}
 use Rattle.image_file.specs.paths.Standing.{Stands}
 use Rattle.file_changes.specs.NewNames.{IsNewName}
 use Rattle.image_edits.specs.Columns.{text_in}
+use Rattle.image_edits.specs.Containers.{file_in}
 use Rattle.opened_files.specs.HostFiles.{OfText}
 use Rattle.opened_files.specs.Names.{name_bytes}
 use Rattle.image_edits.specs.declared.edit.Edit.{Edit}
@@ -49,9 +50,10 @@ IsFitEdit (edits.Put file kind loss name) = IsNewName (name_bytes name)
 IsFitEdit (edits.Title id loss name) = length (name_bytes name) ≤ 16
 IsFitEdit _ = ⊤
 
--- the text that a change takes is that of the file that it names, if the host says its bytes: records in one column each
+-- the text that a change takes is that of the file that it names, if the host says its bytes: the file that it holds, or records
+-- in one column each
 abbrev pub IsTextFor : {H : Type 0} → (H → List ℕ → Stands) → H → Edit → (text : List ℕ) → Type 0
-IsTextFor stands host (edits.Put file kind loss name) text = OfText stands host file.now (λ all. text ≡ all)
+IsTextFor stands host (edits.Put file kind loss name) text = OfText stands host file.now (λ all. file_in all ≡ Some text)
 IsTextFor stands host (edits.Store records columns loss name) text =
     OfText stands host records.now (λ all. text ≡ text_in columns all)
 IsTextFor stands host _ text = ⊤

@@ -1,5 +1,6 @@
 pub mod Changes
 pub mod Columns
+pub mod Containers
 pub mod Copies
 pub mod EditRights
 pub mod EditRuns

@@ -15,6 +15,7 @@ ghost use Rattle.image_edits.specs.declared.edit.Effect.TheVariants.{Printed, Wr
 ghost use Rattle.image_log.specs.life.Tags.{SaysLogAway};
 
 use crate::changing::{change_end, change_taken, image_to_change};
+use crate::containers::file_at;
 use crate::edit::{Columns, Edit, Effect};
 use command_faults::CommandFault;
 use disk_changes::{Change, plain_lines};
@@ -133,7 +134,7 @@ where
     ensures err { IfErr result IsUnread }
 {
     match *edit {
-        Edit::Put { file, .. } => script_to_play(rt, file),
+        Edit::Put { file, .. } => file_at(rt, file),
         Edit::Store {
             records,
             columns,

@@ -2,6 +2,7 @@
 #![tactic(auto)]
 
 mod changing;
+mod containers;
 mod copying;
 mod edit;
 mod edits;

@@ -14,7 +14,7 @@ use Rattle.disk_reports.specs.Texts.{verdict_text}
 use Rattle.file_rescues.specs.Printed.{AreBytesTaken, AreRecordsTaken as AreClosedTaken, AreUnclosedTaken, IsBytesFault, IsBytesPart, IsRecordsFault, IsRecordsPart, IsUnclosedFault, IsUnclosedPart}
 use Rattle.file_rescues.specs.declared.finding.Candidates.{Candidates}
 use Rattle.file_rescues.specs.declared.finding.Candidates.TheVariants.{All, Closed}
-use Rattle.file_rescues.specs.declared.forms.ByteForm.{ByteForm}
+use Rattle.file_rescues.specs.declared.forms.FileForm.{FileForm}
 use Rattle.file_rescues.specs.declared.forms.RecordForm.{RecordForm}
 use Rattle.shop_commands.specs.Shops.{IsShowFault, IsShown}
 use Rattle.image_log.specs.life.Tags.{SaysLogAway}
@@ -55,7 +55,7 @@ module _ {W : Type 0} (contents : W → Option (List ℕ)) where
       IsUnclosedFault contents form image name old new fault × IsUnclosedPart contents form image name old new
 
   -- why its bytes weren't
-  abbrev pub WhyNoBytes : ByteForm → Candidates → (image name : List ℕ) → W → W → CommandFault → Type 0
+  abbrev pub WhyNoBytes : FileForm → Candidates → (image name : List ℕ) → W → W → CommandFault → Type 0
   WhyNoBytes form candidates image name old new fault =
       IsBytesFault contents form candidates image name old new fault
       × IsBytesPart contents form candidates image name old new

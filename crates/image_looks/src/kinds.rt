@@ -2,7 +2,7 @@
 
 use d64_image::Place;
 use disk_reports::NameForm;
-use file_rescues::{ByteForm, Candidates, RecordForm};
+use file_rescues::{Candidates, FileForm, RecordForm};
 use opened_files::{Loss, Name};
 
 /// What is printed of one image, which isn't written.
@@ -36,10 +36,10 @@ pub enum Look {
         /// The name of the file, of which the first is taken.
         name: Name,
     },
-    /// The bytes of a file of any type.
+    /// The bytes of a file of any type, or the listing of its program.
     Bytes {
-        /// How they are printed.
-        form: ByteForm,
+        /// How it is printed.
+        form: FileForm,
         /// Among which files it is looked for.
         candidates: Candidates,
         /// The name of the file, of which the first is taken.

@@ -120,7 +120,8 @@ IsJob found (jobs.New image name id) = Has found (codes "new")
 -- the text of a name is none that the subcommand takes
 abbrev pub IsRefusedName : Option (Text × List Row) → Type 0
 IsRefusedName found =
-    (Has found (codes "records") (HasNoName (codes "NAME")) ⊎ Has found (codes "bytes") (HasNoName (codes "NAME")))
+    (Has found (codes "records") (HasNoName (codes "NAME")) ⊎ (Has found (codes "bytes") (HasNoName (codes "NAME"))
+    ⊎ Has found (codes "basic") (HasNoName (codes "NAME"))))
     ⊎ (Has found (codes "store") (HasNoName (codes "NAME")) ⊎ (Has found (codes "make") (HasNoNewName (codes "NAME"))
     ⊎ (Has found (codes "delete") (HasNoName (codes "NAME")) ⊎ (Has found (codes "rename") HasNoRenaming
     ⊎ (Has found (codes "new") (HasNoName (codes "NAME")) ⊎ (Has found (codes "put") (HasNoNewName (codes "NAME"))

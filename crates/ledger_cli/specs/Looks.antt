@@ -3,6 +3,7 @@ use Rattle.std.specs.Prelude.{◌≡◌, ◌<◌, List, Some, codes, false, if�
 use Rattle.clap.specs.Words.{Row, Text}
 use Rattle.command_table.specs.Grammar.{value, values}
 use Rattle.opened_files.specs.Names.{IsNameOf, name_bytes}
+use Rattle.file_rescues.specs.declared.forms.FileForm.TheVariants as files
 use Rattle.image_looks.specs.declared.kinds.Look.{Look}
 use Rattle.image_looks.specs.declared.kinds.Look.TheVariants as looks
 use Rattle.ledger_cli.specs.Flags.{is_given}
@@ -21,7 +22,8 @@ word_of looks.Poster = codes "picture"
 word_of looks.Free = codes "free"
 word_of (looks.Sector place) = codes "sector"
 word_of (looks.Records form candidates name) = codes "records"
-word_of (looks.Bytes form candidates name) = codes "bytes"
+word_of (looks.Bytes (files.Bytes form) candidates name) = codes "bytes"
+word_of (looks.Bytes files.Listing candidates name) = codes "basic"
 
 -- which faults the flags ask for: the first, but with --all all of them
 abbrev pub check_in : List Row → Look
@@ -38,8 +40,10 @@ IsAskedBy looks.Poster rows = is_given (codes "svg") rows ≡ true
 IsAskedBy (looks.Sector place) rows = place_in rows ≡ Some place
 IsAskedBy (looks.Records form candidates name) rows = IsNameOf (value (codes "NAME") rows) (name_bytes name)
     × IsRecordForm rows form × (candidates ≡ candidates_in rows)
-IsAskedBy (looks.Bytes form candidates name) rows = IsNameOf (value (codes "NAME") rows) (name_bytes name)
+IsAskedBy (looks.Bytes (files.Bytes form) candidates name) rows = IsNameOf (value (codes "NAME") rows) (name_bytes name)
     × (form ≡ byte_form_in rows) × (candidates ≡ candidates_in rows)
+IsAskedBy (looks.Bytes files.Listing candidates name) rows = IsNameOf (value (codes "NAME") rows) (name_bytes name)
+    × (candidates ≡ candidates_in rows)
 IsAskedBy _ rows = ⊤
 
 -- there is one image

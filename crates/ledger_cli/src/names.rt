@@ -3,7 +3,7 @@ ghost use Rattle.std.specs.Prelude.{◌≡◌, ℕ, IfSome, IsNone, List, codes}
 ghost use Rattle.std.specs.Borrow.{Bor};
 ghost use Rattle.clap.specs.Words.{Text};
 ghost use Rattle.command_table.specs.Grammar.{value};
-ghost use Rattle.ledger_cli.specs.Forms.{byte_form_in, candidates_in, effect_in, loss_in};
+ghost use Rattle.ledger_cli.specs.Forms.{candidates_in, effect_in, loss_in};
 ghost use Rattle.clap.specs.Words.{found_of, rows_of};
 ghost use Rattle.line_text.specs.bytes.Texts.{AreBytes};
 ghost use Rattle.file_changes.specs.NewNames.{IsNewName};
@@ -15,32 +15,33 @@ ghost use Rattle.ledger_jobs.specs.declared.jobs.Job.TheVariants as jobs;
 ghost use Rattle.image_looks.specs.declared.kinds.Look.TheVariants as looks;
 
 use crate::faults::JobFault;
-use crate::forms::{byte_form, candidates, columns, effect, loss, record_form};
+use crate::forms::{candidates, columns, effect, loss, record_form};
 use crate::numbers::length_of;
 use crate::values::value_of;
 use clap::ArgMatches;
 use disk_changes::Lock;
 use file_changes::FileType;
-use file_rescues::RecordForm;
+use file_rescues::{FileForm, RecordForm};
 use image_edits::{Columns, Edit};
 use image_looks::Look;
 use ledger_jobs::Job;
 use line_text::read_text;
 use opened_files::Name;
 
-/// The job that prints the bytes of the file of a name.
-pub(crate) fn taking_bytes<'a>(
+/// The job that prints the file of a name in this form.
+pub(crate) fn taking_file<'a>(
     matches: &ArgMatches<'a>,
+    form: FileForm,
     image: &'a str,
 ) -> Result<Job<'a>, JobFault>
     ensures { let rows = rows_of (found_of matches.now) in
-        IsNamedJob rows (λ name. jobs.Look image.entry (looks.Bytes (byte_form_in rows) (candidates_in rows) name)) result }
+        IsNamedJob rows (λ name. jobs.Look image.entry (looks.Bytes form (candidates_in rows) name)) result }
 {
     let Some(name) = Name::read(value_of(matches, "NAME")) else {
         return Err(JobFault::Name);
     };
     let what = Look::Bytes {
-        form: byte_form(matches),
+        form,
         candidates: candidates(matches),
         name,
     };

@@ -6,11 +6,11 @@ ghost use Rattle.ledger_jobs.specs.Jobs.{IsFit};
 ghost use Rattle.ledger_cli.specs.Jobs.{IsHeard, IsJob, IsNoJob, IsParse, is_explained as explained};
 
 use crate::faults::JobFault;
-use crate::forms::{choice, loss, name_form, repairing};
+use crate::forms::{byte_form, choice, loss, name_form, repairing};
 use crate::images::{checking, picturing, viewing};
 use crate::names::{
-    deleting, empty_disk, locking, making, putting, renaming, storing, taking_bytes,
-    taking_records, titling,
+    deleting, empty_disk, locking, making, putting, renaming, storing, taking_file, taking_records,
+    titling,
 };
 use crate::numbers::{place_of, tills_of};
 use crate::shops::{copying, formatting, playing};
@@ -18,6 +18,7 @@ use crate::values::{is_given, parsed_subcommand, value_of};
 use clap::{ArgMatches, Error};
 use command_table::ledger_command;
 use disk_changes::Lock;
+use file_rescues::FileForm;
 use image_looks::Look;
 use ledger_jobs::Job;
 use std::alloc::{AllocError, Global};
@@ -58,7 +59,8 @@ fn job_of<'a>(alloc: Global, matches: &ArgMatches<'a>) -> Result<Job<'a>, JobFau
         }),
         "repair" => Ok(repairing(found, image)),
         "records" => taking_records(found, image),
-        "bytes" => taking_bytes(found, image),
+        "bytes" => taking_file(found, FileForm::Bytes(byte_form(found)), image),
+        "basic" => taking_file(found, FileForm::Listing, image),
         "make" => making(found, image),
         "store" => storing(found, image),
         "put" => putting(found, image),

@@ -1,36 +1,38 @@
 -- The file was found, and its bytes were printed as far as they can be reached; or the output failed.
-use Rattle.std.proofs.Common.{◌∙◌, Err, List, ap, refl, subst}
+use Rattle.std.proofs.Common.{◌≡◌, ◌∙◌, Err, List, None, Option, Some, ap, refl, subst}
 use Rattle.std.proofs.KnownBytes.{Appends-kept}
 use Rattle.std.proofs.lemmas.Result.{err_from_is_err_and}
 use Rattle.std.specs.Io.KnownBytes.{Appends}
 use Rattle.d64_image.specs.Images.{Image}
-use Rattle.d64_image.specs.Memory.{disk_image}
+use Rattle.d64_image.specs.Memory.{disk_image, sectors_in}
 use Rattle.d64_image.specs.declared.place.Place.{Place}
+use Rattle.damaged_files.specs.cut.Told.{IsToldOfImage}
+use Rattle.disk_layout.specs.declared.faults.Fault.{Fault}
 use Rattle.command_faults.proofs.Parts.{at-error, part-all}
-use Rattle.file_rescues.proofs.Files.{bytes-part, file-there, printed-end}
+use Rattle.file_rescues.proofs.Files.{bytes-part, ended-past, file-there, printed-end, put-stopped, stopped-past}
 use Rattle.file_rescues.specs.Bytes.{file_bytes}
-use Rattle.file_rescues.specs.Forms.{bytes_as}
+use Rattle.file_rescues.specs.Forms.{file_as, past_end}
 use Rattle.file_rescues.specs.Printed.{AreBytesPrinted}
 use Rattle.file_rescues.specs.declared.finding.Kind.TheVariants.{Any}
 use Rattle.file_rescues.proofs.byte_printing.bytes_image.Goals as goal
 
-pub returns-in_err-print_bytes : goal.returns-in_err-print_bytes
-returns-in_err-print_bytes g c =
+pub returns-in_err-past : goal.returns-in_err-past
+returns-in_err-past g c =
     let loaded = c.in_ok-disk.ensures.ok in
-    let p = err_from_is_err_and c.from_residual-in_err-print_bytes.result c.from_residual-in_err-print_bytes.ensures.1 in
+    let p = err_from_is_err_and c.from_residual-in_err-past.result c.from_residual-in_err-past.ensures.1 in
     record {
       ok = rw (p.1 ∙ ap Err p.2) tt;
-      err = rw (p.1 ∙ ap Err (p.2 ∙ c.in_err-print_bytes.ensures.err)) (
-        c.in-Ok.file.fault,
-        file-there c.args.image.now (Any c.args.candidates) c.args.name.now (disk_image c.in_ok-disk.disk)
-            c.in-Ok.file.number c.in-Ok.file.slot c.find_file.new.blocks.items c.in-Ok.file.last c.in-Ok.file.fault loaded.0 loaded.1
-            c.in-Ok.ensures.ok,
-      );
+      err = rw (p.1 ∙ ap Err p.2) (put-stopped c.args.image.now (Any c.args.candidates) c.args.name.now
+          (AreBytesPrinted g.W.Write.contents c.args.form c.args.candidates c.args.image.now c.args.name.now c.args.out.now
+          c.print_file.new.out) c.args.out.now c.print_file.new.out c.in-Ok.file.fault
+          (file-there c.args.image.now (Any c.args.candidates) c.args.name.now (disk_image c.in_ok-disk.disk)
+          c.in-Ok.file.number c.in-Ok.file.slot c.find_file.new.blocks.items c.in-Ok.file.last c.in-Ok.file.fault loaded.0
+          loaded.1 c.in-Ok.ensures.ok) _ c.in_err-past.ensures.err);
       part = rw (p.1 ∙ ap Err p.2) (bytes-part g.W.Write.contents c.args.form c.args.candidates c.args.image.now
-          c.args.name.now c.args.out.now c.print_bytes.new.out c.in-Ok.file.fault (file-there c.args.image.now
+          c.args.name.now c.args.out.now c.print_file.new.out c.in-Ok.file.fault (file-there c.args.image.now
           (Any c.args.candidates) c.args.name.now (disk_image c.in_ok-disk.disk) c.in-Ok.file.number c.in-Ok.file.slot
           c.find_file.new.blocks.items c.in-Ok.file.last c.in-Ok.file.fault loaded.0 loaded.1 c.in-Ok.ensures.ok) _
-          loaded.1 _ c.as_slice.ensures.value c.in_err-print_bytes.ensures.part);
+          loaded.1 _ c.as_slice.ensures.value c.in_err-past.ensures.part);
     }
 
 pub returns-in_err-flush : goal.returns-in_err-flush
@@ -50,7 +52,7 @@ returns-in_err-flush g c =
           (Any c.args.candidates) c.args.name.now (disk_image c.in_ok-disk.disk) c.in-Ok.file.number c.in-Ok.file.slot
           c.find_file.new.blocks.items c.in-Ok.file.last c.in-Ok.file.fault loaded.0 loaded.1 c.in-Ok.ensures.ok) _
           loaded.1 _ c.as_slice.ensures.value
-          (part-all _ _ _ (Appends-kept _ _ _ _ c.in_ok-print_bytes.ensures.ok c.flush.ensures.kept)));
+          (part-all _ _ _ (Appends-kept _ _ _ _ c.in_ok-past.ensures.ok.0 c.flush.ensures.kept)));
     }
 
 pub returns : goal.returns
@@ -58,27 +60,37 @@ returns g c =
     let loaded = c.in_ok-disk.ensures.ok in
     let before = g.W.Write.contents c.args.out.now in
     let after = g.W.Write.contents c.flush.new.out in
-    let printed = Appends-kept _ _ _ _ c.in_ok-print_bytes.ensures.ok c.flush.ensures.kept in
+    let printed = Appends-kept _ _ _ _ c.in_ok-past.ensures.ok.0 c.flush.ensures.kept in
     let file = file-there c.args.image.now (Any c.args.candidates) c.args.name.now (disk_image c.in_ok-disk.disk) c.in-Ok.file.number
     c.in-Ok.file.slot c.find_file.new.blocks.items c.in-Ok.file.last c.in-Ok.file.fault loaded.0 loaded.1
     c.in-Ok.ensures.ok in
-    let both = printed-end c.args.image.now (Any c.args.candidates) c.args.name.now
-    (AreBytesPrinted g.W.Write.contents c.args.form c.args.candidates c.args.image.now c.args.name.now c.args.out.now
-    c.flush.new.out) c.args.out.now c.flush.new.out (λ f t. t.file.number) _
-    loaded.1 c.in-Ok.file.number c.in-Ok.file.fault
-    c.ended.result c.ended.ensures (record {
+    let Printed = AreBytesPrinted g.W.Write.contents c.args.form c.args.candidates c.args.image.now c.args.name.now
+    c.args.out.now c.flush.new.out in
+    let here : Printed c.in-Ok.file.fault = record {
       file = file;
       printed = subst (λ (img : Image). Appends before after
-          (bytes_as c.args.form (file_bytes img c.find_file.new.blocks.items c.in-Ok.file.last)))
+          (file_as c.args.form (file_bytes img c.find_file.new.blocks.items c.in-Ok.file.last)))
           loaded.1
           (subst (λ (bs : List Place). Appends before after
-          (bytes_as c.args.form (file_bytes (disk_image c.in_ok-disk.disk) bs c.in-Ok.file.last)))
+          (file_as c.args.form (file_bytes (disk_image c.in_ok-disk.disk) bs c.in-Ok.file.last)))
           c.as_slice.ensures.value printed);
-    }) refl in
+    } in
+    let past_of : (f : Option Fault) → Printed f → Option Place = λ f t.
+    past_end c.args.form (file_bytes (sectors_in c.args.image.now) t.file.blocks t.file.last) t.file.blocks in
+    let past : c.in_ok-past.past ≡ past_of c.in-Ok.file.fault here = subst (λ (img : Image). c.in_ok-past.past
+    ≡ past_end c.args.form (file_bytes img c.find_file.new.blocks.items c.in-Ok.file.last) c.find_file.new.blocks.items)
+    loaded.1 (subst (λ (bs : List Place). c.in_ok-past.past
+    ≡ past_end c.args.form (file_bytes (disk_image c.in_ok-disk.disk) bs c.in-Ok.file.last) bs) c.as_slice.ensures.value
+    c.in_ok-past.ensures.ok.1) in
     record {
-      ok = both.0;
-      err = both.1;
-      part = at-error c.ended.result (bytes-part g.W.Write.contents c.args.form c.args.candidates c.args.image.now
+      ok = ended-past (λ (t : Printed None). IsToldOfImage c.args.image.now (Some t.file.number)) (past_of None) _ c.ended.result _
+          c.end_or.ensures (printed-end c.args.image.now (Any c.args.candidates) c.args.name.now
+          (λ f. (t : Printed f) × (c.in_ok-past.past ≡ past_of f t)) c.args.out.now c.flush.new.out (λ f t. t.0.file.number) _
+          loaded.1 c.in-Ok.file.number c.in-Ok.file.fault c.ended.result c.ended.ensures (here, past) refl).0;
+      err = stopped-past _ _ c.ended.result _ c.end_or.ensures (printed-end c.args.image.now (Any c.args.candidates)
+          c.args.name.now Printed c.args.out.now c.flush.new.out (λ f t. t.file.number) _ loaded.1 c.in-Ok.file.number
+          c.in-Ok.file.fault c.ended.result c.ended.ensures here refl).1;
+      part = at-error c.end_or.result (bytes-part g.W.Write.contents c.args.form c.args.candidates c.args.image.now
           c.args.name.now c.args.out.now c.flush.new.out c.in-Ok.file.fault file _
           loaded.1 _ c.as_slice.ensures.value (part-all _ _ _ printed));
     }

@@ -6,11 +6,12 @@ use Rattle.line_text.specs.Numbers.{number_in}
 use Rattle.image_edits.specs.declared.edit.Edit.TheVariants as edits
 use Rattle.disk_changes.specs.declared.changes.Lock.TheVariants.{Cleared, Set}
 use Rattle.ledger_jobs.specs.declared.jobs.Job.TheVariants as jobs
+use Rattle.file_rescues.specs.declared.forms.FileForm.TheVariants as files
 use Rattle.image_looks.specs.declared.kinds.Look.TheVariants as looks
 use Rattle.ledger_jobs.specs.Jobs.{IsFit}
 use Rattle.ledger_cli.specs.Jobs.{IsJob}
 use Rattle.ledger_cli.specs.Flags.{is_given}
-use Rattle.ledger_cli.specs.Forms.{byte_form_in, candidates_in, effect_in, loss_in}
+use Rattle.ledger_cli.specs.Forms.{candidates_in, effect_in, loss_in}
 use Rattle.ledger_cli.specs.Numbers.{spelled_place}
 use Rattle.ledger_cli.proofs.Pictures.{picturing-met}
 use Rattle.ledger_cli.proofs.Named.{making-met, named-met, putting-met, records-met, renaming-met}
@@ -138,10 +139,20 @@ pub returns-in-bytes : goal.returns-in-bytes
 returns-in-bytes c =
     let rows = rows_of (found_of c.in-Some.found.now) in
     let is = met-is c.parsed_subcommand.result _ c.in-Some.name c.in-Some.found _ c.parsed_subcommand.ensures c.in-Some.is c.in-bytes.is in
-    let met = named-met _ rows (λ name. jobs.Look c.value_of-image.result (looks.Bytes (byte_form_in rows) (candidates_in rows) name))
-    c.taking_bytes.result
-    (λ name at. record { rows = rows; is = is; holds = (c.value_of-image.ensures, tt, (at, refl, refl)) }) (λ name. tt)
-    (λ missing. inl (inr (record { rows = rows; is = is; holds = missing }))) c.taking_bytes.ensures in
+    let met = named-met _ rows (λ name. jobs.Look c.value_of-image.result (looks.Bytes (files.Bytes c.byte_form.result) (candidates_in rows) name))
+    c.taking_file.result
+    (λ name at. record { rows = rows; is = is; holds = (c.value_of-image.ensures, tt, (at, c.byte_form.ensures, refl)) }) (λ name. tt)
+    (λ missing. inl (inr (inl (record { rows = rows; is = is; holds = missing })))) c.taking_file.ensures in
+    record { job = met.0; fit = met.1 }
+
+pub returns-in-basic : goal.returns-in-basic
+returns-in-basic c =
+    let rows = rows_of (found_of c.in-Some.found.now) in
+    let is = met-is c.parsed_subcommand.result _ c.in-Some.name c.in-Some.found _ c.parsed_subcommand.ensures c.in-Some.is c.in-basic.is in
+    let met = named-met _ rows (λ name. jobs.Look c.value_of-image.result (looks.Bytes files.Listing (candidates_in rows) name))
+    c.taking_file-in-basic.result
+    (λ name at. record { rows = rows; is = is; holds = (c.value_of-image.ensures, tt, (at, refl)) }) (λ name. tt)
+    (λ missing. inl (inr (inr (record { rows = rows; is = is; holds = missing })))) c.taking_file-in-basic.ensures in
     record { job = met.0; fit = met.1 }
 
 pub returns-in-make : goal.returns-in-make

@@ -1,0 +1,3 @@
+pub mod Characters
+pub mod Listings
+pub mod Places
