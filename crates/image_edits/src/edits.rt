@@ -36,6 +36,7 @@ impl Edit<'_> {
             Edit::Make { loss, .. } | Edit::Store { loss, .. } | Edit::Put { loss, .. } => loss,
             Edit::Rename { loss, .. } | Edit::Title { loss, .. } => loss,
             Edit::Lock { loss, .. } | Edit::Delete { loss, .. } => loss,
+            Edit::Undelete { loss, .. } | Edit::Sort { loss } => loss,
         }
     }
 
@@ -84,6 +85,11 @@ impl Edit<'_> {
             Edit::Delete { ref name, .. } => Change::Delete {
                 name: name.as_bytes(),
             },
+            Edit::Undelete { kind, ref name, .. } => Change::Undelete {
+                kind,
+                name: name.as_bytes(),
+            },
+            Edit::Sort { .. } => Change::Sort,
             Edit::Put { kind, ref name, .. } => Change::Put {
                 name: name.as_bytes(),
                 kind,
@@ -145,6 +151,7 @@ where
         Edit::Rename { .. } | Edit::Title { .. } | Edit::Lock { .. } | Edit::Delete { .. } => {
             Ok(Vec::new(rt.alloc()))
         }
+        Edit::Undelete { .. } | Edit::Sort { .. } => Ok(Vec::new(rt.alloc())),
     }
 }
 
