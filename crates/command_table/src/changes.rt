@@ -267,15 +267,14 @@ const UNDELETE: Subcommand = Subcommand {
     more: "\
 It gives the first deleted entry that has this name its type back, takes the
 blocks of the file, and prints UNDELETED. The file isn't locked. A deleted entry
-doesn't tell its type: bytes of prg, seq and usr are read alike. Relative files
-can't be undeleted; take their bytes with extract --deleted.
+has no type: give the one that the file had. A relative file can't come back;
+extract --deleted takes its bytes.
 
 Exit status:
   0  the file is there
-  1  a file or the directory is damaged (LAYOUT and a fault: repair --sides
-     mends BADSIDE, nothing else), or this file would be: another has its blocks
-     (LAYOUT OWNEDTWICE), a part of it is lost (SHORT); IMAGE SIZE, GEOS, FORMAT,
-     LOG, LOG AWAY, NO FILE, FILE EXISTS (NAME): nothing was done
+  1  a file or the directory is damaged or would be (LAYOUT: OWNEDTWICE if
+     another file has a block), SHORT, IMAGE SIZE, GEOS, FORMAT, LOG, LOG AWAY,
+     NO FILE, FILE EXISTS: nothing was done
   2  NAME, TYPE
   3  FILE, NO MEMORY, IN USE, DEVICE
 
