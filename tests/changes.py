@@ -6,7 +6,7 @@ from record_disks import DATA, POINTERS, RELATIVE, Disk, line_of, sectors_of
 from served import run, sure, want
 
 IMAGE = "disk.d64"
-WORDS = ("repair", "repair --sides", "make", "store", "put", "rename", "title", "lock", "unlock", "delete", "format")
+WORDS = ("repair", "repair --sides", "make", "store", "put", "rename", "title", "lock", "unlock", "delete", "undelete", "sort", "format")
 RENAMED = "RENAMED"
 
 
@@ -76,12 +76,14 @@ class Draw:
             "lock": ("lock", draw.choice(["FILE0", "PROGRAM"])),
             "unlock": ("unlock", draw.choice(["FILE0", "PROGRAM"])),
             "delete": ("delete", draw.choice(["FILE0", "PROGRAM"])),
+            "undelete": ("undelete", "PROGRAM", "--type", draw.choice(["prg", "seq", "usr"])),
+            "sort": ("sort",),
             "format": ("format", "--tills", "4"),
         }[word]
         if words[0] == "repair":
             disk = self.hurt(disk, word.endswith("--sides"))
-        if word == "unlock":
-            disk = Change(self.program, self.folder / "state", ("lock", words[1]), disk).after
+        if word in ("unlock", "undelete"):
+            disk = Change(self.program, self.folder / "state", (word.removeprefix("un"), words[1]), disk).after
         return Change(self.program, self.folder / "state", words, disk)
 
     def disk(self):

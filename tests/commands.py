@@ -1,7 +1,7 @@
 """Every command of the program with words that it can do, for the scripts that try each command in some way.
 
 A new command gets its line in COMMANDS; the scripts have no lists of their own. The words name files of one folder, which
-`scene` makes: an image of a shop with a file NOTES, a script of requests and lines of records."""
+`scene` makes: an image of a shop with a file NOTES and a deleted file GONE, a script of requests and lines of records."""
 
 import shutil
 import subprocess
@@ -106,6 +106,8 @@ COMMANDS = [
     command(CHANGES, f"lock {IMAGE} NOTES"),
     command(CHANGES, f"unlock {IMAGE} NOTES"),
     command(CHANGES, f"delete {IMAGE} NOTES"),
+    command(CHANGES, f"undelete {IMAGE} GONE --type usr"),
+    command(CHANGES, f"sort {IMAGE}"),
     command(MAKES, f"format {IMAGE} --tills 2"),
     command(MAKES, f"format {NEW} --tills 2 --new"),
     command(MAKES, f"new {NEW} --name TOOLS --id 01"),
@@ -123,10 +125,11 @@ def those_that(*does):
 
 
 def scene(program, folder, tills=2, script=REQUEST, records=b"1,A\n"):
-    """Makes the folder's files anew: an image of a shop with a file NOTES, requests and records. What stood there is gone."""
+    """Makes the folder's files anew, as above. What stood there is gone."""
     for path in Path(folder).iterdir():
         shutil.rmtree(path) if path.is_dir() else path.unlink()
     (folder / SCRIPT).write_bytes(script)
     (folder / RECORDS).write_bytes(records)
-    for words in (["format", IMAGE, "--tills", str(tills)], ["make", IMAGE, "NOTES", "--length", "30"]):
+    put, delete = ["put", IMAGE, "GONE", RECORDS, "--type", "seq"], ["delete", IMAGE, "GONE"]
+    for words in (["format", IMAGE, "--tills", str(tills)], ["make", IMAGE, "NOTES", "--length", "30"], put, delete):
         subprocess.run([program, *words], cwd=folder, check=True, stdout=subprocess.DEVNULL)

@@ -29,13 +29,14 @@ pub one-more : {A B : Type 0} (f : B → A → B) (start : B) (xs : List A) (i :
     → P (f (fold f start (take i xs)) (get_or xs i d)) → P (fold f start (take (i + 1) xs))
 one-more f start xs i d P h = subst P (sym (fold_more f start xs i d h))
 
--- which program one with these rows more is, where that before them is known
-pub rows-after : (before known : App) (rows : List Subcommand) (c : Command) → before ≡ known → HasRows before rows c
-    → app_of c ≡ fold with_row known rows
-rows-after before known rows c same has = subst (λ a. app_of c ≡ fold with_row a rows) same has.is
+-- which program is made with these rows more, if memory is there
+pub rows-made : (before : App) (rows : List Subcommand) (made : Result Command AllocError) → IfOk made (HasRows before rows)
+    → IfOk made (λ c. app_of c ≡ fold with_row before rows)
+rows-made before rows (Ok c) has = has.is
+rows-made before rows (Err e) has = tt
 
--- and which one is made, if memory is there
-pub rows-made : (before known : App) (rows : List Subcommand) (made : Result Command AllocError) → before ≡ known
-    → IfOk made (HasRows before rows) → IfOk made (λ c. app_of c ≡ fold with_row known rows)
-rows-made before known rows (Ok c) same has = rows-after before known rows c same has
-rows-made before known rows (Err e) same has = tt
+-- and which with a group more of a program that is known
+pub group-made : (group : App → App) (before known : App) (made : Result Command AllocError) → before ≡ known
+    → IfOk made (λ c. app_of c ≡ group before) → IfOk made (λ c. app_of c ≡ group known)
+group-made group before known (Ok c) same is = is ∙ ap group same
+group-made group before known (Err e) same is = tt

@@ -151,6 +151,15 @@ unlock = over_entry (codes "unlock")
 abbrev pub delete : App
 delete = over_entry (codes "delete")
 
+-- undelete IMAGE NAME --type TYPE [--accept-loss] [--dry-run]
+abbrev pub undelete : App
+undelete = may_run_dry (may_accept_loss (with_rule (with_rule (over_image (codes "undelete")) (required (codes "NAME")))
+    (required_behind (codes "type") (codes "TYPE"))))
+
+-- sort IMAGE [--accept-loss] [--dry-run]
+abbrev pub sort : App
+sort = may_run_dry (may_accept_loss (over_image (codes "sort")))
+
 -- new IMAGE --name NAME --id ID
 abbrev pub new : App
 new = titling (codes "new")
@@ -210,10 +219,15 @@ abbrev pub with_rescue : App → App
 with_rescue a = with_command (with_command (with_command (with_command (with_command (with_command
     a records) bytes) basic) extract) repair) trim
 
--- a program that has those that change the files of a disk too
+-- a program that has those that make disks and files too
 abbrev pub with_changes : App → App
-with_changes a = with_command (with_command (with_command (with_command (with_command (with_command (with_command (with_command
-    (with_command a new) make) store) put) rename) title) lock) unlock) delete
+with_changes a = with_command (with_command (with_command (with_command (with_command (with_command
+    a new) make) store) put) rename) title
+
+-- a program that has those that change the entries of a directory too
+abbrev pub with_entries : App → App
+with_entries a = with_command (with_command (with_command (with_command (with_command
+    a lock) unlock) delete) undelete) sort
 
 -- a program that has those that run a shop too
 abbrev pub with_shop : App → App
@@ -222,7 +236,7 @@ with_shop a = with_command (with_command (with_command (with_command (with_comma
 
 -- the program with its subcommands
 abbrev pub ledger : App
-ledger = with_shop (with_changes (with_rescue (with_looks bare)))
+ledger = with_shop (with_entries (with_changes (with_rescue (with_looks bare))))
 
 -- this is that subcommand, and none of its values is one of the program's
 pub record IsSubcommand (app : App) (c : Command) : Type 0 where

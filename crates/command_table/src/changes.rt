@@ -4,10 +4,11 @@ use crate::values::{
     ACCEPT_AWAY, ACCEPT_LOSS, Count, DRY_RUN, FIELDS, IMAGE, NAME, POSITIONS, Value,
 };
 
-/// The subcommands that change the files of a disk, in the order in which help lists them.
-pub(crate) const CHANGES: &[Subcommand] = &[
-    NEW, MAKE, STORE, PUT, RENAME, TITLE, LOCK, UNLOCK, DELETE,
-];
+/// The subcommands that make disks and files, in the order in which help lists them.
+pub(crate) const CHANGES: &[Subcommand] = &[NEW, MAKE, STORE, PUT, RENAME, TITLE];
+
+/// Those that change the entries of a directory, which help lists next.
+pub(crate) const ENTRIES: &[Subcommand] = &[LOCK, UNLOCK, DELETE, UNDELETE, SORT];
 
 /// The name that a disk gets.
 const DISK_NAME: Value = Value {
@@ -259,4 +260,46 @@ Exit status:
 
 Example: ledger delete old.d64 LETTER",
     values: ENTRY,
+};
+
+/// `undelete IMAGE NAME --type TYPE [--accept-loss] [--dry-run]`
+const UNDELETE: Subcommand = Subcommand {
+    name: "undelete",
+    about: "Make a deleted file a file again",
+    more: "\
+It gives the first deleted entry that has this name its type back, takes the
+blocks of the file, and prints UNDELETED. The file isn't locked. A deleted entry
+has no type: give the one that the file had. A relative file can't come back;
+extract --deleted takes its bytes.
+
+Exit status:
+  0  the file is there
+  1  a file or the directory is damaged or would be (LAYOUT: OWNEDTWICE if
+     another file has a block), SHORT, IMAGE SIZE, GEOS, FORMAT, LOG, LOG AWAY,
+     NO FILE, FILE EXISTS: nothing was done
+  2  NAME, TYPE
+  3  FILE, NO MEMORY, IN USE, DEVICE
+
+Example: ledger undelete old.d64 LETTER --type seq",
+    values: &[IMAGE, NAME, FILE_TYPE, ACCEPT_AWAY, DRY_RUN],
+};
+
+/// `sort IMAGE [--accept-loss] [--dry-run]`
+const SORT: Subcommand = Subcommand {
+    name: "sort",
+    about: "Sort the directory by the names of the files",
+    more: "\
+It puts the entries into the ascending order of the bytes of their names, and
+prints SORTED. Entries of one name keep their order. Deleted ones come after all
+others. Files and blocks stay where they are.
+
+Exit status:
+  0  the directory is sorted
+  1  a file or the directory is damaged (LAYOUT and a fault: repair --sides
+     mends BADSIDE, nothing else), SHORT, IMAGE SIZE, LOG, LOG AWAY: nothing
+     was done
+  3  FILE, NO MEMORY, IN USE, DEVICE
+
+Example: ledger sort old.d64",
+    values: &[IMAGE, ACCEPT_AWAY, DRY_RUN],
 };

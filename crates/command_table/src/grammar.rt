@@ -5,7 +5,7 @@ ghost use Rattle.clap.specs.declared.builder.command.Command.TheViews.{out-Comma
 ghost use Rattle.command_table.specs.Grammar as grammar;
 ghost use Rattle.command_table.specs.Rows as rows;
 
-use crate::changes::CHANGES;
+use crate::changes::{CHANGES, ENTRIES};
 use crate::help_texts::MORE;
 use crate::looks::LOOKS;
 use crate::rescues::RESCUES;
@@ -95,12 +95,48 @@ fn with_group<'a>(
     Ok(program)
 }
 
+/// The program with the subcommands that look at disks more.
+fn with_looks<'a>(alloc: Global, before: Command<'a>) -> Result<Command<'a>, AllocError>
+    ensures { IfOk result (λ c. app_of c ≡ grammar.with_looks (app_of before.entry)) }
+{
+    with_group(alloc, before, LOOKS)
+}
+
+/// And with those that rescue files and disks.
+fn with_rescue<'a>(alloc: Global, before: Command<'a>) -> Result<Command<'a>, AllocError>
+    ensures { IfOk result (λ c. app_of c ≡ grammar.with_rescue (app_of before.entry)) }
+{
+    with_group(alloc, before, RESCUES)
+}
+
+/// And with those that make disks and files.
+fn with_changes<'a>(alloc: Global, before: Command<'a>) -> Result<Command<'a>, AllocError>
+    ensures { IfOk result (λ c. app_of c ≡ grammar.with_changes (app_of before.entry)) }
+{
+    with_group(alloc, before, CHANGES)
+}
+
+/// And with those that change the entries of a directory.
+fn with_entries<'a>(alloc: Global, before: Command<'a>) -> Result<Command<'a>, AllocError>
+    ensures { IfOk result (λ c. app_of c ≡ grammar.with_entries (app_of before.entry)) }
+{
+    with_group(alloc, before, ENTRIES)
+}
+
+/// And with those that run a shop.
+fn with_shop<'a>(alloc: Global, before: Command<'a>) -> Result<Command<'a>, AllocError>
+    ensures { IfOk result (λ c. app_of c ≡ grammar.with_shop (app_of before.entry)) }
+{
+    with_group(alloc, before, SHOPS)
+}
+
 /// The program's command line.
 pub fn ledger_command<'a>(alloc: Global) -> Result<Command<'a>, AllocError>
     ensures { IfOk result (λ c. app_of c ≡ grammar.ledger) }
 {
-    let program = with_group(alloc, bare(alloc)?, LOOKS)?;
-    let program = with_group(alloc, program, RESCUES)?;
-    let program = with_group(alloc, program, CHANGES)?;
-    with_group(alloc, program, SHOPS)
+    let program = with_looks(alloc, bare(alloc)?)?;
+    let program = with_rescue(alloc, program)?;
+    let program = with_changes(alloc, program)?;
+    let program = with_entries(alloc, program)?;
+    with_shop(alloc, program)
 }

@@ -7,4 +7,6 @@ pub mod Renamed
 pub mod Repaired
 pub mod ShopFiles
 pub mod SidesBuilt
+pub mod Slots
 pub mod StoredRecords
+pub mod Undeleted

@@ -8,8 +8,10 @@ use Rattle.disk_changes.specs.Rebuilds.{IsRebuildRefusal, IsRebuilt}
 use Rattle.disk_changes.specs.Renames.{IsRenameRefusal, IsRenamed}
 use Rattle.disk_changes.specs.Repairs.{IsRepairRefusal, IsRepaired}
 use Rattle.disk_changes.specs.Judged.{IsUnsoundOrShort}
+use Rattle.disk_changes.specs.Sorts.{IsSortRefusal, IsSorted}
 use Rattle.disk_changes.specs.Stores.{IsStoreRefusal, IsStored}
 use Rattle.disk_changes.specs.Titles.{IsTitled}
+use Rattle.disk_changes.specs.Undeletes.{IsUndeleteRefusal, IsUndeleted}
 use Rattle.disk_changes.specs.declared.changes.Change.{Change}
 use Rattle.disk_changes.specs.declared.changes.Change.TheVariants as changes
 use Rattle.disk_changes.specs.declared.changes.Changed.{Changed}
@@ -22,6 +24,8 @@ IsFit (changes.Rename from to) = length to.now ≤ 16
 IsFit (changes.Title id name) = length name.now ≤ 16
 IsFit (changes.Lock lock name) = Unit {0}
 IsFit (changes.Delete name) = Unit {0}
+IsFit (changes.Undelete kind name) = Unit {0}
+IsFit changes.Sort = Unit {0}
 IsFit (changes.Put name kind content) = length name.now ≤ 16
 IsFit (changes.Make name L cut) = (length name.now ≤ 16) × IsLength L
 IsFit (changes.Store name text cut) = Unit {0}
@@ -34,6 +38,8 @@ IsChanged (changes.Rename from to) image made = IsRenamed image from.now to.now 
 IsChanged (changes.Title id name) image made = IsTitled image name.now id made
 IsChanged (changes.Lock lock name) image made = IsLockSet image name.now lock made
 IsChanged (changes.Delete name) image made = IsDeleted image name.now made
+IsChanged (changes.Undelete kind name) image made = IsUndeleted image name.now kind made
+IsChanged changes.Sort image made = IsSorted image made
 IsChanged (changes.Put name kind content) image made = IsPut image name.now kind content.now made
 IsChanged (changes.Make name L cut) image made = IsMade image name.now L cut made
 IsChanged (changes.Store name text cut) image made = IsStored image name.now text.now cut made
@@ -46,6 +52,8 @@ IsRefused (changes.Rename from to) image why = IsRenameRefusal image from.now to
 IsRefused (changes.Title id name) image why = IsUnsoundOrShort image why
 IsRefused (changes.Lock lock name) image why = IsLockRefusal image name.now why
 IsRefused (changes.Delete name) image why = IsDeleteRefusal image name.now why
+IsRefused (changes.Undelete kind name) image why = IsUndeleteRefusal image name.now kind why
+IsRefused changes.Sort image why = IsSortRefusal image why
 IsRefused (changes.Put name kind content) image why = IsPutRefusal image name.now kind content.now why
 IsRefused (changes.Make name L cut) image why = IsMakeRefusal image name.now cut why
 IsRefused (changes.Store name text cut) image why = IsStoreRefusal image name.now text.now cut why

@@ -10,5 +10,7 @@ pub mod Rebuilds
 pub mod Renames
 pub mod Repairs
 pub mod ShopFiles
+pub mod Sorts
 pub mod Stores
 pub mod Titles
+pub mod Undeletes

@@ -27,6 +27,13 @@ pub enum Change<'a> {
     Delete {
         name: &'a [u8],
     },
+    /// The first deleted file with the name, which isn't relative, is there again with this type.
+    Undelete {
+        kind: FileType,
+        name: &'a [u8],
+    },
+    /// The entries of the directory stand in the order of their names.
+    Sort,
     /// A new file of this name, type and data.
     Put {
         name: &'a [u8],

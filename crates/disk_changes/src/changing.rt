@@ -10,8 +10,10 @@ use crate::putting::put;
 use crate::rebuilding::rebuilt;
 use crate::renaming::renamed;
 use crate::repairing::repaired;
+use crate::sorting::sorted;
 use crate::storing::stored;
 use crate::titling::titled;
+use crate::undeleting::undeleted;
 use command_faults::CommandFault;
 use std::alloc::Global;
 
@@ -27,6 +29,8 @@ pub fn change(alloc: Global, what: &Change<'_>, image: &[u8]) -> Result<Changed,
         Change::Title { id, name } => titled(alloc, image, name, id),
         Change::Lock { lock, name } => relocked(alloc, image, name, lock),
         Change::Delete { name } => deleted(alloc, image, name),
+        Change::Undelete { kind, name } => undeleted(alloc, image, name, kind),
+        Change::Sort => sorted(alloc, image),
         Change::Put {
             name,
             kind,

@@ -17,8 +17,10 @@ mod rebuilding;
 mod renaming;
 mod repairing;
 mod shop_files;
+mod sorting;
 mod storing;
 mod titling;
+mod undeleting;
 
 pub use changes::{Change, Changed, Lock};
 pub use changing::change;

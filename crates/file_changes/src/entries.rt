@@ -46,7 +46,7 @@ pub(crate) fn list_entries<D: Sectors>(
 }
 
 /// The first of these entries that has the name. `NoFile` if none has it.
-fn choose_named(entries: &[Slot], padded: &[u8; 16]) -> Result<Slot, CommandFault>
+pub fn choose_named(entries: &[Slot], padded: &[u8; 16]) -> Result<Slot, CommandFault>
     ensures ok { IfOk result (λ s. (n : ℕ) × IsFirstNamed entries.now padded.now n s) }
     ensures err { IfErr result (λ e. (e ≡ NoFile) × IsFreeName entries.now padded.now) }
 {

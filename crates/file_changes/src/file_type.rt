@@ -15,7 +15,7 @@ pub enum FileType {
 
 impl FileType {
     /// The type byte of a closed entry: 81 for `SEQ`, 82 for `PRG`, 83 for `USR`.
-    pub(crate) fn type_byte(self) -> u8
+    pub fn type_byte(self) -> u8
         ensures { result ≡ type_number self }
     {
         match self {

@@ -14,7 +14,7 @@ mod putting;
 mod renaming;
 
 pub use deleting::delete;
-pub use entries::find_entry;
+pub use entries::{choose_named, find_entry};
 pub use file_type::FileType;
 pub use formatting::{format_disk, new_disk};
 pub use new_names::is_new_name;

@@ -6,4 +6,5 @@ pub mod Files
 pub mod Pieced
 pub mod Printing
 pub mod ReachedRecords
+pub mod SoundDirectory
 pub mod SoundRecords

@@ -1,7 +1,7 @@
 -- On a sound disk the file with records that is found first is the first closed relative file of its name, and the records
 -- among its bytes are all that it has.
-use Rattle.std.proofs.Common.{◌≡◌, ◌*◌, ◌+◌, ◌-◌, ◌/◌, ◌++◌, ◌∷◌, ◌∙◌, ℕ, [], List, ap, arith, inl, inr, length, length-append, map, max, refl, subst, sym, take}
-use Rattle.std.specs.Prelude.{IsTrue, None, Option, Some, false, slice_get, slice_index}
+use Rattle.std.proofs.Common.{◌≡◌, ◌*◌, ◌+◌, ◌-◌, ◌/◌, ◌∷◌, ◌∙◌, ℕ, [], List, ap, arith, inl, inr, length, length-append, map, max, subst, sym, take}
+use Rattle.std.specs.Prelude.{IsTrue, Option, Some, false, slice_get, slice_index}
 use Rattle.std.proofs.Math.Nat.{div-mul-le_self}
 use Rattle.std.proofs.lemmas.Bool.Decides.{nat_tests}
 use Rattle.std.proofs.lemmas.List.{get_or-take, length-take}
@@ -9,27 +9,23 @@ use Rattle.d64_image.proofs.Images.{is_sector}
 use Rattle.d64_image.proofs.Places.{track_from_1}
 use Rattle.d64_image.specs.Images.{Image, IsImage}
 use Rattle.d64_image.specs.declared.place.Place.{Place}
-use Rattle.disk_layout.proofs.lemmas.chains.Chains.{Leads-push, Names-one}
+use Rattle.disk_layout.proofs.lemmas.chains.Chains.{Names-one}
 use Rattle.disk_layout.proofs.lemmas.layouts.Layouts.{get-contains}
-use Rattle.disk_layout.proofs.lemmas.layouts.Unsound.{no_bad_link, no_loop}
-use Rattle.disk_layout.proofs.lemmas.lists.Lists.{all-map}
 use Rattle.disk_layout.proofs.lemmas.lists.Once.{all-in}
 use Rattle.disk_layout.proofs.lemmas.records.Joined.{length-joined}
 use Rattle.disk_layout.proofs.lemmas.records.Pieces.{pieces-same}
-use Rattle.disk_layout.specs.Chain.{Names, byte}
-use Rattle.disk_layout.specs.Directory.{IsDirectoryPlace, directory_start}
-use Rattle.disk_layout.specs.Fault.{IsDirectorySector}
+use Rattle.disk_layout.specs.Chain.{Names}
 use Rattle.disk_layout.specs.Layout.{File, IsFile, IsLayout, IsRelFile, Layout, is_rel, record_length}
 use Rattle.disk_layout.specs.Records.{joined, pieces, record_count, records}
 use Rattle.disk_layout.specs.Rest.{IsFirst, IsNamed}
 use Rattle.disk_layout.specs.declared.faults.Fault.{Fault}
-use Rattle.disk_layout.specs.declared.faults.Fault.TheVariants.{BadLink, Loop}
 use Rattle.disk_layout.specs.declared.slot.Slot.{Slot}
 use Rattle.reached_disk.proofs.Walked.{reach-chain}
 use Rattle.reached_disk.specs.Directories.{IsReadSoFar}
 use Rattle.reached_disk.specs.Reached.{IsReach, IsReached}
 use Rattle.rel_records.proofs.lemmas.reading.Found.{first-found, none-found, slot-file, slots-listed}
 use Rattle.rel_records.specs.reading.Named.{IsFirstNamed, IsNamedSlot, IsRelOf}
+use Rattle.file_rescues.proofs.SoundDirectory.{read-whole}
 use Rattle.file_rescues.specs.Bytes.{file_bytes}
 use Rattle.file_rescues.specs.Found.{HasNone, IsAsked, IsHad}
 use Rattle.file_rescues.specs.Records.{records_of}
@@ -92,41 +88,7 @@ module _ (img : Image) (l : Layout) (is : IsLayout img l) where
   -- a directory that is read as far as its links lead is all of it
   listed : (ps : List Place) (entries : List Slot) (ended : Option Fault) → IsReadSoFar img ps entries ended
       → entries ≡ map (λ (f : File). f.slot) l.files
-  listed ps entries None h = slots-listed img l ps entries is (record {
-    last = byte img h.last 1;
-    chain = record {
-      front = h.front;
-      last = h.last;
-      places = h.places;
-      leads = h.leads;
-      ends = (h.ends, refl);
-      once = h.once;
-    };
-    on_track = all-map IsDirectoryPlace (λ p. p.track ≡ 18) ps (λ p c d. d.0) h.on_track;
-    not_map = λ c. (all-in IsDirectoryPlace ps _ h.on_track c).1 refl;
-    slots = h.slots;
-  })
-  listed ps entries (Some (BadLink p)) h = absurd (elim h.ends.1 [
-    | inl nowhere ↦ no_bad_link img h.last (inl (last-one, nowhere)) (l, is)
-    | inr out ↦ no_bad_link img h.last (inr (inl (last-one, out))) (l, is)
-  ])
-    where
-      last-one : IsDirectorySector img h.last
-      last-one = record {
-        before = h.front;
-        visits = (h.leads, rw h.places at h.once);
-        places = rw h.places at h.on_track;
-      }
-  listed ps entries (Some (Loop p)) h = absurd (no_loop img p (inl (
-    h.front ++ h.last ∷ [],
-    (
-      Leads-push img directory_start h.front h.last p h.leads h.ends.0,
-      rw h.places at h.once,
-      rw h.places at h.ends.1,
-    ),
-    rw h.places at h.on_track,
-  )) (l, is))
-  listed ps entries (Some fault) h = absurd h.ends
+  listed ps entries ended h = slots-listed img l ps entries is (read-whole img l is ps entries ended h)
 
   -- an entry of a sound disk that has records is a relative file
   asked-named : (name : List ℕ) (f : File) → IsFile img f → IsAsked (Records Closed) name f.slot

@@ -20,6 +20,7 @@ pub use forms::{ByteForm, ColumnForm, FileForm, RecordForm};
 pub use piece_printing::print_pieces;
 pub use record_printing::records_image;
 pub use rescue::choices::Choice;
+pub use rescue::deleted::{deleted_of, is_deleted};
 pub use rescue::extracting::extract_image;
 pub use rescue::folders::NewFolder;
 pub use rescue::laws::names_stay_inside;

@@ -57,6 +57,9 @@ printed contents Is Refuses before after made is (Err fault) all part output =
 pub in-memory : (what : Change) (image : List ℕ) → (IsRefused what image faults.File → ⊥) × (IsRefused what image faults.Device → ⊥)
 in-memory (changes.Rebuild free cut) image =
     (λ why. ⊎_elim (λ w. w) (λ w. w.2) why, λ why. ⊎_elim (λ w. w) (λ w. w.2) why)
+in-memory (changes.Undelete kind name) image =
+    (λ why. ⊎_elim (λ w. w) (λ w. w.2) why, λ why. ⊎_elim (λ w. w) (λ w. w.2) why)
+in-memory changes.Sort image = (λ why. ⊎_elim (λ w. w) (λ w. w.3) why, λ why. ⊎_elim (λ w. w) (λ w. w.3) why)
 in-memory _ image = (λ why. why, λ why. why)
 
 -- nothing is printed of a change that is refused

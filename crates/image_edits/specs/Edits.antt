@@ -8,8 +8,10 @@ use Rattle.disk_changes.specs.Rebuilds.{IsRebuildRefusal, IsRebuilt}
 use Rattle.disk_changes.specs.Renames.{IsRenameRefusal, IsRenamed}
 use Rattle.disk_changes.specs.Repairs.{IsRepairRefusal, IsRepaired}
 use Rattle.disk_changes.specs.Judged.{IsUnsoundOrShort}
+use Rattle.disk_changes.specs.Sorts.{IsSortRefusal, IsSorted}
 use Rattle.disk_changes.specs.Stores.{IsStoreRefusal, IsStored}
 use Rattle.disk_changes.specs.Titles.{IsTitled}
+use Rattle.disk_changes.specs.Undeletes.{IsUndeleteRefusal, IsUndeleted}
 use Rattle.disk_changes.specs.declared.changes.Changed.{Changed}
 use Rattle.command_faults.specs.declared.faults.CommandFault.{CommandFault}
 use Rattle.image_file.specs.paths.Standing.{Stands}
@@ -40,6 +42,8 @@ loss_of (edits.Rename loss from to) = loss
 loss_of (edits.Title id loss name) = loss
 loss_of (edits.Lock lock loss name) = loss
 loss_of (edits.Delete loss name) = loss
+loss_of (edits.Undelete kind loss name) = loss
+loss_of (edits.Sort loss) = loss
 loss_of (edits.Put file kind loss name) = loss
 
 -- a new file can have the name that a file gets, and a record the bytes of one that is made
@@ -67,6 +71,8 @@ IsEdited (edits.Rename loss from to) text image made = IsRenamed image (name_byt
 IsEdited (edits.Title id loss name) text image made = IsTitled image (name_bytes name) id made
 IsEdited (edits.Lock lock loss name) text image made = IsLockSet image (name_bytes name) lock made
 IsEdited (edits.Delete loss name) text image made = IsDeleted image (name_bytes name) made
+IsEdited (edits.Undelete kind loss name) text image made = IsUndeleted image (name_bytes name) kind made
+IsEdited (edits.Sort loss) text image made = IsSorted image made
 IsEdited (edits.Put file kind loss name) text image made = IsPut image (name_bytes name) kind text made
 IsEdited (edits.Store records columns loss name) text image made =
     IsStored image (name_bytes name) text loss made
@@ -80,6 +86,8 @@ IsUnedited (edits.Rename loss from to) text image why = IsRenameRefusal image (n
 IsUnedited (edits.Title id loss name) text image why = IsUnsoundOrShort image why
 IsUnedited (edits.Lock lock loss name) text image why = IsLockRefusal image (name_bytes name) why
 IsUnedited (edits.Delete loss name) text image why = IsDeleteRefusal image (name_bytes name) why
+IsUnedited (edits.Undelete kind loss name) text image why = IsUndeleteRefusal image (name_bytes name) kind why
+IsUnedited (edits.Sort loss) text image why = IsSortRefusal image why
 IsUnedited (edits.Put file kind loss name) text image why = IsPutRefusal image (name_bytes name) kind text why
 IsUnedited (edits.Store records columns loss name) text image why =
     IsStoreRefusal image (name_bytes name) text loss why

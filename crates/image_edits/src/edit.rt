@@ -107,6 +107,20 @@ pub enum Edit<'a> {
         /// The name of the file.
         name: Name,
     },
+    /// The first deleted file of a name is there again.
+    Undelete {
+        /// Its type.
+        kind: FileType,
+        /// What is done if the image has lost its log.
+        loss: Loss,
+        /// The name of the file.
+        name: Name,
+    },
+    /// The directory is sorted.
+    Sort {
+        /// What is done if the image has lost its log.
+        loss: Loss,
+    },
     /// A new file is made, with the bytes of a file of the host.
     Put {
         /// The path of the file whose bytes it gets.

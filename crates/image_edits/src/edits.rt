@@ -37,6 +37,7 @@ impl Edit<'_> {
             Edit::Make { loss, .. } | Edit::Store { loss, .. } | Edit::Put { loss, .. } => loss,
             Edit::Rename { loss, .. } | Edit::Title { loss, .. } => loss,
             Edit::Lock { loss, .. } | Edit::Delete { loss, .. } => loss,
+            Edit::Undelete { loss, .. } | Edit::Sort { loss } => loss,
         }
     }
 
@@ -85,6 +86,11 @@ impl Edit<'_> {
             Edit::Delete { ref name, .. } => Change::Delete {
                 name: name.as_bytes(),
             },
+            Edit::Undelete { kind, ref name, .. } => Change::Undelete {
+                kind,
+                name: name.as_bytes(),
+            },
+            Edit::Sort { .. } => Change::Sort,
             Edit::Put { kind, ref name, .. } => Change::Put {
                 name: name.as_bytes(),
                 kind,
@@ -146,6 +152,7 @@ where
         Edit::Rename { .. } | Edit::Title { .. } | Edit::Lock { .. } | Edit::Delete { .. } => {
             Ok(Vec::new(rt.alloc()))
         }
+        Edit::Undelete { .. } | Edit::Sort { .. } => Ok(Vec::new(rt.alloc())),
     }
 }
 

@@ -123,4 +123,4 @@ putting-met found rows image r is by-image (inr (inl (same, missing))) =
     subst P (sym same) ((refl, inr (inr (inr (inr (inr (inr (inl (record { rows = rows; is = is; holds = missing })))))))), tt)
 putting-met found rows image r is by-image (inr (inr (same, name, missing))) =
     let P : Result Job JobFault → Type 0 = λ j. MatchResult j (IsJob found) (IsNoJob [] found) × IfOk j IsFit in
-    subst P (sym same) ((refl, record { rows = rows; is = is; holds = (name, missing) }), tt)
+    subst P (sym same) ((refl, inl (record { rows = rows; is = is; holds = (name, missing) })), tt)

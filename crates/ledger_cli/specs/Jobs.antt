@@ -45,6 +45,8 @@ word_of_edit (edits.Title id loss name) = codes "title"
 word_of_edit (edits.Lock Set loss name) = codes "lock"
 word_of_edit (edits.Lock Cleared loss name) = codes "unlock"
 word_of_edit (edits.Delete loss name) = codes "delete"
+word_of_edit (edits.Undelete kind loss name) = codes "undelete"
+word_of_edit (edits.Sort loss) = codes "sort"
 word_of_edit (edits.Put file kind loss name) = codes "put"
 word_of_edit (edits.Store records columns loss name) = codes "store"
 
@@ -62,6 +64,9 @@ IsEditIn (edits.Title id loss name) rows = IsNameOf (value (codes "NAME") rows) 
     × IsIdOf (value (codes "ID") rows) id × (loss ≡ loss_in rows)
 IsEditIn (edits.Lock lock loss name) rows = IsNameOf (value (codes "NAME") rows) (name_bytes name) × (loss ≡ loss_in rows)
 IsEditIn (edits.Delete loss name) rows = IsNameOf (value (codes "NAME") rows) (name_bytes name) × (loss ≡ loss_in rows)
+IsEditIn (edits.Undelete kind loss name) rows = IsNameOf (value (codes "NAME") rows) (name_bytes name)
+    × (type_in rows ≡ Some kind) × (loss ≡ loss_in rows)
+IsEditIn (edits.Sort loss) rows = loss ≡ loss_in rows
 IsEditIn (edits.Put file kind loss name) rows = IsNameOf (value (codes "NAME") rows) (name_bytes name)
     × (file.now ≡ value (codes "FILE") rows) × (type_in rows ≡ Some kind) × (loss ≡ loss_in rows)
 IsEditIn (edits.Store records columns loss name) rows = IsNameOf (value (codes "NAME") rows) (name_bytes name)
@@ -126,7 +131,8 @@ IsRefusedName found =
     ⊎ (Has found (codes "delete") (HasNoName (codes "NAME")) ⊎ (Has found (codes "rename") HasNoRenaming
     ⊎ (Has found (codes "new") (HasNoName (codes "NAME")) ⊎ (Has found (codes "put") (HasNoNewName (codes "NAME"))
     ⊎ (Has found (codes "title") (HasNoName (codes "NAME"))
-    ⊎ (Has found (codes "lock") (HasNoName (codes "NAME")) ⊎ Has found (codes "unlock") (HasNoName (codes "NAME"))))))))))
+    ⊎ (Has found (codes "lock") (HasNoName (codes "NAME")) ⊎ (Has found (codes "unlock") (HasNoName (codes "NAME"))
+    ⊎ Has found (codes "undelete") (HasNoName (codes "NAME")))))))))))
 
 -- the subcommand has columns, and its words give none
 abbrev pub AreRefusedColumns : Option (Text × List Row) → JobFault → Type 0
@@ -147,6 +153,7 @@ IsNoJob kinds found faults.Images = (kinds ≡ []) × Has found (codes "picture"
 IsNoJob kinds found faults.Id = (kinds ≡ []) × (Has found (codes "new") (λ rows. HasName (codes "NAME") rows × HasNoId rows)
     ⊎ Has found (codes "title") (λ rows. HasName (codes "NAME") rows × HasNoId rows))
 IsNoJob kinds found faults.Kind =
-    (kinds ≡ []) × Has found (codes "put") (λ rows. HasNewName (codes "NAME") rows × (type_in rows ≡ None))
+    (kinds ≡ []) × (Has found (codes "put") (λ rows. HasNewName (codes "NAME") rows × (type_in rows ≡ None))
+    ⊎ Has found (codes "undelete") (λ rows. type_in rows ≡ None))
 IsNoJob kinds found faults.Flags = (kinds ≡ []) × AreRefusedColumns found faults.Flags
 IsNoJob kinds found faults.Positions = (kinds ≡ []) × AreRefusedColumns found faults.Positions

@@ -170,6 +170,33 @@ pub(crate) fn deleting<'a>(matches: &ArgMatches<'a>, image: &'a str) -> Result<J
     }
 }
 
+/// The job that makes a deleted file of an image a file of this type again.
+pub(crate) fn undeleting<'a>(
+    matches: &ArgMatches<'a>,
+    image: &'a str,
+    kind: FileType,
+) -> Result<Job<'a>, JobFault>
+    ensures { let rows = rows_of (found_of matches.now) in
+        IsNamedJob rows (λ name. jobs.Change image.entry (effect_in rows) (edits.Undelete kind (loss_in rows) name)) result }
+{
+    match Name::read(value_of(matches, "NAME")) {
+        Some(name) => {
+            let loss = loss(matches);
+            Ok(edited(matches, image, Edit::Undelete { kind, loss, name }))
+        }
+        None => Err(JobFault::Name),
+    }
+}
+
+/// The job that sorts the directory of an image.
+pub(crate) fn sorting<'a>(matches: &ArgMatches<'a>, image: &'a str) -> Job<'a>
+    ensures { let rows = rows_of (found_of matches.now) in
+        result ≡ jobs.Change image.entry (effect_in rows) (edits.Sort (loss_in rows)) }
+{
+    let loss = loss(matches);
+    edited(matches, image, Edit::Sort { loss })
+}
+
 /// The job that locks or unlocks a file of an image.
 pub(crate) fn locking<'a>(
     matches: &ArgMatches<'a>,
@@ -205,7 +232,7 @@ pub(crate) fn renaming<'a>(matches: &ArgMatches<'a>, image: &'a str) -> Result<J
 }
 
 /// The type of a file that has this word.
-fn type_named(word: &str) -> Option<FileType>
+pub(crate) fn type_named(word: &str) -> Option<FileType>
     ensures { result ≡ named_type word.now }
 {
     if word == "prg" {

@@ -9,8 +9,8 @@ use crate::faults::JobFault;
 use crate::forms::{byte_form, choice, loss, name_form, repairing};
 use crate::images::{checking, picturing, viewing};
 use crate::names::{
-    deleting, empty_disk, locking, making, putting, renaming, storing, taking_file, taking_records,
-    titling,
+    deleting, empty_disk, locking, making, putting, renaming, sorting, storing, taking_file,
+    taking_records, titling, type_named, undeleting,
 };
 use crate::numbers::{place_of, tills_of};
 use crate::shops::{copying, formatting, playing};
@@ -69,6 +69,11 @@ fn job_of<'a>(alloc: Global, matches: &ArgMatches<'a>) -> Result<Job<'a>, JobFau
         "lock" => locking(found, image, Lock::Set),
         "unlock" => locking(found, image, Lock::Cleared),
         "delete" => deleting(found, image),
+        "undelete" => match type_named(value_of(found, "TYPE")) {
+            Some(kind) => undeleting(found, image, kind),
+            None => Err(JobFault::Kind),
+        },
+        "sort" => Ok(sorting(found, image)),
         "new" => empty_disk(found, image),
         "map" => viewing(alloc, found, Look::Map),
         "picture" => picturing(alloc, found),

@@ -22,7 +22,7 @@ use reached_disk::{Entries, entry_name};
 use std::alloc::Global;
 
 /// Whether the slot has an entry that was deleted: its type is 0, and it still has a name and a first block.
-fn is_deleted(slot: &Slot) -> bool
+pub fn is_deleted(slot: &Slot) -> bool
     ensures { result ≡ deleted.is_deleted slot.now }
 {
     let entry = EntryView::new(&slot.bytes);
@@ -47,7 +47,7 @@ fn add_deleted(bytes: &[u8; 256], place: Place, entries: &mut Entries)
 }
 
 /// The deleted entries of these directory sectors, in order.
-fn deleted_of(disk: &MemDisk, directory: &[Place]) -> Entries
+pub fn deleted_of(disk: &MemDisk, directory: &[Place]) -> Entries
     requires { length directory.now ≤ 18 }
     ensures { result.items ≡ deleted.deleted_slots (disk_image disk.now) directory.now }
 {

@@ -12,6 +12,7 @@ use Rattle.ledger_jobs.specs.Jobs.{IsFit}
 use Rattle.ledger_cli.specs.Jobs.{IsJob}
 use Rattle.ledger_cli.specs.Flags.{is_given}
 use Rattle.ledger_cli.specs.Forms.{candidates_in, effect_in, loss_in}
+use Rattle.ledger_cli.specs.Names.{type_named}
 use Rattle.ledger_cli.specs.Numbers.{spelled_place}
 use Rattle.ledger_cli.proofs.Pictures.{picturing-met}
 use Rattle.ledger_cli.proofs.Named.{making-met, named-met, putting-met, records-met, renaming-met}
@@ -207,8 +208,38 @@ returns-in-unlock c =
     let is = met-is c.parsed_subcommand.result _ c.in-Some.name c.in-Some.found _ c.parsed_subcommand.ensures c.in-Some.is c.in-unlock.is in
     let met = named-met _ rows (λ name. jobs.Change c.value_of-image.result (effect_in rows) (edits.Lock Cleared (loss_in rows) name)) c.locking-in-unlock.result
     (λ name at. record { rows = rows; is = is; holds = (c.value_of-image.ensures, (at, refl), refl) }) (λ name. tt)
-    (λ missing. inr (inr (inr (inr (inr (inr (inr (inr (inr (record { rows = rows; is = is; holds = missing })))))))))) c.locking-in-unlock.ensures in
+    (λ missing. inr (inr (inr (inr (inr (inr (inr (inr (inr (inl (record { rows = rows; is = is; holds = missing }))))))))))) c.locking-in-unlock.ensures in
     record { job = met.0; fit = met.1 }
+
+pub returns-in-Some-type_named : goal.returns-in-Some-type_named
+returns-in-Some-type_named c =
+    let rows = rows_of (found_of c.in-Some.found.now) in
+    let is = met-is c.parsed_subcommand.result _ c.in-Some.name c.in-Some.found _ c.parsed_subcommand.ensures c.in-Some.is c.in-undelete.is in
+    let typed = ap type_named (sym c.value_of-in-undelete.ensures) ∙ sym c.in-Some-type_named.ensures in
+    let met = named-met _ rows (λ name. jobs.Change c.value_of-image.result (effect_in rows) (edits.Undelete c.in-Some-type_named.kind (loss_in rows) name)) c.undeleting.result
+    (λ name at. record { rows = rows; is = is; holds = (c.value_of-image.ensures, (at, typed, refl), refl) }) (λ name. tt)
+    (λ missing. inr (inr (inr (inr (inr (inr (inr (inr (inr (inr (record { rows = rows; is = is; holds = missing }))))))))))) c.undeleting.ensures in
+    record { job = met.0; fit = met.1 }
+
+pub returns-in-None-type_named : goal.returns-in-None-type_named
+returns-in-None-type_named c = record {
+  job = (
+    refl,
+    inr (met-has c.parsed_subcommand.result _ c.in-Some.name c.in-Some.found _ _ c.parsed_subcommand.ensures c.in-Some.is c.in-undelete.is
+        (ap type_named (sym c.value_of-in-undelete.ensures) ∙ sym c.in-None-type_named.ensures)),
+  );
+  fit = tt;
+}
+
+pub returns-in-sort : goal.returns-in-sort
+returns-in-sort c =
+    let rows = rows_of (found_of c.in-Some.found.now) in
+    let is = met-is c.parsed_subcommand.result _ c.in-Some.name c.in-Some.found _ c.parsed_subcommand.ensures c.in-Some.is c.in-sort.is in
+    record {
+      job = subst (IsJob _) (sym c.sorting.ensures)
+          (record { rows = rows; is = is; holds = (c.value_of-image.ensures, refl, refl) });
+      fit = subst IsFit (sym c.sorting.ensures) tt;
+    }
 
 pub returns-in-new : goal.returns-in-new
 returns-in-new c =

@@ -1,0 +1,6 @@
+-- The rows of the group are these subcommands.
+use Rattle.command_table.proofs.Grammars.{rows-made}
+use Rattle.command_table.proofs.grammar.with_changes.Goals as goal
+
+pub returns : goal.returns
+returns c = rows-made _ _ _ c.with_group.ensures
