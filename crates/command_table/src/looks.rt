@@ -65,10 +65,10 @@ if a PRG, SEQ or USR has fewer blocks than its entry says, and ends there.
 With several images each line begins with the image's name, also for an image
 that is refused. The exit status is then the highest of all.
 With --json each image has a line, an object of JSON. Its `files` are those that
-the fault concerns, and `free` counts blocks. With --all every fault is printed
-with its files, for example OWNEDTWICE 6/17 \"A\" \"B\": first the one that check
-prints without it. MAPWRONG is only printed if the files are sound. With --json,
---all has no effect.
+the fault concerns, `free` counts blocks, and `sha1` and `sha256` are hashes of
+the image. With --all every fault is printed with its files, for example
+OWNEDTWICE 6/17 \"A\" \"B\": first the one that check prints without it. MAPWRONG
+is only printed if the files are sound. With --json, --all has no effect.
 
 Exit status:
   0  OK
