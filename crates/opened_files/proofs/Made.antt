@@ -1,5 +1,5 @@
 -- An image that was made at a path, and how its job ends, from what came of each step.
-use Rattle.std.proofs.Common.{◌≡◌, [], ℕ, List, Option, Result, Ok, Err, Some, ap, inl, inr, refl, subst, sym, ◌∙◌}
+use Rattle.std.proofs.Common.{◌≡◌, [], ℕ, List, Option, Result, Ok, Err, Some, inl, inr, refl, subst, sym, ◌∙◌}
 use Rattle.std.specs.Prelude.{IfErr, IfOk, OnOk}
 use Rattle.std.specs.Io.KnownBytes.{Appends}
 use Rattle.command_faults.specs.declared.faults.CommandFault.{CommandFault}

@@ -1,5 +1,5 @@
 -- How a job ends, and the program's exit status then. All of it is our own.
-use Rattle.std.specs.Prelude.{◌≡◌, ℕ, Bool, true, false, if◌then◌else◌, List, [], ◌++◌, Option, Some, None, Result, Ok, Err, codes, decimal, ◌≢◌}
+use Rattle.std.specs.Prelude.{◌≡◌, ℕ, if◌then◌else◌, List, [], ◌++◌, Option, Some, None, Result, Ok, Err, codes, ◌≢◌}
 use Rattle.std.specs.IoError.{error_kind}
 use Rattle.command_faults.specs.Faults.{command_status, command_text, io_fault, is_told}
 use Rattle.command_faults.specs.declared.faults.CommandFault.{CommandFault}
