@@ -9,14 +9,12 @@ use crate::image_changing::change_image;
 use crate::image_replacing::put_image_in;
 use command_faults::CommandFault;
 use disk_changes::Change;
-use image_file::{EndedFile, HostFiles};
-use image_log::{ImageFolder, LogNames};
+use image_log::{HostLogs, ImageFolder, LogNames};
 use std::alloc::Global;
-use std::fs::OpenFile;
 use std::io::{self, Write};
 
 /// A host that changes the images at its paths, all or nothing.
-pub trait HostImages: HostFiles {
+pub trait HostImages: HostLogs {
     // of the image of these bytes at a path this was made, and stands there, if the host says that
     ghost changed: { Self → (path image : List ℕ) → Changed → Type 0 } = { λ _ _ _ _. ⊤ };
 
@@ -57,10 +55,7 @@ pub trait HostImages: HostFiles {
         ensures { IfOk result (λ ended. OnOk ended (replaced self.now (string_bytes names.now.image) image.now)) };
 }
 
-impl<R: HostFiles> HostImages for R
-where
-    R::File: EndedFile + OpenFile,
-{
+impl<R: HostLogs> HostImages for R {
     fn change_at<W: Write>(
         &self,
         alloc: Global,

@@ -13,7 +13,7 @@ use disk_changes::Change;
 use disk_layout::Fault;
 use folder_changes::HostImages;
 use image_file::{EndedFile, HostFiles, Locks};
-use image_log::LogNames;
+use image_log::{HostLogs, LogNames};
 use opened_files::{Loss, opened_and_landed, read_synced, see_untagged};
 use std::fs::OpenFile;
 use std::io::Write;
@@ -38,7 +38,7 @@ pub(crate) fn image_to_change<F, R>(
 ) -> Result<(Vec<u8>, F), CommandFault>
 where
     F: EndedFile + Locks + OpenFile + Drop,
-    R: HostFiles<File = F> + AllocGlobal,
+    R: HostFiles<File = F> + HostLogs + AllocGlobal,
     requires image { MayChangeImage R.rights rt.now path.now }
     ensures owned { IfOk result (λ taken. F.IsOwned taken.1) }
     ensures read { OfWritten R.stands rt.now path.now

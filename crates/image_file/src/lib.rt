@@ -3,6 +3,7 @@
 #![tactic(auto)]
 
 mod durability;
+mod inputs;
 mod locks;
 // Files of a runtime that keep why a call of theirs failed, for the line that a person reads.
 mod noted;
@@ -17,6 +18,7 @@ mod shown_paths;
 mod streams;
 
 pub use durability::WritesAt;
+pub use inputs::HostInput;
 pub use locks::Locks;
 pub use noted::failures::{Failure, Failures};
 pub use noted::limits::LimitedErrors;
@@ -24,7 +26,7 @@ pub use noted::noted_file::NotedFile;
 pub use noted::noted_reader::NotedReader;
 pub use noted::noted_runtime::NotedRuntime;
 pub use noted::subjects::Subject;
-pub use paths::host::HostFiles;
+pub use paths::host::{HostFiles, PlainFiles};
 pub use paths::names::{FileName, Identity, NameStays, leads_to};
 pub use paths::opening::{opened_to_change, opened_to_read, regular, regular_at};
 pub use reading::{read_image, read_script};

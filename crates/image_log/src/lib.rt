@@ -23,6 +23,7 @@ mod touched_disk;
 pub use blocks::BLOCK;
 pub use image_log::ImageLog;
 pub use life::beginning::begin;
+pub use life::host_logs::HostLogs;
 pub use life::image_folder::ImageFolder;
 pub use life::image_view::ImageView;
 pub use life::judging::{Misfit, image_of_log};
@@ -33,6 +34,7 @@ pub use life::log_names::{LogNames, find_log, forget_log, forget_making, sync_na
 pub use life::mem_folder::{FolderCall, MemFolder};
 pub use life::memory::{image_room, land_in, view_in};
 pub use life::open_log::OpenLog;
+pub use life::read_log::ReadLog;
 pub use life::replacing::{replace, sectors_of};
 pub use life::superseding::supersede;
 pub use life::system_log::SystemLog;

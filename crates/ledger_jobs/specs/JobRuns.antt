@@ -2,13 +2,17 @@
 use Rattle.std.specs.Borrow.{Bor}
 use Rattle.std.specs.Prelude.{◌≡◌, ℕ, Err, List, Option, Vec, map, vec_items}
 use Rattle.std.specs.declared.alloc.Global.{Global}
+use Rattle.std.specs.declared.io.traits.Read.{Ghosts as ReadGhosts}
+use Rattle.std.specs.declared.io.traits.Seek.{Ghosts as SeekGhosts}
 use Rattle.command_faults.specs.declared.faults.CommandFault.TheVariants as faults
 use Rattle.disk_changes.specs.declared.changes.Changed.{Changed}
 use Rattle.image_file.specs.Remains.{Remains}
 use Rattle.image_file.specs.declared.durability.WritesAt.{Ghosts}
+use Rattle.image_file.specs.declared.paths.host.HostFiles.{Ghosts as HostGhosts}
 use Rattle.image_file.specs.paths.Rights.{Rights}
 use Rattle.image_file.specs.paths.Standing.{Stands}
 use Rattle.image_file.specs.paths.Traces.{Traces}
+use Rattle.image_log.specs.life.HostLogs.{FolderHistories, LogHistories}
 use Rattle.opened_files.specs.Ends.{JobEnd}
 use Rattle.opened_files.specs.Names.{name_bytes}
 use Rattle.shop_jobs.specs.Replies.{IsShopAt, IsLoggedService}
@@ -19,6 +23,7 @@ use Rattle.image_edits.specs.NewDisks.{IsNewDiskEnd}
 use Rattle.shop_jobs.specs.Formats.{IsFormattedEnd}
 use Rattle.shop_jobs.specs.NewShops.{IsNewShopEnd}
 use Rattle.image_edits.specs.EditRuns.{IsSalvagedFrom, IsCopiedFrom, IsEditOver}
+use Rattle.shop_jobs.specs.KeptServices.{IsServiceKept}
 use Rattle.shop_jobs.specs.ServiceEnds.{IsNearEnd}
 use Rattle.shop_jobs.specs.ShopRuns.{IsDryOver, IsLeftPlayed, IsPlayedOverFile, IsPlayedOverLog}
 
@@ -26,9 +31,10 @@ use Rattle.shop_jobs.specs.ShopRuns.{IsDryOver, IsLeftPlayed, IsPlayedOverFile, 
 abbrev pub paths_of : Vec (Bor (List ℕ)) Global → List (List ℕ)
 paths_of images = map (λ image. image.now) (vec_items images)
 
-module _ {H F W : Type 0} (G : Ghosts F) (rights : Rights H) (stands : H → List ℕ → Stands) (traces : Traces H F)
+module _ {H F W : Type 0} (g : HostGhosts H F) (r : ReadGhosts F) (s : SeekGhosts F) (G : Ghosts F) (logs : LogHistories H F)
+    (folders : FolderHistories H F) (rights : Rights H) (stands : H → List ℕ → Stands) (traces : Traces H F)
     (remains : Remains F) (changed : H → (path image : List ℕ) → Changed → Type 0)
-    (replaced : H → (path image : List ℕ) → Type 0) (contents : W → Option (List ℕ)) (host : H) where
+    (replaced : H → (path image : List ℕ) → Type 0) (given : H → Option (List ℕ)) (contents : W → Option (List ℕ)) (host : H) where
   -- a job ended so, over the bytes that the host has at the paths of its words, and left this
   abbrev pub IsJobOver : Job → W → W → JobEnd → Type 0
   IsJobOver (jobs.Look image what) old new end = IsLookedAt rights stands contents host what image.now old new end
@@ -54,5 +60,6 @@ module _ {H F W : Type 0} (G : Ghosts F) (rights : Rights H) (stands : H → Lis
   IsJobOver (jobs.Several what images) old new end = AreOverviewed rights stands contents host what (paths_of images) old new end
   IsJobOver (jobs.PlayLogged image script loss) old new end = IsPlayedOverLog rights stands contents host image.now script.now old new end
   IsJobOver (jobs.Serve image loss) old new end = IsLoggedService contents (IsShopAt stands host image.now) old new end
+      × IsServiceKept g r s logs folders stands rights traces contents (given host) host image.now old new end
   -- `do_trim` does that job
   IsJobOver (jobs.Trim image) old new end = (new ≡ old) × (end ≡ Err faults.File)

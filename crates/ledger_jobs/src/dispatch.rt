@@ -8,7 +8,7 @@ use command_faults::CommandFault;
 use disk_layout::Fault;
 use folder_changes::HostImages;
 use image_edits::{do_copying, do_edit, do_new, do_salvaging};
-use image_file::{EndedFile, HostFiles, Locks};
+use image_file::{EndedFile, HostFiles, HostInput, Locks};
 use image_looks::{do_comparing, do_describing, do_extracting, do_look, do_several, do_sheet};
 use shop_jobs::{
     do_dry, do_format, do_format_new, do_logged_playing, do_logged_serving, do_playing,
@@ -35,12 +35,12 @@ use std::io::{Read, Write};
 pub fn do_job<F, R, W>(rt: &R, job: &Job<'_>, out: &mut W) -> Result<Option<Fault>, CommandFault>
 where
     F: EndedFile + Read + Locks + OpenFile + Drop,
-    R: HostFiles<File = F> + HostImages + Input + AllocGlobal,
+    R: HostFiles<File = F> + HostImages + HostInput + Input + AllocGlobal,
     W: Write,
     requires rights { MayDo R.rights rt.now job.now }
     requires fit { IsFit job.now }
-    ensures { IsJobOver F.WritesAt.own R.rights R.stands R.traces F.EndedFile.remains R.changed R.replaced
-        W.contents rt.now job.now out.old out.new result }
+    ensures { IsJobOver R.HostFiles F.Read F.Seek F.WritesAt.own R.logs R.folders R.rights R.stands R.traces
+        F.EndedFile.remains R.changed R.replaced R.given W.contents rt.now job.now out.old out.new result }
 {
     match *job {
         Job::Format { image, tills } => do_format(rt, image, tills, out),

@@ -14,7 +14,7 @@ use command_faults::CommandFault;
 use d64_image::IMAGE_BYTES;
 use image_file::{EndedFile, HostFiles, Locks, opened_to_change, opened_to_read};
 use image_log::{
-    ImageFolder, ImageView, LogFault, LogNames, land_in, sync_names, untag_file, view_in,
+    HostLogs, ImageFolder, ImageView, LogFault, LogNames, land_in, sync_names, untag_file, view_in,
 };
 use std::fs::OpenFile;
 use std::io::{self, ErrorKind};
@@ -145,7 +145,7 @@ where
 fn land_beside<F, R>(rt: &R, names: &LogNames, path: &str) -> Result<(), CommandFault>
 where
     F: EndedFile + OpenFile + Drop,
-    R: HostFiles<File = F> + AllocGlobal,
+    R: HostFiles<File = F> + HostLogs + AllocGlobal,
     requires image { MayWrite R.rights rt.now path.now }
     requires log { MayKeepLogOf R.rights rt.now (string_bytes names.now.image) }
     ensures { IfErr result IsUnbegun }
@@ -165,7 +165,7 @@ where
 fn settle_log<F, R>(rt: &R, path: &str, image: &F, loss: Loss) -> Result<(), CommandFault>
 where
     F: EndedFile + Locks + OpenFile + Drop,
-    R: HostFiles<File = F> + AllocGlobal,
+    R: HostFiles<File = F> + HostLogs + AllocGlobal,
     requires owned { F.IsOwned image.now }
     requires rights { MayChangeImage R.rights rt.now path.now }
     ensures { IfErr result IsUnbegun }
@@ -225,7 +225,7 @@ where
 pub fn opened_and_landed<F, R>(rt: &R, path: &str, loss: Loss) -> Result<F, CommandFault>
 where
     F: EndedFile + Locks + OpenFile + Drop,
-    R: HostFiles<File = F> + AllocGlobal,
+    R: HostFiles<File = F> + HostLogs + AllocGlobal,
     requires { MayChangeImage R.rights rt.now path.now }
     ensures owned { IfOk result F.IsOwned }
     ensures shared { IfOk result F.IsShared }

@@ -10,6 +10,8 @@ pub mod PlayTold
 pub mod PlayedKept
 pub mod PlayedOver
 pub mod ReplyTold
+pub mod ServiceBegun
+pub mod ServiceKept
 pub mod ServiceTold
 pub mod ToldSome
 pub mod Unlanded

@@ -14,6 +14,7 @@ use crate::shop_runs::dry_run;
 use command_faults::CommandFault;
 use disk_layout::Fault;
 use image_file::{EndedFile, HostFiles, Locks};
+use image_log::HostLogs;
 use opened_files::{Loss, opened_and_landed, read_owned, script_to_play, see_untagged};
 use std::fs::OpenFile;
 use std::io::Write;
@@ -28,7 +29,7 @@ fn taken_to_play<F, R>(
 ) -> Result<(Vec<u8>, Vec<u8>, F), CommandFault>
 where
     F: EndedFile + Locks + OpenFile + Drop,
-    R: HostFiles<File = F> + Input + AllocGlobal,
+    R: HostFiles<File = F> + HostLogs + Input + AllocGlobal,
     requires image { MayChangeImage R.rights rt.now path.now }
     requires script { MayReadText R.rights rt.now script.now }
     ensures opened { IfOk result (λ taken. IsOpened R.traces F.held rt.now path.now taken.2) }
@@ -58,7 +59,7 @@ pub fn do_playing<F, R, W>(
 ) -> Result<Option<Fault>, CommandFault>
 where
     F: EndedFile + Locks + OpenFile + Drop,
-    R: HostFiles<File = F> + Input + AllocGlobal,
+    R: HostFiles<File = F> + HostLogs + Input + AllocGlobal,
     W: Write,
     requires image { MayChangeImage R.rights rt.now path.now }
     requires script { MayReadText R.rights rt.now script.now }

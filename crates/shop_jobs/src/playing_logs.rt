@@ -22,7 +22,7 @@ use crate::watched_files::{name_of, served_end};
 use command_faults::CommandFault;
 use disk_layout::Fault;
 use image_file::{EndedFile, HostFiles, Locks, NameStays};
-use image_log::{LiveLog, LogFile, LogFolder, LogNames};
+use image_log::{HostLogs, LiveLog, LogFile, LogFolder, LogNames};
 use line_server::BatchReplies;
 use line_text::first_reset_line;
 use opened_files::{Loss, opened_alone, run_end, script_to_play, see_size};
@@ -115,7 +115,7 @@ fn play_beside<F, R, W>(
 ) -> Result<Option<Fault>, CommandFault>
 where
     F: EndedFile + Locks + OpenFile + Drop,
-    R: HostFiles<File = F> + AllocGlobal,
+    R: HostFiles<File = F> + HostLogs + AllocGlobal,
     W: Write,
     requires owned { F.IsOwned image }
     requires shared { F.IsShared image }
@@ -149,7 +149,7 @@ pub fn do_logged_playing<F, R, W>(
 ) -> Result<Option<Fault>, CommandFault>
 where
     F: EndedFile + Locks + OpenFile + Drop,
-    R: HostFiles<File = F> + Input + AllocGlobal,
+    R: HostFiles<File = F> + HostLogs + Input + AllocGlobal,
     W: Write,
     requires image { MayChangeImage R.rights rt.now path.now }
     requires script { MayReadText R.rights rt.now script.now }

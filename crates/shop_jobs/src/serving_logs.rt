@@ -1,6 +1,15 @@
 //! Serving the shop of the image at a path, over a log beside it.
-ghost use Rattle.std.specs.Prelude.{◌≡◌, Bool, IfOk, IfSome, OnOk, flat_map, length, string_bytes, take, true, vec_items};
+ghost use Rattle.std.specs.Prelude.{◌≡◌, ◌∷◌, [], Bool, IfOk, IfSome, OnOk, Some, flat_map, length, string_bytes, take, true, vec_items};
 ghost use Rattle.shop_jobs.specs.ServiceEnds.{IsLoggedEnd};
+ghost use Rattle.std.specs.Io.KnownBytes.{Appends};
+ghost use Rattle.d64_image.specs.Images.{Image};
+ghost use Rattle.d64_image.specs.Memory.{sectors_in};
+ghost use Rattle.host_session.specs.runs.ScriptRuns.{AreToldSo};
+ghost use Rattle.image_log.specs.life.Bringing.{RestsAlone};
+ghost use Rattle.image_log.specs.life.Folders.{AllLeft, Folder};
+ghost use Rattle.image_log.specs.life.Shops.{Gives, GivesOneOf};
+ghost use Rattle.request_cards.specs.Ledgers.{report};
+ghost use Rattle.shop_jobs.specs.KeptServices.{IsBegunIn, IsFolderAt, IsServedOrNot, IsServiceKept};
 ghost use Rattle.shop_jobs.specs.LandedRuns.{landing_fault, unlanded as unlanded_end, IsDoneAndLanded, IsLandedEnd};
 ghost use Rattle.shop_jobs.specs.Replies.{IsShopAt, IsLoggedService, IsShopOf, IsToldAll, IsToldSome};
 ghost use Rattle.opened_files.specs.HostFiles.{OfWritten};
@@ -22,10 +31,10 @@ use command_faults::CommandFault;
 use d64_image::MemDisk;
 use disk_layout::Fault;
 use host_session::Replies;
-use image_file::{EndedFile, HostFiles, Locks, NameStays, opened_to_change};
+use image_file::{EndedFile, HostFiles, HostInput, Locks, NameStays, opened_to_change};
 use image_log::{
-    ImageFolder, LiveLog, LogFault, LogFile, LogFolder, LogNames, LogRoom, SystemLog, TouchedDisk,
-    forget_making, land_in,
+    HostLogs, ImageFolder, LiveLog, LogFault, LogFile, LogFolder, LogNames, LogRoom, SystemLog,
+    TouchedDisk, forget_making, land_in,
 };
 use line_server::BatchSource;
 use opened_files::{
@@ -44,9 +53,11 @@ fn folder_of<'a, F, R>(
 ) -> Result<ImageFolder<'a, R>, CommandFault>
 where
     F: EndedFile + OpenFile + Drop,
-    R: HostFiles<File = F> + AllocGlobal,
+    R: HostFiles<File = F> + HostLogs + AllocGlobal,
     requires image { MayWrite R.rights rt.now path.now }
     requires log { MayKeepLogOf R.rights rt.now (string_bytes names.now.image) }
+    requires leads { R.rights.leads rt.now path.now (string_bytes names.now.image) ≡ true }
+    ensures { IfOk result (IsFolderAt R.rights R.traces rt.now path.now) }
 {
     see_no_lost_log(rt, names)?;
     let image = opened_to_change(rt, path)?;
@@ -59,7 +70,10 @@ fn shop_of<L: LogFile, D: LogFolder<L>, R: AllocGlobal>(
     rt: &R,
     folder: &mut D,
 ) -> Result<Vec<[u8; 256]>, CommandFault>
-    ensures { IfOk result (λ shop. length shop.items ≡ 683) }
+    ensures sized { IfOk result (λ shop. length shop.items ≡ 683) }
+    ensures shop { IfOk result (λ shop. (c : Image) (s : Folder) → D.history.held folder.old ≡ Some s → GivesOneOf (c ∷ []) s
+        → AllLeft D.history folder.old (GivesOneOf (c ∷ []))
+        → RestsAlone D.history folder.new shop.items × Gives s shop.items) }
 {
     match land_in(rt.alloc(), folder) {
         Ok(shop) => Ok(shop),
@@ -155,6 +169,8 @@ where
     ensures quiet { IsLoggedEnd out.old out.new result }
     ensures some { IsToldSome T.output out.old out.new }
     ensures all { OnOk result (IsToldAll T.output image.now out.old out.new) }
+    ensures kept { IsServedOrNot D.history image.now (I.input.remaining input.old) log
+        (λ rs. AreToldSo T.output out.old out.new rs) out.old out.new result }
 {
     let mut answers = RepliesWhileNamed::new(&name, out);
     let (_, ended) = serve_begun(alloc, image, log, loss, input, &mut answers);
@@ -178,7 +194,9 @@ where
     N: NameStays + Drop,
     I: BatchSource,
     W: Write,
-    ensures { IsLoggedService W.contents (IsShopOf image.now) out.old out.new result }
+    ensures told { IsLoggedService W.contents (IsShopOf image.now) out.old out.new result }
+    ensures kept { IsServedOrNot D.history image.now (I.input.remaining input.old) log
+        (λ rs. Appends (W.contents out.old) (W.contents out.new) (report rs)) out.old out.new result }
 {
     let mut printer = WatchedReplies::new(out);
     serve_watched(alloc, image, log, loss, input, name, &mut printer)
@@ -214,7 +232,9 @@ fn landed_bytes<F: Locks>(
     away: Loss,
 ) -> Result<Vec<u8>, CommandFault>
     requires shared { F.IsShared image.old }
+    requires sized { length shop.now ≡ 683 }
     ensures shop { IfOk result (λ bytes. vec_items bytes ≡ flat_map (λ sector. sector) shop.now) }
+    ensures sectors { IfOk result (λ bytes. sectors_in (vec_items bytes) ≡ shop.now) }
     ensures read { IfOk result (λ bytes. IfSome (F.unread image.old) (λ all. vec_items bytes ≡ take 174849 all)) }
     ensures whole { IfOk result (λ bytes. ¬ (SaysLogAway (vec_items bytes))) }
 {
@@ -239,13 +259,16 @@ pub(crate) fn begun_beside<'a, F, R>(
 ) -> Result<(Vec<u8>, LiveLog<SystemLog<'a, R>, ImageFolder<'a, R>>), CommandFault>
 where
     F: EndedFile + Locks + OpenFile + Drop,
-    R: HostFiles<File = F> + AllocGlobal,
+    R: HostFiles<File = F> + HostLogs + AllocGlobal,
     requires owned { F.IsOwned image.old }
     requires shared { F.IsShared image.old }
     requires bytes { AreOf R.stands rt.now path.now (F.unread image.old) }
     requires image { MayWrite R.rights rt.now path.now }
     requires log { MayKeepLogOf R.rights rt.now (string_bytes names.now.image) }
-    ensures { IfOk result (λ begun. OfWritten R.stands rt.now path.now (λ all. vec_items begun.0 ≡ take 174849 all)) }
+    requires leads { R.rights.leads rt.now path.now (string_bytes names.now.image) ≡ true }
+    ensures begun { IfOk result (λ begun. IsBegunIn (R.folders _ _ _) (IsFolderAt R.rights R.traces rt.now path.now)
+        (vec_items begun.0) begun.1) }
+    ensures read { IfOk result (λ begun. OfWritten R.stands rt.now path.now (λ all. vec_items begun.0 ≡ take 174849 all)) }
 {
     let alloc = rt.alloc();
     accept_loss(rt, names, path, away)?;
@@ -280,16 +303,18 @@ pub fn do_logged_serving<F, R, W>(
 ) -> Result<Option<Fault>, CommandFault>
 where
     F: EndedFile + Locks + OpenFile + Drop,
-    R: HostFiles<File = F> + Input + AllocGlobal,
+    R: HostFiles<File = F> + HostLogs + HostInput + AllocGlobal,
     W: Write,
     requires { MayChangeImage R.rights rt.now path.now }
-    ensures { IsLoggedService W.contents (IsShopAt R.stands rt.now path.now) out.old out.new result }
+    ensures told { IsLoggedService W.contents (IsShopAt R.stands rt.now path.now) out.old out.new result }
+    ensures kept { IsServiceKept R.HostFiles F.Read F.Seek R.logs R.folders R.stands R.rights R.traces W.contents (R.given rt.now) rt.now path.now
+        out.old out.new result }
 {
     let alloc = rt.alloc();
     let mut image = opened_alone(rt, path)?;
     see_size(&image)?;
     // A bare reader of standard input reads a byte a call.
-    let mut input = BufReader::new(alloc, rt.reader())?;
+    let mut input = BufReader::new(alloc, rt.input())?;
     let name = name_of(rt, path, &image)?;
     let names = LogNames::of(rt, alloc, path)?;
     let (bytes, log) = begun_beside(rt, path, &names, &mut image, loss, loss)?;

@@ -1,12 +1,13 @@
 //! A runtime over which a job is done, and which keeps why a call of it failed.
 ghost use Rattle.std.specs.Prelude.{◌≡◌};
 
+use crate::inputs::HostInput;
 use crate::noted::failures::Failures;
 use crate::noted::limits::{OUTPUT, SizeLimit, StreamRoom};
 use crate::noted::noted_file::NotedFile;
 use crate::noted::noted_reader::NotedReader;
 use crate::noted::subjects::Subject;
-use crate::paths::host::{HostFiles, folder_of};
+use crate::paths::host::{HostFiles, PlainFiles, folder_of};
 use std::alloc::{Allocator, Global};
 use std::fmt::Display;
 use std::fs::Metadata;
@@ -146,6 +147,18 @@ impl<'n, 'a, R: HostFiles> HostFiles for NotedRuntime<'n, 'a, R> {
 
     fn is_mounted(&self, alloc: Global, path: &str) -> io::Result<bool> {
         self.noted(path, self.rt.is_mounted(alloc, path))
+    }
+}
+
+impl<R: PlainFiles> PlainFiles for NotedRuntime<'_, '_, R> {}
+
+impl<'n, 'a, R: HostInput> HostInput for NotedRuntime<'n, 'a, R> {
+    type Given = NotedReader<'n, 'a, R::Given>;
+
+    ghost given = { λ noted. R.given noted.rt.now };
+
+    fn input(&self) -> NotedReader<'n, 'a, R::Given> {
+        NotedReader::new(self.rt.input(), self.failures)
     }
 }
 

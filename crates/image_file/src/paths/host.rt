@@ -101,6 +101,11 @@ pub trait HostFiles {
         requires { May rights self.now Remove path.now };
 }
 
+/// A host whose images and logs are its files, of which it says nothing but what each call says.
+pub trait PlainFiles: HostFiles {}
+
+impl<R: Files> PlainFiles for R {}
+
 /// The folder in which the file at a path stands.
 pub(crate) fn folder_of(path: &str) -> &str {
     match path.rsplit_once('/') {

@@ -1,20 +1,17 @@
 //! The folder of an image, of the system.
-ghost use Rattle.image_log.specs.life.Unknown.{unknown_folder};
 ghost use Rattle.image_log.specs.life.LogRights.{MayKeepLogOf, MayReadLogOf, log_of};
 ghost use Rattle.image_file.specs.paths.Standing.{IsMissing};
 ghost use Rattle.std.specs.Prelude.{◌≡◌, ◌<◌, IfOk, IsNone, length, string_bytes};
 ghost use Rattle.std.proofs.Props.{props};
 
+use crate::life::host_logs::HostLogs;
 use crate::life::log_folder::LogFolder;
-use crate::life::log_names::{LogNames, forget_making, see_log, sync_names};
-use crate::life::open_log::OpenLog;
+use crate::life::log_names::{LogNames, see_log};
+use crate::life::read_log::ReadLog;
 use crate::life::system_log::SystemLog;
-use crate::life::tagged_files::{is_file_tagged, tag_file, untag_file};
-use crate::life::tags::{TAGGED, set_tag, take_tag};
+use crate::life::tags::{TAGGED, take_tag};
 use crate::log::LOG_BYTES;
-use image_file::{
-    EndedFile, HostFiles, Identity, opened_to_change, opened_to_read, private_mode, regular,
-};
+use image_file::{HostFiles, Identity, opened_to_read, regular};
 use std::cell::Cell;
 use std::fs::OpenFile;
 use std::io::{self, Read, Seek, SeekFrom};
@@ -22,18 +19,17 @@ use std::os::unix::fs::MetadataExt;
 
 /// An image's open file, and the names of its log beside it. The file is read, written, synced and closed. It isn't
 /// locked: the caller does that. Once a log was read or got its name, it alone is opened, replaced or removed by that name.
-/// If the name leads to another file, or the log has another length, the call is an error, and does nothing. Nothing is
-/// known of what the files hold: they are trusted to satisfy the contract of `LogFolder`, with what IMAGE has but for its
-/// tag as IMAGE. The tag stays until the log's name is removed.
+/// If the name leads to another file, or the log has another length, the call is an error, and does nothing. What the files
+/// hold, the host says. The tag stays until the log's name is removed.
 #[derive(Drop)]
 pub struct ImageFolder<'a, R: HostFiles> {
-    rt: &'a R,
-    names: &'a LogNames,
-    image: R::File,
+    pub(crate) rt: &'a R,
+    pub(crate) names: &'a LogNames,
+    pub(crate) image: R::File,
     // the file that is the log
-    log: Option<Identity>,
+    pub(crate) log: Option<Identity>,
     // whether IMAGE is tagged once its log has its name
-    tags: bool,
+    pub(crate) tags: bool,
     // the log may be kept
     ghost keeps: { MayKeepLogOf R.rights rt.now (string_bytes names.now.image) } by { Prim.hlevel props },
 }
@@ -61,14 +57,12 @@ pub(crate) fn read_sectors<F: Read + Seek>(file: &mut F, image: &mut [[u8; 256]]
     Ok(())
 }
 
-impl<'a, R: HostFiles> ImageFolder<'a, R>
-where
-    R::File: EndedFile + OpenFile,
-{
+impl<'a, R: HostFiles> ImageFolder<'a, R> {
     /// The folder of the image whose file this is, open to be read and written. `InvalidInput` if it isn't a regular file, or
     /// has a second name, by which it would have another log.
     pub fn new(rt: &'a R, names: &'a LogNames, image: R::File) -> io::Result<ImageFolder<'a, R>>
         requires { MayKeepLogOf R.rights rt.now (string_bytes names.now.image) }
+        ensures { IfOk result (λ folder. (folder.rt.now ≡ rt.now) × (folder.names.now ≡ names.now) × (folder.image ≡ image)) }
     {
         if regular(OpenFile::metadata(&image))?.nlink() > 1 {
             return Err(io::ErrorKind::InvalidInput.into());
@@ -83,13 +77,22 @@ where
     }
 
     /// The same for a service, which tags IMAGE once its log has its name, and that is synced.
-    pub fn tagging(mut self) -> ImageFolder<'a, R> {
+    pub fn tagging(mut self) -> ImageFolder<'a, R>
+        ensures rt { result.rt.now ≡ self.entry.rt.now }
+        ensures names { result.names.now ≡ self.entry.names.now }
+        ensures image { result.image ≡ self.entry.image }
+    {
         self.tags = true;
         self
     }
 
     /// An open file as the log, or as one in the making that hasn't its name yet.
-    fn log_of(&self, file: R::File, identity: Identity, named: bool) -> SystemLog<'a, R> {
+    pub(crate) fn log_of(
+        &self,
+        file: R::File,
+        identity: Identity,
+        named: bool,
+    ) -> SystemLog<'a, R> {
         SystemLog {
             rt: self.rt,
             name: self.names.log(),
@@ -100,7 +103,7 @@ where
     }
 
     /// Takes this file for the log. An error if another one was that.
-    fn know(&mut self, log: Identity) -> io::Result<()> {
+    pub(crate) fn know(&mut self, log: Identity) -> io::Result<()> {
         let known = self.log;
         if known.is_some() && known != Some(log) {
             return Err(io::ErrorKind::NotFound.into());
@@ -110,101 +113,69 @@ where
     }
 
     /// An error if the log's name doesn't lead to the log, or if there is none and the name leads to a file.
-    fn see_log(&self) -> io::Result<()> {
+    pub(crate) fn see_log(&self) -> io::Result<()> {
         see_log(self.rt, self.names.log(), self.log)
     }
 }
 
 /// Which file an open log is, as long as a log.
-fn identity_of<F: OpenFile>(file: &F) -> io::Result<Identity> {
+pub(crate) fn identity_of<F: OpenFile>(file: &F) -> io::Result<Identity> {
     let found = OpenFile::metadata(file)?;
     Ok(Identity::sized(&found, LOG_BYTES as u64))
 }
 
-impl<'a, R: HostFiles> LogFolder<SystemLog<'a, R>> for ImageFolder<'a, R>
-where
-    R::File: EndedFile + OpenFile,
-{
-    type Reader = OpenLog<R::File>;
+impl<'a, R: HostLogs> LogFolder<SystemLog<'a, R>> for ImageFolder<'a, R> {
+    type Reader = ReadLog<'a, R>;
 
-    ghost history = { unknown_folder };
+    ghost history = { R.folders _ _ _ };
 
     ghost IsAway = { λ _ file. IsMissing R.stands file.rt.now file.name.now };
 
     fn read_image(&mut self, image: &mut [[u8; 256]]) -> io::Result<()> {
-        read_sectors(&mut self.image, image)
+        R::read_image(self, image)
     }
 
     fn write_sector(&mut self, index: usize, sector: &[u8; 256]) -> io::Result<()> {
-        let mut bytes = *sector;
-        if index == TAGGED && is_file_tagged(&mut self.image)? {
-            set_tag(&mut bytes);
-        }
-        self.image.write_over(&bytes, 256 * index as u64)
+        R::write_sector(self, index, sector)
     }
 
     fn sync_image(&mut self) -> io::Result<()> {
-        self.image.sync_whole()
+        R::sync_image(self)
     }
 
-    fn read_log(&mut self) -> io::Result<Option<OpenLog<R::File>>> {
-        match log_to_read(self.rt, self.names)? {
-            Some(file) => {
-                self.know(identity_of(&file)?)?;
-                Ok(Some(OpenLog { file }))
-            }
-            None => Ok(None),
-        }
+    fn read_log(&mut self) -> io::Result<Option<ReadLog<'a, R>>> {
+        R::read_log(self)
     }
 
-    fn leave_log(&mut self, log: OpenLog<R::File>) {
-        drop(log);
+    fn leave_log(&mut self, log: ReadLog<'a, R>) {
+        R::leave_log(self, &log)
     }
 
     fn open_log(&mut self) -> io::Result<SystemLog<'a, R>> {
-        let file = opened_to_change(self.rt, self.names.log())?;
-        let identity = identity_of(&file)?;
-        self.know(identity)?;
-        Ok(self.log_of(file, identity, true))
+        R::open_log(self)
     }
 
     fn close_log(&mut self, file: SystemLog<'a, R>) -> io::Result<()> {
-        file.see_name()
+        R::close_log(self, &file)
     }
 
     fn make_log(&mut self) -> io::Result<SystemLog<'a, R>> {
-        forget_making(self.rt, self.names)?;
-        let like = OpenFile::metadata(&self.image)?;
-        let file = self.rt.make_file(self.names.making(), private_mode(&like))?;
-        file.guard_as(&like);
-        let identity = identity_of(&file)?;
-        Ok(self.log_of(file, identity, false))
+        R::make_log(self)
     }
 
     fn leave_making(&mut self, file: SystemLog<'a, R>) {
-        drop(file);
+        R::leave_making(self, &file)
     }
 
     fn name_log(&mut self, file: &SystemLog<'a, R>) -> io::Result<()> {
-        self.see_log()?;
-        self.rt.rename(self.names.making(), self.names.log())?;
-        self.log = Some(file.identity);
-        file.named.set(true);
-        Ok(())
+        R::name_log(self, file)
     }
 
     fn remove_log(&mut self) -> io::Result<()> {
-        self.see_log()?;
-        untag_file(&mut self.image)?;
-        self.log = None;
-        self.rt.remove(self.names.log())
+        R::remove_log(self)
     }
 
     fn sync_folder(&mut self) -> io::Result<()> {
-        sync_names(self.rt, self.names)?;
-        if self.tags && self.log.is_some() {
-            return tag_file(&mut self.image);
-        }
-        Ok(())
+        R::sync_folder(self)
     }
 }

@@ -1,19 +1,18 @@
 //! A log's file of the system.
-ghost use Rattle.image_log.specs.life.Unknown.{unknown_file};
 ghost use Rattle.std.specs.Prelude.{IsErr};
 ghost use Rattle.std.proofs.Props.{props};
 ghost use Rattle.image_file.specs.paths.Rights.{Look, May};
 ghost use Rattle.image_file.specs.paths.Standing.{IsMissing};
 
+use crate::life::host_logs::HostLogs;
 use crate::life::log_names::see_file;
 use crate::log_file::LogFile;
-use image_file::{EndedFile, HostFiles, Identity};
+use image_file::{HostFiles, Identity};
 use std::cell::Cell;
-use std::fs::OpenFile;
 use std::io;
 
 /// A log's file, open. Once it has the name of the log, each sync checks that the name still leads to it, and that it is as
-/// long as a log. Nothing is known of what it holds: that it satisfies the contract of `LogFile` is trusted.
+/// long as a log. What it holds, the host says.
 #[derive(Drop)]
 pub struct SystemLog<'a, R: HostFiles> {
     pub(crate) rt: &'a R,
@@ -37,26 +36,18 @@ impl<R: HostFiles> SystemLog<'_, R> {
     }
 }
 
-impl<R: HostFiles> LogFile for SystemLog<'_, R>
-where
-    R::File: EndedFile + OpenFile,
-{
-    ghost history = { unknown_file };
+impl<R: HostLogs> LogFile for SystemLog<'_, R> {
+    ghost history = { R.logs _ _ _ };
 
     fn write_at(&mut self, at: usize, bytes: &[u8]) -> io::Result<()> {
-        self.file.write_over(bytes, at as u64)
+        R::write_at(self, at, bytes)
     }
 
     fn lengthen(&mut self, size: usize) -> io::Result<()> {
-        OpenFile::set_len(&self.file, size as u64)
+        R::lengthen(self, size)
     }
 
-    // its length never changes once it has the name, so then only the bytes are synced
     fn sync(&mut self) -> io::Result<()> {
-        if !self.named.get() {
-            return self.file.sync_whole();
-        }
-        self.file.sync_data()?;
-        self.see_name()
+        R::sync(self)
     }
 }

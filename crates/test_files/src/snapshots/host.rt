@@ -5,7 +5,7 @@ ghost use Rattle.test_files.specs.Snapshots.{left_of, snapshot_rights, snapshot_
 
 use crate::snapshots::open_file::SnapshotFile;
 use crate::snapshots::store::Store;
-use image_file::HostFiles;
+use image_file::{HostFiles, HostInput, PlainFiles};
 use std::alloc::{Allocator, Global};
 use std::fs::{Metadata, OpenFile};
 use std::io::{self, BufRead, ErrorKind, Lines};
@@ -93,6 +93,19 @@ impl<'a> Input for Snapshot<'a> {
         self.text
     }
 }
+
+impl<'a> HostInput for Snapshot<'a> {
+    type Given = &'a [u8];
+
+    ghost given = { λ host. Some host.text.now };
+
+    fn input(&self) -> &'a [u8] {
+        self.text
+    }
+}
+
+// It says nothing of the folders of its images.
+impl PlainFiles for Snapshot<'_> {}
 
 impl<'a> HostFiles for Snapshot<'a> {
     type File = SnapshotFile<'a>;

@@ -1,7 +1,8 @@
 //! Jobs over a host that says what its files held: what is promised of them has no premise left.
-ghost use Rattle.std.specs.Prelude.{◌≡◌, List, ℕ, true, ⊤};
+ghost use Rattle.std.specs.Prelude.{◌≡◌, List, Some, ℕ, true, ⊤};
 ghost use Rattle.image_file.specs.Remains.{unknown};
 ghost use Rattle.image_file.specs.paths.Traces.{untraced};
+ghost use Rattle.image_log.specs.life.Unknown.{unknown_file, unknown_folder};
 ghost use Rattle.ledger_jobs.specs.JobRights.{MayDo};
 ghost use Rattle.ledger_jobs.specs.JobRuns.{IsJobOver};
 ghost use Rattle.ledger_jobs.specs.Jobs.{IsFit};
@@ -13,10 +14,12 @@ ghost use Rattle.test_files.specs.Snapshots.{image_path, snapshot_file, snapshot
 ghost use Rattle.test_files.specs.declared.snapshots.host.Snapshot as hosts;
 
 use crate::snapshots::host::Snapshot;
+use crate::snapshots::open_file::SnapshotFile;
 use command_faults::CommandFault;
 use disk_layout::Fault;
+use image_file::HostFiles;
 use ledger_jobs::{Job, do_job};
-use std::io::Write;
+use std::io::{Read, Seek, Write};
 
 /// Does a job over a snapshot, where each job may be done.
 pub fn do_over<W: Write>(
@@ -25,8 +28,10 @@ pub fn do_over<W: Write>(
     out: &mut W,
 ) -> Result<Option<Fault>, CommandFault>
     requires fit { IsFit job.now }
-    ensures { IsJobOver snapshot_file snapshot_rights snapshot_stands untraced unknown (λ _ _ _ _. ⊤) (λ _ _ _. ⊤) W.contents
-        host.now job.now out.old out.new result }
+    ensures { IsJobOver ⟦<Snapshot<'static> as HostFiles>⟧ ⟦<SnapshotFile<'static> as Read>⟧
+        ⟦<SnapshotFile<'static> as Seek>⟧ snapshot_file (λ _ _ _. unknown_file) (λ _ _ _. unknown_folder) snapshot_rights
+        snapshot_stands untraced unknown (λ _ _ _ _. ⊤) (λ _ _ _. ⊤) (λ host. Some host.text.now) W.contents host.now
+        job.now out.old out.new result }
 {
     do_job(host, job, out)
 }

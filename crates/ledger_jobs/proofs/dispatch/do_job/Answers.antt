@@ -52,3 +52,6 @@ returns-in-Several g c =
     rw c.in-Several.is (subst (λ (paths : List (Bor (List ℕ))). AreOverviewed g.R.HostFiles.rights g.R.HostFiles.stands g.W.Write.contents
     c.args.rt.now c.in-Several.what (map (λ path. path.now) paths) c.args.out.now c.do_several.new.out c.do_several.result) c.as_slice-in-Several.ensures.value
     c.do_several.ensures)
+
+pub returns-in-Serve : goal.returns-in-Serve
+returns-in-Serve g c = rw c.in-Serve.is (c.do_logged_serving.ensures.told, c.do_logged_serving.ensures.kept)

@@ -17,6 +17,6 @@ returns-clause-done g c =
     subst (λ (e : JobEnd). OnOk e (AreAnswered told at script c.args.out.now c.play_printed-ended.new.out))
     (sym c.cleared_end.ensures)
     (answered-at told (IsShopOf image) at
-    (shop-at g.R.HostFiles.stands c.args.rt.now c.args.path.now (vec_items c.in_ok-bytes.bytes) image c.in_ok-bytes.ensures
+    (shop-at g.R.HostFiles.stands c.args.rt.now c.args.path.now (vec_items c.in_ok-bytes.bytes) image c.in_ok-bytes.ensures.read
     c.as_slice.ensures.value) c.args.out.now c.play_printed-ended.new.out script c.play_printed-ended.result
     c.play_printed-ended.ensures.done)

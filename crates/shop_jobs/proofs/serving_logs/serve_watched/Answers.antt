@@ -1,6 +1,7 @@
 -- What was passed on, by how the service ended and its log was landed.
 use Rattle.std.proofs.Common.{rules}
 use Rattle.shop_jobs.proofs.LoggedTold.{guarded-quiet, landed-quiet, lent-logged, watched-back}
+use Rattle.shop_jobs.proofs.ServiceKept.{served-kept}
 use Rattle.shop_jobs.proofs.ServiceTold.{served-all, served-some}
 use Rattle.shop_jobs.proofs.serving_logs.serve_watched.Goals as goal
 
@@ -21,6 +22,9 @@ returns g c =
           c.args.loss c.args.input.now c.serve_begun-ended.new.input before behind c.args.out.now _ c.new-answers.ensures.out
           (λ same. search rules) _ folder end c.serve_begun-ended.ensures.2;
       all = served-all g.D.LogFolder.history g.I.BatchSource.input g.T.Replies.output c.args.image.now c.args.log
+          c.args.loss c.args.input.now c.serve_begun-ended.new.input before behind c.args.out.now _ c.new-answers.ensures.out
+          (λ same. search rules) _ folder end c.serve_begun-ended.ensures.2;
+      kept = served-kept g.D.LogFolder.history g.I.BatchSource.input g.T.Replies.output c.args.image.now c.args.log
           c.args.loss c.args.input.now c.serve_begun-ended.new.input before behind c.args.out.now _ c.new-answers.ensures.out
           (λ same. search rules) _ folder end c.serve_begun-ended.ensures.2;
     }

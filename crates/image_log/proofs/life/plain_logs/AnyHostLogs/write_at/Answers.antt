@@ -1,6 +1,6 @@
 -- Nothing is known of the file.
 use Rattle.image_log.proofs.lemmas.life.Unknown.{writes}
-use Rattle.image_log.proofs.life.system_log.SystemLogLogFile.write_at.Goals as goal
+use Rattle.image_log.proofs.life.plain_logs.AnyHostLogs.write_at.Goals as goal
 
 pub returns : goal.returns
 returns g c = writes _ _ _ _ _

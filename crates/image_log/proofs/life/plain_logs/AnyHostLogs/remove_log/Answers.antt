@@ -2,7 +2,7 @@
 use Rattle.std.proofs.Common.{inl, refl}
 use Rattle.image_log.specs.life.Folders.{IsRemoving, unlogged}
 use Rattle.image_log.proofs.lemmas.life.Unknown.{acts}
-use Rattle.image_log.proofs.life.image_folder.ImageFolderLogFolderSystemLog.remove_log.Goals as goal
+use Rattle.image_log.proofs.life.plain_logs.AnyHostLogs.remove_log.Goals as goal
 
 pub returns-in_err-see_log : goal.returns-in_err-see_log
 returns-in_err-see_log g c = acts _ _ unlogged IsRemoving _ (λ s. inl refl)

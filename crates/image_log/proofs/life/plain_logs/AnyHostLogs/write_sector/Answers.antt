@@ -2,7 +2,7 @@
 use Rattle.std.proofs.Common.{inl, refl}
 use Rattle.image_log.specs.life.Folders.{IsImageWritten, with_sector}
 use Rattle.image_log.proofs.lemmas.life.Unknown.{acts}
-use Rattle.image_log.proofs.life.image_folder.ImageFolderLogFolderSystemLog.write_sector.Goals as goal
+use Rattle.image_log.proofs.life.plain_logs.AnyHostLogs.write_sector.Goals as goal
 
 pub returns : goal.returns
 returns g c = acts _ _ (with_sector c.args.index c.args.sector.now) (IsImageWritten c.args.index c.args.sector.now) _

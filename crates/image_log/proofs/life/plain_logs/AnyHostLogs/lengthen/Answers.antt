@@ -1,6 +1,6 @@
 -- Nothing is known of the file.
 use Rattle.image_log.proofs.lemmas.life.Unknown.{lengthens}
-use Rattle.image_log.proofs.life.system_log.SystemLogLogFile.lengthen.Goals as goal
+use Rattle.image_log.proofs.life.plain_logs.AnyHostLogs.lengthen.Goals as goal
 
 pub returns : goal.returns
 returns g c = lengthens _ _ _ _

@@ -1,0 +1,6 @@
+-- The folder gave an image, and gives no other.
+use Rattle.std.proofs.Common.{[], ◌∷◌}
+use Rattle.shop_jobs.proofs.serving_logs.shop_of.Goals as goal
+
+pub returns-in-Ok-clause-shop : goal.returns-in-Ok-clause-shop
+returns-in-Ok-clause-shop g c = λ image s held gives left. c.in-Ok.ensures.ok (image ∷ []) s held gives left

@@ -1,0 +1,88 @@
+-- What a service over a log leaves in the folder of its image. Our own.
+use Rattle.std.specs.Prelude.{◌≡◌, ◌⊎◌, ◌++◌, ◌∷◌, [], ℕ, IsErr, List, OnOk, Option, Some, length, string_bytes, take, true}
+use Rattle.std.specs.declared.io.traits.Read.{Ghosts as ReadGhosts}
+use Rattle.std.specs.declared.io.traits.Seek.{Ghosts as SeekGhosts}
+use Rattle.std.specs.Io.KnownBytes.{Appends}
+use Rattle.d64_image.specs.Images.{Image}
+use Rattle.d64_image.specs.Memory.{sectors_in}
+use Rattle.host_session.specs.shop.Shop.{Shop, start_of}
+use Rattle.image_file.specs.declared.paths.host.HostFiles.{Ghosts as HostGhosts}
+use Rattle.image_file.specs.paths.Rights.{Rights, Write}
+use Rattle.image_file.specs.paths.Standing.{Stands}
+use Rattle.image_file.specs.paths.Traces.{Traces}
+use Rattle.image_log.specs.declared.life.image_folder.ImageFolder.{ImageFolder}
+use Rattle.image_log.specs.declared.life.live_log.LiveLog.{LiveLog}
+use Rattle.image_log.specs.declared.log_file.LogFile.{Ghosts}
+use Rattle.image_log.specs.life.Folders.{AllLeft, Folder, FolderHistory}
+use Rattle.image_log.specs.life.HostLogs.{FolderHistories, LogHistories}
+use Rattle.image_log.specs.life.LiveLogs.{of_live}
+use Rattle.image_log.specs.life.Shops.{Gives, GivesOneOf}
+use Rattle.line_server.specs.Read.{AreWhole, LacksLf}
+use Rattle.line_server.specs.logged.Serves.{IsSafe, shop_behind}
+use Rattle.line_text.specs.scripts.Lines.{lines}
+use Rattle.opened_files.specs.Ends.{JobEnd}
+use Rattle.opened_files.specs.HostFiles.{OfWritten}
+use Rattle.request_cards.specs.Ledgers.{replies, report}
+use Rattle.request_cards.specs.declared.reply.Reply.{Reply}
+use Rattle.shop_jobs.specs.LandedRuns.{HasLanded}
+use Rattle.shop_jobs.specs.Replies.{IsShopOf}
+
+-- a folder of this host was opened: it is that of the image at a path, whose file was opened there
+abbrev pub IsFolderAt : {H F : Type 0} {g : HostGhosts H F} {r : ReadGhosts F} {s : SeekGhosts F} → Rights H → Traces H F → H
+    → (path : List ℕ) → ImageFolder H F g r s → Type 0
+IsFolderAt rights traces host path d = (d.rt.now ≡ host) × (rights.leads host path (string_bytes d.names.now.image) ≡ true)
+    × traces.opened host Write path d.image
+
+module _ {F D : Type 0} {G : Ghosts F} (h : FolderHistory D) where
+  -- A log was begun in such a folder. If it is known that the folder gave an image, it gave this one, for which the log stands.
+  abbrev pub IsBegunIn : (IsAt : D → Type 0) → (image : List ℕ) → LiveLog F D G → Type 0
+  IsBegunIn IsAt image begun = (folder : D) × IsAt folder × ((c : Image) (s : Folder) → h.held folder ≡ Some s
+      → GivesOneOf (c ∷ []) s → AllLeft h folder (GivesOneOf (c ∷ []))
+      → (of_live h).stands_for begun (sectors_in image) × Gives s (sectors_in image))
+
+  -- Lines of an input with these bytes were served, over a log that was begun for the image of these bytes, and the job ended
+  -- so. `Told` says that these replies were passed on, and nothing else.
+  pub record IsServedIn (image : List ℕ) (given : Option (List ℕ)) (begun : LiveLog F D G) (Told : List Reply → Type 0)
+      (end : JobEnd) : Type 0 where
+    -- the log as the service left it, and the folder in which it was landed
+    pub left : LiveLog F D G
+    pub folder : Option D
+    -- the lines that were handled, each with its LF, and what was read after them, which is no line
+    pub handled : List ℕ
+    pub rest : List ℕ
+    pub whole : AreWhole handled
+    pub lacks : LacksLf rest
+    pub read : (all : List ℕ) → given ≡ Some all → (later : List ℕ) × (all ≡ (handled ++ rest) ++ later)
+    -- the replies that were reported, each over the log as it was
+    pub turns : List (Reply × LiveLog F D G)
+    -- a power loss at any moment leaves the shop of some first lines, and of all whose replies were reported before
+    pub safe : (s : Shop) → IsShopOf image s → (of_live h).stands_for begun (sectors_in image)
+        → IsSafe (of_live h) s (sectors_in image) (lines handled) turns begun left
+    -- when the job is done, these are all lines of the input
+    pub all : OnOk end ((all : List ℕ) → given ≡ Some all → all ≡ handled ++ rest)
+    -- each was answered, and IMAGE is the shop after them at rest, with no log
+    pub done : OnOk end ((s : Shop) → IsShopOf image s → Told (replies (start_of s) [] (lines handled))
+        × (length turns ≡ length (lines handled))
+        × ((of_live h).stands_for begun (sectors_in image) → HasLanded h (shop_behind s (lines handled)) folder))
+
+  -- so they were; or the image was refused, and nothing was passed on
+  abbrev pub IsServedOrNot : {T : Type 0} → (image : List ℕ) → Option (List ℕ) → LiveLog F D G
+      → (Told : List Reply → Type 0) → T → T → JobEnd → Type 0
+  IsServedOrNot image given begun Told old new end = (IsErr end × (new ≡ old)) ⊎ IsServedIn image given begun Told end
+
+-- the same of a log that was begun in such a folder, for an image of these bytes
+abbrev pub IsServedAt : {F D : Type 0} (G : Ghosts F) (h : FolderHistory D) (IsAt : D → Type 0) (Of : List ℕ → Type 0)
+    → Option (List ℕ) → (Told : List Reply → Type 0) → JobEnd → Type 0
+IsServedAt {F} {D} G h IsAt Of given Told end = (image : List ℕ) × Of image × (begun : LiveLog F D G)
+    × IsBegunIn h IsAt image begun × IsServedIn h image given begun Told end
+
+module _ {H F W : Type 0} (g : HostGhosts H F) (r : ReadGhosts F) (s : SeekGhosts F) (logs : LogHistories H F)
+    (folders : FolderHistories H F) (stands : H → List ℕ → Stands) (rights : Rights H) (traces : Traces H F)
+    (contents : W → Option (List ℕ)) where
+  -- The shop of the image at a path of a host was served the lines of an input with these bytes; or it wasn't, and nothing was
+  -- printed.
+  abbrev pub IsServiceKept : Option (List ℕ) → H → (path : List ℕ) → W → W → JobEnd → Type 0
+  IsServiceKept given host path old new end = (IsErr end × (new ≡ old))
+      ⊎ IsServedAt (record { history = logs g r s }) (folders g r s) (λ d. IsFolderAt rights traces host path d)
+      (λ image. OfWritten stands host path (λ all. image ≡ take 174849 all)) given
+      (λ rs. Appends (contents old) (contents new) (report rs)) end
