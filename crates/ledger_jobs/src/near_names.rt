@@ -13,6 +13,21 @@ use std::io::{Read, Write};
 /// What is printed if no name is near.
 pub(crate) const NO_SUCH_FILE: &str = "it has no such file; `ledger list` shows what it has";
 
+/// What is printed if no deleted file has the name.
+const NO_DELETED_FILE: &str =
+    "it has no such deleted file; `extract --deleted` takes out those that it has";
+
+/// What is printed of a job if no name is near.
+fn said_of_none(job: &Job<'_>) -> &'static str {
+    match job {
+        Job::Change {
+            edit: Edit::Undelete { .. },
+            ..
+        } => NO_DELETED_FILE,
+        _ => NO_SUCH_FILE,
+    }
+}
+
 /// The name of the file that it asks for.
 fn name_of<'j>(job: &'j Job<'_>) -> Option<&'j Name> {
     match job {
@@ -65,7 +80,8 @@ where
             let _ = err.write_all(b"\n");
         }
         None => {
-            let _ = writeln!(err, "ledger: {image}: {NO_SUCH_FILE}");
+            let said = said_of_none(job);
+            let _ = writeln!(err, "ledger: {image}: {said}");
         }
     }
 }
