@@ -6,8 +6,8 @@ ghost use Rattle.d64_image.specs.Images.{sector};
 ghost use Rattle.disk_changes.specs.mended.Kinds.{IsCutRefusal};
 ghost use Rattle.disk_layout.specs.Directory.{map_place as map_at};
 
-use command_faults::{CommandFault, load};
 use crate::mended::kinds::has_geos_sign;
+use command_faults::{CommandFault, load};
 use d64_image::{MemDisk, Place};
 use damaged_files::{Loss, find_cut};
 use disk_layout::map_place;

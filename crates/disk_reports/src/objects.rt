@@ -192,6 +192,7 @@ pub(crate) fn print_refused<W: Write>(
     print_refused_head(out, name, size)?;
     print_string(out, why)?;
     out.write_all(
-        b",\"track\":null,\"sector\":null,\"files\":[],\"free\":null,\"disk\":null,\"id\":null,\"short\":null,\"fewer\":null,\"sha1\":null,\"sha256\":null}\n",
+        b",\"track\":null,\"sector\":null,\"files\":[],\"free\":null,\"disk\":null,\"id\":null,\
+        \"short\":null,\"fewer\":null,\"sha1\":null,\"sha256\":null}\n",
     )
 }

@@ -126,11 +126,12 @@ pub fn sheet_begin<W: Write>(out: &mut W, count: usize) -> Result<(), CommandFau
 /// Prints the next tile of a contact sheet, that of an image, and returns the exit status that `picture` has for this
 /// image. It is 0 if the disk is clean, 1 if it is damaged, and that of the fault if it can't be drawn.
 ///
-/// It has a small drawing: tracks from left to right, each sector once in the shade of its owner, the fault in red. Below
-/// stand the path, the disk's name as it is typed and as a C64 shows it, what a check reports (or where the first file is
-/// cut short), and how many blocks the map calls free. A damaged disk is drawn as far as its links go. An image that can't be drawn (`ImageSize`, `Layout`,
-/// `NoMemory`) has a tile with its path and the reason. Paths and names stand there only as text. A path's bytes are
-/// shown as those of names: $20 to $7E except `"` and `\` as they are, every other one as `\` and two digits.
+/// It has a small drawing: tracks from left to right, each sector once in the shade of its owner, the fault in red.
+/// Below stand the path, the disk's name as it is typed and as a C64 shows it, what a check reports (or where the
+/// first file is cut short), and how many blocks the map calls free. A damaged disk is drawn as far as its links go.
+/// An image that can't be drawn (`ImageSize`, `Layout`, `NoMemory`) has a tile with its path and the reason. Paths and
+/// names stand there only as text. A path's bytes are shown as those of names: $20 to $7E except `"` and `\` as they
+/// are, every other one as `\` and two digits.
 ///
 /// `File` if the output failed, which may then have a part.
 pub fn sheet_tile<W: Write>(
