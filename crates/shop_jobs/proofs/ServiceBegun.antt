@@ -52,11 +52,11 @@ begun_in h IsAt folder now shop image begun at same landed stands = (
   folder,
   at,
   λ c s held gives left. let x = landed c s held gives left in
-  let r = x.0 in (
-    subst (λ (i : Image). (of_live h).stands_for begun i) (sym same)
-        (stands r.some r.held r.is.0 (λ t may. let y = r.left t may in (y.0, alone_gives t shop y.0 y.1))),
-    subst (λ (i : Image). Gives s i) (sym same) x.1,
-  ),
+      let r = x.0 in (
+        subst (λ (i : Image). (of_live h).stands_for begun i) (sym same)
+            (stands r.some r.held r.is.0 (λ t may. let y = r.left t may in (y.0, alone_gives t shop y.0 y.1))),
+        subst (λ (i : Image). Gives s i) (sym same) x.1,
+      ),
 )
 
 -- a reader with a buffer that is empty gives what the reader below gives

@@ -111,31 +111,31 @@ module _ {F D N R T : Type 0} {G : Ghosts F} (h : FolderHistory D) (i : BatchInp
   To left end = IsLoggedTo (of_live h) i (of_output (while_there o)) image log left old_in new_in old new end
 
   module _ (left : LiveLog F D G) (folder : Option D) (end : MemDisk → Result MemDisk (LoopFault × MemDisk)) (x : To left end)
-      where
-    safe_of : (s : Shop) → IsShopOf image s → (of_live h).stands_for log (sectors_in image)
-        → IsSafe (of_live h) s (sectors_in image) (lines x.served.handled)
-        (x.served.turns ++ option_to_list x.served.last) log left
-    safe_of s shop stands =
-        subst (λ (c : Image). IsSafe (of_live h) s c (lines x.served.handled)
-        (x.served.turns ++ option_to_list x.served.last) log left) x.holds
-        (x.served.safe s (subst (λ (c : Image). IsShop c s) (sym x.holds) shop.1)
-        (subst (λ (c : Image). (of_live h).stands_for log c) (sym x.holds) stands))
+    where
+      safe_of : (s : Shop) → IsShopOf image s → (of_live h).stands_for log (sectors_in image)
+          → IsSafe (of_live h) s (sectors_in image) (lines x.served.handled)
+          (x.served.turns ++ option_to_list x.served.last) log left
+      safe_of s shop stands =
+          subst (λ (c : Image). IsSafe (of_live h) s c (lines x.served.handled)
+          (x.served.turns ++ option_to_list x.served.last) log left) x.holds
+          (x.served.safe s (subst (λ (c : Image). IsShop c s) (sym x.holds) shop.1)
+          (subst (λ (c : Image). (of_live h).stands_for log c) (sym x.holds) stands))
 
-    -- of a job that isn't done
-    part : (fault : CommandFault) → Served (Err fault)
-    part fault = inr (record {
-      left = left;
-      folder = folder;
-      handled = x.served.handled;
-      rest = x.served.rest;
-      whole = x.served.whole;
-      lacks = x.served.lacks;
-      read = front_of _ _ _ x.served.read;
-      turns = x.served.turns ++ option_to_list x.served.last;
-      safe = safe_of;
-      all = tt;
-      done = tt;
-    })
+      -- of a job that isn't done
+      part : (fault : CommandFault) → Served (Err fault)
+      part fault = inr (record {
+        left = left;
+        folder = folder;
+        handled = x.served.handled;
+        rest = x.served.rest;
+        whole = x.served.whole;
+        lacks = x.served.lacks;
+        read = front_of _ _ _ x.served.read;
+        turns = x.served.turns ++ option_to_list x.served.last;
+        safe = safe_of;
+        all = tt;
+        done = tt;
+      })
 
   -- a log that was landed after a run that ended well
   rests_in : (left : LiveLog F D G) (gone : Bool) (folder : Option D) (found : Option Fault)

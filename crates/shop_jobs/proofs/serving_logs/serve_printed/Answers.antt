@@ -13,13 +13,13 @@ returns g c =
     let end = c.serve_watched.result in
     record {
       told = (
-      lent-logged before behind c.args.out.now _
-          (lent-lines told before behind c.args.out.now _ c.new-printer.ensures.out (λ same. search rules)) end
-          c.serve_watched.ensures.quiet,
-      some-lines told before behind c.args.out.now _ c.new-printer.ensures.out (λ same. search rules)
-          c.serve_watched.ensures.some,
-      all-answered told before behind c.args.out.now _ c.new-printer.ensures.out (λ same. search rules) c.args.image.now end
-          c.serve_watched.ensures.all,
+        lent-logged before behind c.args.out.now _
+            (lent-lines told before behind c.args.out.now _ c.new-printer.ensures.out (λ same. search rules)) end
+            c.serve_watched.ensures.quiet,
+        some-lines told before behind c.args.out.now _ c.new-printer.ensures.out (λ same. search rules)
+            c.serve_watched.ensures.some,
+        all-answered told before behind c.args.out.now _ c.new-printer.ensures.out (λ same. search rules) c.args.image.now end
+            c.serve_watched.ensures.all,
       );
       kept = printed-kept g.D.LogFolder.history told c.args.image.now _ c.args.log before behind c.args.out.now _
           c.new-printer.ensures.out (λ same. search rules) end c.serve_watched.ensures.kept;
