@@ -49,6 +49,7 @@ pub record IsBuiltAnew (image : List ℕ) (free : Bool) (cut : Loss) (made : Cha
 
 -- So they were once entries that named no side sector had a place for one. What that changed is printed first.
 pub record IsNamedAndBuilt (image : List ℕ) (free : Bool) (cut : Loss) (made : Changed) : Type 0 where
+  pub size : length image ≡ 174848
   pub bytes : List ℕ
   pub named : NamesSides (sectors_in image) (sectors_in bytes)
   pub second : Changed

@@ -1,5 +1,5 @@
 -- A folder whose image is changed.
-use Rattle.std.proofs.Common.{◌≡◌, ℕ, List, inl, inr, refl, subst, sym, ⊎_elim}
+use Rattle.std.proofs.Common.{◌≡◌, ◌⊎◌, ℕ, List, inl, inr, length, refl, subst, sym, true, ⊎_elim}
 use Rattle.std.specs.Prelude.{◌≢◌, Err, IfErr, IfOk, None, Ok, OnErr, Option, Result}
 use Rattle.std.specs.Io.KnownBytes.{Appends}
 use Rattle.command_faults.specs.Outputs.{HandsPart}
@@ -10,7 +10,7 @@ use Rattle.disk_changes.specs.declared.changes.Change.{Change}
 use Rattle.disk_changes.specs.declared.changes.Change.TheVariants as changes
 use Rattle.disk_changes.specs.declared.changes.Changed.{Changed}
 use Rattle.command_faults.specs.declared.faults.CommandFault.{CommandFault}
-use Rattle.folder_changes.specs.FolderChanges.{GivesChanged, IsToldAs}
+use Rattle.folder_changes.specs.FolderChanges.{GivesChanged, IsLeft, IsMade, IsToldAs}
 use Rattle.command_faults.specs.declared.faults.CommandFault.TheVariants as faults
 use Rattle.image_log.specs.life.Bringing.{RestsAlone, RestsWith}
 use Rattle.image_log.specs.life.Folders.{FolderHistory, LeavesFolders}
@@ -61,6 +61,39 @@ in-memory (changes.Undelete kind name) image =
     (λ why. ⊎_elim (λ w. w) (λ w. w.2) why, λ why. ⊎_elim (λ w. w) (λ w. w.2) why)
 in-memory changes.Sort image = (λ why. ⊎_elim (λ w. w) (λ w. w.3) why, λ why. ⊎_elim (λ w. w) (λ w. w.3) why)
 in-memory _ image = (λ why. why, λ why. why)
+
+-- an image that is changed has the size of one
+pub sized : (what : Change) (image : List ℕ) (made : Changed) → IsChanged what image made → length image ≡ 174848
+sized (changes.Rename from to) image made is = is.before.size
+sized (changes.Title id name) image made is = is.before.size
+sized (changes.Lock lock name) image made is = is.before.size
+sized (changes.Delete name) image made is = is.before.taken.0
+sized (changes.Undelete kind name) image made is = is.retyped.before.size
+sized changes.Sort image made is = is.before.size
+sized (changes.Put name kind content) image made is = is.before.taken.0
+sized (changes.Make name L cut) image made is = is.before.taken.0
+sized (changes.Store name text cut) image made is = is.before.taken.0
+sized (changes.Repair free cut) image made is = is.before.0
+sized (changes.Rebuild free cut) image made is = ⊎_elim (λ w. w.built.0) (λ w. w.size) is
+
+-- each change may want memory
+no-memory : (what : Change) (image : List ℕ) → length image ≡ 174848 → IsRefused what image faults.NoMemory
+no-memory (changes.Rebuild free cut) image size = inl size
+no-memory (changes.Undelete kind name) image size = inl size
+no-memory changes.Sort image size = inl size
+no-memory _ image size = size
+
+-- nothing is printed of a change that isn't put in place
+pub unplaced : {W D : Type 0} (h : FolderHistory D) (contents : W → Option (List ℕ)) (what : Change) (image : List ℕ) (old new : D)
+    (w : W) (fault : CommandFault) → length image ≡ 174848
+    → ((fault ≡ faults.NoMemory) × (new ≡ old)) ⊎ ((fault ≡ faults.Device) × (h.has_failed new ≡ true))
+    → IsToldAs contents (IsMade h what image old new) (IsLeft h what image old new) w w (Err fault)
+unplaced h contents what image old new w fault size (inl (is, same)) =
+    subst (λ (f : CommandFault). IsToldAs contents (IsMade h what image old new) (IsLeft h what image old new) w w (Err f))
+    (sym is) ((no-memory what image size, same), refl)
+unplaced h contents what image old new w fault size (inr (is, failed)) =
+    subst (λ (f : CommandFault). IsToldAs contents (IsMade h what image old new) (IsLeft h what image old new) w w (Err f))
+    (sym is) refl
 
 -- nothing is printed of a change that is refused
 pub refused : {W : Type 0} (contents : W → Option (List ℕ)) (Is : Changed → Type 0) (Refuses : CommandFault → Type 0) (w : W)

@@ -18,6 +18,7 @@ returns c made e =
     sym (c.bytes.ensures.image ∙ c.in_ok-print_changed.ensures.quiet.image) in
     let N = c.name_sides.ensures.named c.if-not-name_sides.false in
     subst (IsNamedAndBuilt image c.args.free c.args.cut) same (record {
+      size = c.in_ok-before.ensures.ok.0;
       bytes = bytes;
       named = subst (λ (i : Image). NamesSides (sectors_in image) i) after
           (subst (λ (i : Image). NamesSides i (disk_image c.name_sides.new.after)) before N);
