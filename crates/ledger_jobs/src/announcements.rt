@@ -30,8 +30,9 @@ where
 }
 
 /// Prints for a person, after the verdict of a check, what the fault means that it found, and what to do. Then it prints
-/// what a file of the image lacks, if one lacks something: a line `SHORT t/s` or `FEWER t/s`. For that the image's file is opened,
-/// locked with others that read it, and read once more. If that can't be done, or a line can't be printed, it isn't printed.
+/// what a file of the image lacks, if one lacks something: a line `SHORT t/s` or `FEWER t/s`. For that the image's file is
+/// opened, locked with others that read it, and read once more. If that can't be done, or a line can't be printed, it isn't
+/// printed.
 pub fn tell_verdict<F, R, E>(rt: &R, job: &Job<'_>, found: Option<Fault>, err: &mut E)
 where
     F: Read + Locks + OpenFile + Drop,
@@ -68,9 +69,10 @@ where
     }
 }
 
-/// Prints for a person which file a job is going to replace, and whether a C64 can ask for the name that it gives a file. If a job is going to play an image, it prints where the
-/// first file of the image is cut short, if one is. That image is locked with others that read it while it is read. If a
-/// line can't be printed, this isn't reported: nobody reads standard error.
+/// Prints for a person which file a job is going to replace, or that a C64 can't ask for the name that it gives a file. If
+/// a job is going to play an image, it prints where the first file of the image is cut short, if one is. That image is
+/// locked with others that read it while it is read. If a line can't be printed, this isn't reported: nobody reads standard
+/// error.
 pub fn announce<F, R, E>(rt: &R, job: &Job<'_>, err: &mut E)
 where
     F: Read + Locks + OpenFile + Drop,

@@ -307,8 +307,8 @@ where
     W: Write,
     requires { MayChangeImage R.rights rt.now path.now }
     ensures told { IsLoggedService W.contents (IsShopAt R.stands rt.now path.now) out.old out.new result }
-    ensures kept { IsServiceKept R.HostFiles F.Read F.Seek R.logs R.folders R.stands R.rights R.traces W.contents (R.given rt.now) rt.now path.now
-        out.old out.new result }
+    ensures kept { IsServiceKept R.HostFiles F.Read F.Seek R.logs R.folders R.stands R.rights R.traces W.contents
+        (R.given rt.now) rt.now path.now out.old out.new result }
 {
     let alloc = rt.alloc();
     let mut image = opened_alone(rt, path)?;
