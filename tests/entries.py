@@ -1,0 +1,99 @@
+#!/usr/bin/env python3
+"""Compares what changes entries of a directory with another program (Debian's package cc1541):
+
+    tests/entries.py PROGRAM [DISKS] [SEED]
+
+PROGRAM is what `tools/program` prints. A disk gets up to 40 programs. Some are deleted, and `cc1541 -R 1` and `undelete` of each bring
+them back: both disks have the very bytes of the one before. `title` makes the disk that `cc1541 -n -i` makes. After `sort` cc1541 lists
+the names in order, and `check` prints OK; after `lock` it shows the lock, after `unlock` the disk is as it was. The first difference
+ends the script with status 1."""
+
+import random
+import re
+import shutil
+import subprocess
+import sys
+import tempfile
+from pathlib import Path
+
+from served import sure, want
+
+LETTERS = "ABCDEFGHIJKLMNOPQRSTUVWXYZ0123456789 "
+LISTED = re.compile(r'^\d+ +"(.*?)" +\S*prg(.)', re.MULTILINE)
+
+
+def cc1541(*words):
+    done = subprocess.run(["cc1541", *map(str, words)], capture_output=True, text=True, timeout=60)
+    want(done.returncode == 0, f"cc1541 {words}: {done.stderr}")
+    return done.stdout
+
+
+def name_of(draw):
+    return "".join(draw.choice(LETTERS) for _ in range(draw.randint(1, 16))).strip() or "A"
+
+
+class Disk:
+    """A disk with programs, and its copy for cc1541."""
+
+    def __init__(self, program, folder, draw):
+        self.program, self.draw = program, draw
+        self.image, self.other, source = folder / "disk.d64", folder / "other.d64", folder / "source"
+        sure(program, "new", self.image, "--name", "ENTRIES", "--id", "26")
+        self.names = sorted({name_of(draw) for _ in range(draw.randint(1, 40))}, key=lambda _: draw.random())
+        for name in self.names:
+            source.write_bytes(draw.randbytes(draw.randint(1, 4000)) + b"\1")
+            sure(program, "put", self.image, name, source, "--type", "prg")
+
+    def change(self, word, *rest):
+        sure(self.program, word, self.image, *rest)
+
+    def see_undeleted(self):
+        before = self.image.read_bytes()
+        gone = self.draw.sample(self.names, self.draw.randint(1, len(self.names)))
+        for name in gone:
+            self.change("delete", name)
+        shutil.copy(self.image, self.other)
+        cc1541("-R", 1, self.other)
+        for name in self.draw.sample(gone, len(gone)):
+            self.change("undelete", name, "--type", "prg")
+        want(self.image.read_bytes() == before, f"undelete of {gone}: not the disk of before")
+        want(self.other.read_bytes() == before, f"cc1541 -R 1 of {gone}: not the disk of before")
+        return len(gone)
+
+    def see_title(self):
+        name, number = name_of(self.draw), f"{self.draw.randint(10, 99)}"
+        shutil.copy(self.image, self.other)
+        self.change("title", "--name", name, "--id", number)
+        cc1541("-n", name.lower(), "-i", f"{number}#a02a", self.other)
+        want(self.image.read_bytes() == self.other.read_bytes(), f"title {name} {number}: not the disk of cc1541")
+
+    def listed(self):
+        return [(name.upper(), lock == "<") for name, lock in LISTED.findall(cc1541(self.image))]
+
+    def see_sorted(self):
+        self.change("sort")
+        want(sure(self.program, "check", self.image) == ["OK"], "sort: check isn't OK")
+        want(self.listed() == [(name, False) for name in sorted(self.names)], f"sort of {self.names}: {self.listed()}")
+
+    def see_locked(self):
+        before, name = self.image.read_bytes(), self.draw.choice(self.names)
+        self.change("lock", name)
+        want(self.listed() == [(it, it == name) for it in sorted(self.names)], f"lock {name}: {self.listed()}")
+        self.change("unlock", name)
+        want(self.image.read_bytes() == before, f"unlock {name}: not the disk of before")
+
+
+def main(program, disks=20, seed=1):
+    draw, undeleted = random.Random(seed), 0
+    for _ in range(disks):
+        with tempfile.TemporaryDirectory() as folder:
+            disk = Disk(program, Path(folder), draw)
+            undeleted += disk.see_undeleted()
+            disk.see_title()
+            disk.see_sorted()
+            disk.see_locked()
+    print(f"entries: {disks} disks, {undeleted} files undeleted, {disks} titles, orders and locks, as cc1541 has them: no difference")
+
+
+if __name__ == "__main__":
+    main(sys.argv[1], *map(int, sys.argv[2:]))
