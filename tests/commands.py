@@ -65,6 +65,7 @@ COMMANDS = [
     command(LOOKS, f"check {IMAGE}"),
     command(LOOKS, f"check {IMAGE} --all"),
     command(LOOKS, f"check {IMAGE} --json"),
+    command(LOOKS, f"check {IMAGE} --csv"),
     command(LOOKS, f"map {IMAGE}"),
     command(LOOKS, f"picture {IMAGE}"),
     command(LOOKS, f"picture {IMAGE} --svg"),
@@ -116,7 +117,7 @@ COMMANDS = [
 ]
 
 # these print why an image is refused, where others report it on standard error
-PRINT_REFUSALS = ("check --json", "picture --sheet")
+PRINT_REFUSALS = ("check --json", "check --csv", "picture --sheet")
 
 
 def those_that(*does):

@@ -8,10 +8,12 @@ first blocks, side sectors, types, record lengths, block counts, bits of the map
 files and folders have all that JSON escapes. Of each line Python's `json` makes one object with these keys in this
 order. Its verdict is what `check` prints of the image, and the status is the greatest; the files are those that this
 reader finds by the D64 layout; free, disk and id are those of 18/0. Files of other sizes and missing ones give an
-object too. The status is 1 at the first difference, whose image is kept. The last line says how many images of each
+object too. With `--csv` there is a row of the same for each, as Python's `csv` reads it. The status is 1 at the first difference, whose image is kept. The last line says how many images of each
 verdict were compared, and how long the program took for all of them."""
 
+import csv
 import hashlib
+import io
 import json
 import random
 import subprocess
@@ -30,6 +32,19 @@ ON_DISK = set(PLACES)
 RELATIVE = (0x84, 0xC4)
 SOUND = {"OK", "MAPWRONG", "COUNTWRONG"}
 CLOSED = {*range(0x80, 0x85), *range(0xC0, 0xC5)}
+
+
+def table(program, paths):
+    """The rows that `check --csv` prints of images, below the heading."""
+    printed = subprocess.run([program, "check", "--csv", *paths], stdout=subprocess.PIPE).stdout.decode()
+    heading, *rows = csv.reader(io.StringIO(printed, newline=""), strict=True)
+    assert heading == [key for key in KEYS if key != "files"], heading
+    return rows
+
+
+def as_row(told):
+    """What a row says of an image that an object tells of."""
+    return ["" if value is None else str(value) for key, value in told.items() if key != "files"]
 
 
 class Reader:
@@ -189,6 +204,8 @@ def main():
         lines = printed.stdout.decode().splitlines()
         assert len(lines) == count, f"{len(lines)} lines"
         assert printed.returncode == max(one.returncode for one in plain), "the status"
+        rows = table(program, paths)
+        assert rows == [as_row(json.loads(line)) for line in lines], "the table"
         met = Counter()
         for path, image, line, one in zip(paths, images, lines, plain):
             verdict = one.stdout.decode().rstrip("\n")
@@ -206,6 +223,7 @@ def main():
             told = json.loads(one.stdout)
             assert list(told) == KEYS and [told["size"], told["verdict"], told["files"]] == [size, verdict, []], told
             assert one.returncode == (3 if verdict == "FILE" else 1), name
+            assert table(program, [folder / name]) == [as_row(told)], name
     kinds = ", ".join(f"{kind} {times}" for kind, times in sorted(met.items()))
     print(f"objects: {count} images and 3 refused ones were compared ({kinds}); {took:.1f} s for all images")
     return 0

@@ -51,9 +51,10 @@ may_be_text a = with_rule (with_rule a (flag (codes "text"))) (flag (codes "mixe
 abbrev pub list : App
 list = may_be_text (over_images (codes "list"))
 
--- check IMAGE.. [--json] [--all]
+-- check IMAGE.. [--json] [--csv] [--all]
 abbrev pub check : App
-check = with_rule (with_rule (over_images (codes "check")) (flag (codes "json"))) (flag (codes "all"))
+check = with_rule (with_rule (with_rule (over_images (codes "check")) (flag (codes "json"))) (flag (codes "csv")))
+    (flag (codes "all"))
 
 -- a subcommand that goes on where a disk has lost a part of a file, or an image its log, if --accept-loss is given
 abbrev pub may_accept_loss : App → App

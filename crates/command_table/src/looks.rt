@@ -33,6 +33,14 @@ const JSON: Value = Value {
     help: "Print a line for each image, an object of JSON",
 };
 
+/// The flag that describes images by rows of a table.
+const CSV: Value = Value {
+    name: "csv",
+    word: Some("csv"),
+    count: Count::Flag,
+    help: "Print a table, a row of comma-separated values for each image",
+};
+
 /// The flag that prints every fault.
 const ALL: Value = Value {
     name: "all",
@@ -41,7 +49,7 @@ const ALL: Value = Value {
     help: "Print every fault, each with the files that it concerns",
 };
 
-/// `check IMAGE.. [--json] [--all]`
+/// `check IMAGE.. [--json] [--csv] [--all]`
 const CHECK: Subcommand = Subcommand {
     name: "check",
     about: "Check the layout of images: print OK, or a fault and its sector",
@@ -59,16 +67,17 @@ It prints OK, or a fault and its sector, for example LOOP 17/0:
   BADLENGTH   a relative file's entry in this sector has record length 0 or 255
 \"man ledger-1541\" says what to do about each.
 If a file is cut short, SHORT and its last sector follow with --all, in `short`
-with --json, with several images, and for one on a terminal or with --explain.
+with --json or --csv, with several images, on a terminal and with --explain.
 Otherwise, but not with several images alone, FEWER is reported in the same way
 if a PRG, SEQ or USR has fewer blocks than its entry says, and ends there.
 With several images each line begins with the image's name, also for an image
 that is refused. The exit status is then the highest of all.
 With --json each image has a line, an object of JSON. Its `files` are those that
 the fault concerns, `free` counts blocks, and `sha1` and `sha256` are hashes of
-the image. With --all every fault is printed with its files, for example
-OWNEDTWICE 6/17 \"A\" \"B\": first the one that check prints without it. MAPWRONG
-is only printed if the files are sound. With --json, --all has no effect.
+the image. With --csv each has a row of a table, but without `files`. With --all
+every fault is printed with its files, for example OWNEDTWICE 6/17 \"A\" \"B\":
+first the one that check prints without it; MAPWRONG only if the files are
+sound. --json goes before --csv, and both before --all.
 
 Exit status:
   0  OK
@@ -76,7 +85,7 @@ Exit status:
   3  FILE, NO MEMORY, IN USE
 
 Example: ledger check ./*.[dD]64",
-    values: &[IMAGES, JSON, ALL],
+    values: &[IMAGES, JSON, CSV, ALL],
 };
 
 /// `map IMAGE..`

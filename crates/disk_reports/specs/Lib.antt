@@ -3,7 +3,9 @@ pub mod Json
 pub mod Listings
 pub mod NearNames
 pub mod Objects
+pub mod Descriptions
 pub mod Outcomes
+pub mod Rows
 pub mod SideLaws
 pub mod Texts
 pub mod Trails

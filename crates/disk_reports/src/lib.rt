@@ -1,5 +1,5 @@
 //! What `list` and `check` print of an image: its directory, that it is clean, or its faults and the files that they
-//! concern, as lines or as objects of JSON.
+//! concern, as lines, as objects of JSON or as rows of a table.
 #![tactic(auto)]
 
 mod concerned;
@@ -18,13 +18,14 @@ mod listing;
 mod map_bits;
 mod near_names;
 mod objects;
+mod rows;
 mod showing;
 mod sides;
 mod slots;
 mod texts;
 mod trail;
 
-pub use describing::{describe_image, describe_refusal};
+pub use describing::{DescriptionForm, describe_image, describe_refusal, heading};
 pub use directory_listing::list_image;
 pub use judging::{check_among, check_image};
 pub use laws::{named_sides_hold, strings_are_read_back};

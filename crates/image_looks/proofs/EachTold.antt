@@ -14,7 +14,7 @@ use Rattle.opened_files.specs.HostFiles.{OfImage}
 use Rattle.command_faults.specs.declared.faults.CommandFault.{CommandFault}
 
 -- what was done with a greatest status comes to something else
-several-weaker : (P Q : ℕ → Type 0) → ((n : ℕ) → P n → Q n) → (end : JobEnd) → IsSeveralEnd P end → IsSeveralEnd Q end
+pub several-weaker : (P Q : ℕ → Type 0) → ((n : ℕ) → P n → Q n) → (end : JobEnd) → IsSeveralEnd P end → IsSeveralEnd Q end
 several-weaker P Q weaker (Ok None) done = weaker 0 done
 several-weaker P Q weaker (Ok (Some found)) done = done
 several-weaker P Q weaker (Err (faults.Several greatest)) (some, done) = (some, weaker greatest done)

@@ -4,7 +4,10 @@ use Rattle.file_rescues.specs.declared.rescue.choices.Choice.{Choice}
 use Rattle.image_file.specs.paths.Rights.{Rights}
 use Rattle.image_file.specs.paths.Standing.{Stands}
 use Rattle.image_looks.specs.Comparisons.{IsComparingRun}
-use Rattle.image_looks.specs.Descriptions.{IsObjectOf}
+use Rattle.disk_reports.specs.Descriptions.{heading_text}
+use Rattle.disk_reports.specs.declared.describing.DescriptionForm.{DescriptionForm}
+use Rattle.std.specs.Io.KnownBytes.{Appends}
+use Rattle.image_looks.specs.Descriptions.{IsDescribedFrom}
 use Rattle.image_looks.specs.EachImage.{AreHandedOn, IsSeveralEnd, IsReadAt}
 use Rattle.opened_files.specs.Ends.{JobEnd}
 use Rattle.image_looks.specs.Extracts.{IsExtractedTo}
@@ -36,10 +39,11 @@ module _ {H W : Type 0} (rights : Rights H) (stands : H → List ℕ → Stands)
   AreDrawnOnSheet paths old new end =
       IsSeveralEnd (IsSheetPrinted (IsReadAt rights stands host) contents paths old new) end
 
-  -- each of them was described
-  abbrev pub AreDescribed : List (List ℕ) → W → W → JobEnd → Type 0
-  AreDescribed paths old new end =
-      IsSeveralEnd (AreHandedOn (IsReadAt rights stands host) (IsObjectOf contents) contents paths old new) end
+  -- each of them was described in this form, after its heading
+  abbrev pub AreDescribed : DescriptionForm → List (List ℕ) → W → W → JobEnd → Type 0
+  AreDescribed form paths old new end = IsSeveralEnd (λ greatest. (below : W)
+      × Appends (contents old) (contents below) (heading_text form)
+      × AreHandedOn (IsReadAt rights stands host) (IsDescribedFrom contents form) contents paths below new greatest) end
 
   -- what is asked of each of them was printed after a name
   abbrev pub AreOverviewed : Look → List (List ℕ) → W → W → JobEnd → Type 0

@@ -1,6 +1,8 @@
-//! Images that are read, each described by an object of JSON.
-ghost use Rattle.std.specs.Prelude.{All, IfOk, map, IfErr};
-ghost use Rattle.image_looks.specs.Descriptions.{IsImageObject, IsObjectOf, IsRefusedObject};
+//! Images that are read, each described by an object of JSON or a row of a table.
+ghost use Rattle.std.specs.Prelude.{All, IfOk, map, IfErr, OnOk};
+ghost use Rattle.std.specs.Io.KnownBytes.{Appends};
+ghost use Rattle.disk_reports.specs.Descriptions.{heading_text};
+ghost use Rattle.image_looks.specs.Descriptions.{IsImageDescribed, IsDescribedFrom, IsRefusalDescribed};
 ghost use Rattle.image_looks.specs.EachImage.{IsCutOff, as_loaded};
 ghost use Rattle.image_looks.specs.LookRuns.{AreDescribed};
 ghost use Rattle.opened_files.specs.Rights.{MayLook, MayReadImage};
@@ -8,16 +10,16 @@ ghost use Rattle.opened_files.specs.Rights.{MayLook, MayReadImage};
 use crate::each_image::{PrintsImage, print_each, several_end};
 use command_faults::CommandFault;
 use disk_layout::Fault;
-use disk_reports::{describe_image, describe_refusal};
+use disk_reports::{DescriptionForm, describe_image, describe_refusal, heading};
 use image_file::{HostFiles, Locks};
 use opened_files::size_of;
 use std::fs::OpenFile;
 use std::io::{Read, Write};
 
-/// Prints the object of the image at a path that is refused, with what the command would print of it alone. Returns its
-/// exit status.
+/// Describes the image at a path that is refused, by what the command would print of it alone. Returns its exit status.
 fn print_refusal<R, W>(
     rt: &R,
+    form: DescriptionForm,
     path: &str,
     refusal: CommandFault,
     out: &mut W,
@@ -26,40 +28,52 @@ where
     R: HostFiles + AllocGlobal,
     W: Write,
     requires { MayLook R.rights rt.now path.now }
-    ensures ok { IfOk result (IsRefusedObject W.contents path.now refusal out.old out.new) }
+    ensures ok { IfOk result (IsRefusalDescribed W.contents form path.now refusal out.old out.new) }
     ensures err { IfErr result IsCutOff }
 {
     let Ok(why) = format!(in rt.alloc(); "{refusal}") else {
         return Err(CommandFault::NoMemory);
     };
-    describe_refusal(path.as_bytes(), size_of(rt, path), why.as_bytes(), out)?;
+    describe_refusal(
+        form,
+        path.as_bytes(),
+        size_of(rt, path),
+        why.as_bytes(),
+        out,
+    )?;
     Ok(refusal.status())
 }
 
-/// Prints the object of the image at a path that has these bytes, and returns the exit status that a check of it alone
-/// would have.
+/// Describes the image at a path that has these bytes, and returns the exit status that a check of it alone would have.
 // Out of line: its frame is large, and a frame touches each page of it.
 #[inline(never)]
-fn print_object<R, W>(rt: &R, path: &str, image: &[u8], out: &mut W) -> Result<u8, CommandFault>
+fn describe<R, W>(
+    rt: &R,
+    form: DescriptionForm,
+    path: &str,
+    image: &[u8],
+    out: &mut W,
+) -> Result<u8, CommandFault>
 where
     R: HostFiles + AllocGlobal,
     W: Write,
     requires { MayLook R.rights rt.now path.now }
-    ensures ok { IfOk result (IsImageObject W.contents path.now image.now out.old out.new) }
+    ensures ok { IfOk result (IsImageDescribed W.contents form path.now image.now out.old out.new) }
     ensures err { IfErr result IsCutOff }
 {
-    match describe_image(rt.alloc(), path.as_bytes(), image, out) {
+    match describe_image(rt.alloc(), form, path.as_bytes(), image, out) {
         Ok(None) => Ok(0),
         Ok(Some(_)) => Ok(1),
         Err(CommandFault::File) => Err(CommandFault::File),
-        Err(fault) => print_refusal(rt, path, fault, out),
+        Err(fault) => print_refusal(rt, form, path, fault, out),
     }
 }
 
-/// Prints the object of the image at a path, from which this was read, and returns the exit status that a check of it
-/// alone would have.
-fn print_object_of<R, W>(
+/// Describes the image at a path from which this was read, and returns the exit status that a check of it alone would
+/// have.
+fn describe_read<R, W>(
     rt: &R,
+    form: DescriptionForm,
     path: &str,
     read: Result<Vec<u8>, CommandFault>,
     out: &mut W,
@@ -68,21 +82,32 @@ where
     R: HostFiles + AllocGlobal,
     W: Write,
     requires { MayLook R.rights rt.now path.now }
-    ensures ok { IfOk result (IsObjectOf W.contents path.now (as_loaded read) out.old out.new) }
+    ensures ok { IfOk result (IsDescribedFrom W.contents form path.now (as_loaded read) out.old out.new) }
     ensures err { IfErr result IsCutOff }
 {
     match read {
-        Ok(image) => print_object(rt, path, image.as_slice(), out),
-        Err(refusal) => print_refusal(rt, path, refusal, out),
+        Ok(image) => describe(rt, form, path, image.as_slice(), out),
+        Err(refusal) => print_refusal(rt, form, path, refusal, out),
     }
 }
 
-/// Images that are described, each by its object.
+/// Prints what stands before the first image. `File` if the output failed.
+fn print_heading<W: Write>(form: DescriptionForm, out: &mut W) -> Result<(), CommandFault>
+    ensures ok { OnOk result (Appends (W.contents out.old) (W.contents out.new) (heading_text form)) }
+    ensures err { IfErr result IsCutOff }
+{
+    match out.write_all(heading(form)) {
+        Ok(()) => Ok(()),
+        Err(_) => Err(CommandFault::File),
+    }
+}
+
+/// Images that are described in this form.
 #[derive(Clone, Copy)]
-struct Described;
+struct Described(DescriptionForm);
 
 impl<R: HostFiles + AllocGlobal, W: Write> PrintsImage<R, W> for Described {
-    ghost prints = { λ _. IsObjectOf W.contents };
+    ghost prints = { λ described. IsDescribedFrom W.contents described.0 };
 
     fn print(
         &self,
@@ -91,17 +116,18 @@ impl<R: HostFiles + AllocGlobal, W: Write> PrintsImage<R, W> for Described {
         read: Result<Vec<u8>, CommandFault>,
         out: &mut W,
     ) -> Result<u8, CommandFault> {
-        print_object_of(rt, path, read, out)
+        describe_read(rt, self.0, path, read, out)
     }
 }
 
-/// Prints the object of each of these images, in their order, also of one that is refused. An image is locked with others
-/// that read it while it is read.
+/// Describes each of these images in a form, in their order, also one that is refused. An image is locked with others that
+/// read it while it is read.
 ///
 /// `Several`: an image has a fault or is refused, as the output says. `File` if the output failed, and `NoMemory`: the
 /// images after that one aren't read.
 pub fn do_describing<F, R, W>(
     rt: &R,
+    form: DescriptionForm,
     paths: &[&str],
     out: &mut W,
 ) -> Result<Option<Fault>, CommandFault>
@@ -110,8 +136,9 @@ where
     R: HostFiles<File = F> + Input + AllocGlobal,
     W: Write,
     requires { All (λ path. MayReadImage R.rights rt.now path.now) paths.now }
-    ensures { AreDescribed R.rights R.stands W.contents rt.now (map (λ path. path.now) paths.now) out.old out.new result }
+    ensures { AreDescribed R.rights R.stands W.contents rt.now form (map (λ path. path.now) paths.now) out.old out.new result }
 {
-    let greatest = print_each(rt, &Described, paths, out)?;
+    print_heading(form, out)?;
+    let greatest = print_each(rt, &Described(form), paths, out)?;
     several_end(greatest, out)
 }

@@ -9,7 +9,7 @@ use Rattle.image_looks.specs.declared.kinds.Look.{Look}
 use Rattle.image_looks.specs.declared.kinds.Look.TheVariants as looks
 use Rattle.ledger_cli.specs.Flags.{is_given}
 use Rattle.ledger_cli.specs.Images.{IsCheckJob, IsLookJob}
-use Rattle.ledger_cli.specs.Looks.{IsAlone, IsAskedBy, IsOne, check_in, word_of}
+use Rattle.ledger_cli.specs.Looks.{IsAlone, IsAskedBy, IsOne, check_in, description_in, word_of}
 use Rattle.ledger_cli.specs.Jobs.{IsJob, IsNoJob}
 use Rattle.ledger_cli.specs.declared.faults.JobFault.{JobFault}
 use Rattle.ledger_cli.proofs.Parses.{met-has}
@@ -47,7 +47,7 @@ viewing-met o found name at what r told some is many by (inr (inr none)) =
     subst P (sym none.1) (none.2, tt)
 
 -- with --all or without, a check is asked for
-check-met : (rows : List Row) (all : Bool) → is_given (codes "all") rows ≡ all → is_given (codes "json") rows ≡ false
+check-met : (rows : List Row) (all : Bool) → is_given (codes "all") rows ≡ all → description_in rows ≡ None
     → (word_of (check_in rows) ≡ codes "check") × IsOfMany (check_in rows) × IsAskedBy (check_in rows) rows
 check-met rows true given plain = rw given (refl, tt, (plain, given))
 check-met rows false given plain = rw given (refl, tt, (plain, given))
@@ -61,7 +61,7 @@ pub checking-met : (o : Option (Bor Text × Bor ArgMatches)) (found : Option (Te
 checking-met o found name at r told some is (inl (viewed, job)) =
     let asked = check-met (rows_of (found_of at.now)) _ refl viewed in
     viewing-met o found name at (check_in (rows_of (found_of at.now))) r told some (is ∙ sym asked.0) asked.1 asked.2 job
-checking-met o found name at r told some is (inr (inl (images, same, are))) =
+checking-met o found name at r told some is (inr (inl (form, images, same, are))) =
     let P : Result Job JobFault → Type 0 = λ j. MatchResult j (IsJob found) (IsNoJob [] found) × IfOk j IsFit in
     subst P (sym same) (met-has o found name at (codes "check") _ told some is are, tt)
 checking-met o found name at r told some is (inr (inr (e, same, kind))) =

@@ -1,16 +1,17 @@
 -- The images that the words give, and what is printed of them. Our own.
-use Rattle.std.specs.Prelude.{◌≡◌, ◌≢◌, ◌≤◌, ◌<◌, ◌⊎◌, ◌&&◌, ◌||◌, Bool, true, false, List, Result, Ok, Err, [], ◌∷◌}
+use Rattle.std.specs.Prelude.{◌≡◌, ◌≢◌, ◌≤◌, ◌<◌, ◌⊎◌, ◌&&◌, ◌||◌, Bool, true, false, List, None, Result, Ok, Err, Some, [], ◌∷◌}
 use Rattle.std.specs.Prelude.{codes, if◌then◌else◌, length, map, vec_items, Vec}
 use Rattle.std.specs.Borrow.{Bor}
 use Rattle.std.specs.declared.alloc.Global.{Global}
 use Rattle.clap.specs.declared.error.Error.{Error}
 use Rattle.clap.specs.Words.{HasKind, Row, Text}
 use Rattle.command_table.specs.Grammar.{value, values}
+use Rattle.disk_reports.specs.declared.describing.DescriptionForm.{DescriptionForm}
 use Rattle.ledger_jobs.specs.declared.jobs.Job.{Job}
 use Rattle.image_looks.specs.declared.kinds.Look.{Look}
 use Rattle.image_looks.specs.declared.kinds.Look.TheVariants as looks
 use Rattle.ledger_cli.specs.declared.faults.JobFault.{JobFault}
-use Rattle.ledger_cli.specs.Looks.{IsForOne, IsOne, check_in}
+use Rattle.ledger_cli.specs.Looks.{IsForOne, IsOne, check_in, description_in}
 use Rattle.ledger_cli.specs.Flags.{is_given}
 use Rattle.ledger_jobs.specs.declared.jobs.Job.TheVariants as jobs
 use Rattle.ledger_cli.specs.declared.faults.JobFault.TheVariants as faults
@@ -50,9 +51,9 @@ IsNoPicture rows =
 abbrev pub AreImages : List Row → List (Bor Text) → Type 0
 AreImages rows images = (map (λ image. image.now) images ≡ values (codes "IMAGE") rows) × (2 ≤ length images)
 
--- objects are asked for, and these are the images, in their order
-abbrev pub AreDescribed : List Row → List (Bor Text) → Type 0
-AreDescribed rows images = (is_given (codes "json") rows ≡ true)
+-- they are to be described in this form, and these are the images, in their order
+abbrev pub AreDescribed : List Row → DescriptionForm → List (Bor Text) → Type 0
+AreDescribed rows form images = (description_in rows ≡ Some form)
     × (map (λ image. image.now) images ≡ values (codes "IMAGE") rows)
 
 -- the job that prints this of these images; or there was no memory for it
@@ -69,16 +70,17 @@ IsLookJob rows what result =
     ⊎ ((e : Error) × (result ≡ Err (faults.Words e)) × HasKind [] e))
 
 -- the job that describes these images; or there was no memory for it
-abbrev pub IsDescribing : List (Bor Text) → Result Job JobFault → Type 0
-IsDescribing images result =
-    ((all : Vec (Bor Text) Global) × (result ≡ Ok (jobs.Describe all)) × (vec_items all ≡ images))
+abbrev pub IsDescribing : DescriptionForm → List (Bor Text) → Result Job JobFault → Type 0
+IsDescribing form images result =
+    ((all : Vec (Bor Text) Global) × (result ≡ Ok (jobs.Describe form all)) × (vec_items all ≡ images))
     ⊎ ((e : Error) × (result ≡ Err (faults.Words e)) × HasKind [] e)
 
 -- the job, or why there is none, of the subcommand that checks images, or describes each
 abbrev pub IsCheckJob : List Row → Result Job JobFault → Type 0
 IsCheckJob rows result =
-    ((is_given (codes "json") rows ≡ false) × IsLookJob rows (check_in rows) result)
-    ⊎ (((images : Vec (Bor Text) Global) × (result ≡ Ok (jobs.Describe images)) × AreDescribed rows (vec_items images))
+    ((description_in rows ≡ None) × IsLookJob rows (check_in rows) result)
+    ⊎ (((form : DescriptionForm) × (images : Vec (Bor Text) Global) × (result ≡ Ok (jobs.Describe form images))
+    × AreDescribed rows form (vec_items images))
     ⊎ ((e : Error) × (result ≡ Err (faults.Words e)) × HasKind [] e))
 
 -- the sheet of these images; or there are too many for it, or there was no memory

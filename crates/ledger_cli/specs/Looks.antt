@@ -1,8 +1,10 @@
 -- What the words ask to be printed of an image. Our own.
-use Rattle.std.specs.Prelude.{◌≡◌, ◌<◌, List, Some, codes, false, if◌then◌else◌, length, true, ⊤}
+use Rattle.std.specs.Prelude.{◌≡◌, ◌<◌, List, None, Option, Some, codes, false, if◌then◌else◌, length, true, ⊤}
 use Rattle.clap.specs.Words.{Row, Text}
 use Rattle.command_table.specs.Grammar.{value, values}
 use Rattle.opened_files.specs.Names.{IsNameOf, name_bytes}
+use Rattle.disk_reports.specs.declared.describing.DescriptionForm.{DescriptionForm}
+use Rattle.disk_reports.specs.declared.describing.DescriptionForm.TheVariants as forms
 use Rattle.file_rescues.specs.declared.forms.FileForm.TheVariants as files
 use Rattle.image_looks.specs.declared.kinds.Look.{Look}
 use Rattle.image_looks.specs.declared.kinds.Look.TheVariants as looks
@@ -29,11 +31,17 @@ word_of (looks.Bytes files.Listing candidates name) = codes "basic"
 abbrev pub check_in : List Row → Look
 check_in rows = if is_given (codes "all") rows then looks.Faults else looks.Check
 
--- the values and the flags ask for this; with --json `check` describes images in place of it
+-- how images are to be described, if they are; --json wins over --csv
+abbrev pub description_in : List Row → Option DescriptionForm
+description_in rows =
+    if is_given (codes "json") rows then Some forms.Json
+    else (if is_given (codes "csv") rows then Some forms.Csv else None)
+
+-- the values and the flags ask for this; with --json or --csv `check` describes images in place of it
 abbrev pub IsAskedBy : Look → List Row → Type 0
 IsAskedBy (looks.List form) rows = form ≡ name_form_in rows
-IsAskedBy looks.Check rows = (is_given (codes "json") rows ≡ false) × (is_given (codes "all") rows ≡ false)
-IsAskedBy looks.Faults rows = (is_given (codes "json") rows ≡ false) × (is_given (codes "all") rows ≡ true)
+IsAskedBy looks.Check rows = (description_in rows ≡ None) × (is_given (codes "all") rows ≡ false)
+IsAskedBy looks.Faults rows = (description_in rows ≡ None) × (is_given (codes "all") rows ≡ true)
 IsAskedBy (looks.Show loss) rows = loss ≡ loss_in rows
 IsAskedBy looks.Picture rows = is_given (codes "svg") rows ≡ false
 IsAskedBy looks.Poster rows = is_given (codes "svg") rows ≡ true

@@ -100,7 +100,7 @@ module _ {F : Type 0} (position : F → Option ℕ) (bytes contents : F → Opti
       (after ≡ file) × (new ≡ old) × (end ≡ Err faults.File)
   IsJobRun told (jobs.Sheet paths) image script file after old new end =
       (after ≡ file) × (new ≡ old) × (end ≡ Err faults.File)
-  IsJobRun told (jobs.Describe paths) image script file after old new end =
+  IsJobRun told (jobs.Describe form paths) image script file after old new end =
       (after ≡ file) × (new ≡ old) × (end ≡ Err faults.File)
   IsJobRun told (jobs.Extract choice path folder) image script file after old new end =
       (after ≡ file) × (new ≡ old) × (end ≡ Err faults.File)

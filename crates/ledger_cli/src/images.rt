@@ -3,12 +3,14 @@ ghost use Rattle.std.specs.Prelude.{◌≡◌};
 ghost use Rattle.clap.specs.Words.{found_of, rows_of};
 ghost use Rattle.ledger_cli.specs.Images.{IsCheckJob, IsDescribing, IsLookJob, IsComparing, IsPictureJob};
 ghost use Rattle.ledger_cli.specs.Images.{IsSeveral, IsSheet, picture_job, has_two_forms as two_forms};
+ghost use Rattle.ledger_cli.specs.Looks.{description_in};
 
 use crate::faults::JobFault;
 use crate::forms::checked;
 use crate::values::{is_given, value_of, values_of};
 use clap::{ArgMatches, Error};
 use disk_pictures::MOST_TILES;
+use disk_reports::DescriptionForm;
 use image_looks::Look;
 use ledger_jobs::Job;
 use std::alloc::{AllocError, Global};
@@ -118,27 +120,44 @@ pub(crate) fn viewing<'a>(
     of_several(alloc, what, images)
 }
 
-/// The job that describes these images.
-fn described<'a>(alloc: Global, images: &[&'a str]) -> Result<Job<'a>, JobFault>
-    ensures { IsDescribing images.now result }
+/// How images are to be described, if they are.
+fn description_of<'a>(matches: &ArgMatches<'a>) -> Option<DescriptionForm>
+    ensures { result ≡ description_in (rows_of (found_of matches.now)) }
+{
+    if is_given(matches, "json") {
+        Some(DescriptionForm::Json)
+    } else if is_given(matches, "csv") {
+        Some(DescriptionForm::Csv)
+    } else {
+        None
+    }
+}
+
+/// The job that describes these images in a form.
+fn described<'a>(
+    alloc: Global,
+    form: DescriptionForm,
+    images: &[&'a str],
+) -> Result<Job<'a>, JobFault>
+    ensures { IsDescribing form images.now result }
 {
     let mut all = Vec::new(alloc);
     match all.extend_from_slice(images) {
-        Ok(()) => Ok(Job::Describe { images: all }),
+        Ok(()) => Ok(Job::Describe { form, images: all }),
         Err(error) => Err(JobFault::Words(Error::from(error))),
     }
 }
 
-/// The job that checks images, or describes each by an object.
+/// The job that checks images, or describes each.
 pub(crate) fn checking<'a>(alloc: Global, matches: &ArgMatches<'a>) -> Result<Job<'a>, JobFault>
     ensures { IsCheckJob (rows_of (found_of matches.now)) result }
 {
-    if !is_given(matches, "json") {
+    let Some(form) = description_of(matches) else {
         return viewing(alloc, matches, checked(matches));
-    }
+    };
     let Some(images) = values_of(matches, "IMAGE") else {
         // A parse without an image is refused.
         return Err(JobFault::Words(Error::from(AllocError)));
     };
-    described(alloc, images)
+    described(alloc, form, images)
 }

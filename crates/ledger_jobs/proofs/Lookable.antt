@@ -30,5 +30,5 @@ read-first rights host (jobs.Extract choice image folder) may = may
 read-first rights host (jobs.Trim image) may = may
 read-first rights host (jobs.Compare before after) may = may.0
 read-first rights host (jobs.Sheet images) may = may
-read-first rights host (jobs.Describe images) may = may
+read-first rights host (jobs.Describe form images) may = may
 read-first rights host (jobs.Several what images) may = may

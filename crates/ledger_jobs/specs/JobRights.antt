@@ -42,7 +42,7 @@ module _ {H : Type 0} (rights : Rights H) (host : H) where
   -- `do_trim` does that job
   MayDo (jobs.Trim image) = ⊤
   MayDo (jobs.Sheet images) = All (λ image. MayReadImage rights host image.now) images.items
-  MayDo (jobs.Describe images) = All (λ image. MayReadImage rights host image.now) images.items
+  MayDo (jobs.Describe form images) = All (λ image. MayReadImage rights host image.now) images.items
   MayDo (jobs.Compare before after) = MayReadImage rights host before.now × MayReadImage rights host after.now
   MayDo (jobs.Several what images) = All (λ image. MayReadImage rights host image.now) images.items
 

@@ -56,7 +56,7 @@ module _ {H F W : Type 0} (g : HostGhosts H F) (r : ReadGhosts F) (s : SeekGhost
       × IsPlayedOverFile rights stands contents host image.now script.now old new end
       × IsLeftPlayed G stands traces host image.now script.now loss old new end
   IsJobOver (jobs.Sheet images) old new end = AreDrawnOnSheet rights stands contents host (paths_of images) old new end
-  IsJobOver (jobs.Describe images) old new end = AreDescribed rights stands contents host (paths_of images) old new end
+  IsJobOver (jobs.Describe form images) old new end = AreDescribed rights stands contents host form (paths_of images) old new end
   IsJobOver (jobs.Several what images) old new end = AreOverviewed rights stands contents host what (paths_of images) old new end
   IsJobOver (jobs.PlayLogged image script loss) old new end = IsPlayedOverLog rights stands contents host image.now script.now old new end
   IsJobOver (jobs.Serve image loss) old new end = IsLoggedService contents (IsShopAt stands host image.now) old new end

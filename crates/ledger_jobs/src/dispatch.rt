@@ -78,7 +78,7 @@ where
         Job::Trim { .. } => Err(CommandFault::File),
         Job::Compare { before, after } => do_comparing(rt, before, after, out),
         Job::Sheet { ref images } => do_sheet(rt, images.as_slice(), out),
-        Job::Describe { ref images } => do_describing(rt, images.as_slice(), out),
+        Job::Describe { form, ref images } => do_describing(rt, form, images.as_slice(), out),
         Job::Several {
             ref what,
             ref images,

@@ -1,5 +1,6 @@
 //! What the program can be asked to do.
 
+use disk_reports::DescriptionForm;
 use file_rescues::Choice;
 use image_edits::{Edit, Effect};
 use image_looks::Look;
@@ -113,8 +114,10 @@ pub enum Job<'a> {
         /// The images' paths.
         images: Vec<&'a str>,
     },
-    /// Images that are read, in their order, each described by an object of JSON in a line of its own.
+    /// Images that are read, in their order, each described in a line of its own.
     Describe {
+        /// How they are described.
+        form: DescriptionForm,
         /// The images' paths.
         images: Vec<&'a str>,
     },

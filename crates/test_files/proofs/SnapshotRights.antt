@@ -60,6 +60,6 @@ module _ (host : Snapshot) where
   may-do (jobs.Extract choice image folder) = (read image.now, (fill folder.now, λ inner ends. fill inner))
   may-do (jobs.Trim image) = tt
   may-do (jobs.Sheet images) = λ k other below. read (slice_index_or images.items k other).now
-  may-do (jobs.Describe images) = λ k other below. read (slice_index_or images.items k other).now
+  may-do (jobs.Describe form images) = λ k other below. read (slice_index_or images.items k other).now
   may-do (jobs.Compare before after) = (read before.now, read after.now)
   may-do (jobs.Several what images) = λ k other below. read (slice_index_or images.items k other).now

@@ -1,9 +1,9 @@
--- All of them were printed, and what the output held back.
+-- The heading was printed, then all of them, and what the output held back.
 use Rattle.std.proofs.Common.{◌∙◌, Err, ap, map}
 use Rattle.std.proofs.lemmas.Result.{err_from_is_err_and}
-use Rattle.image_looks.specs.EachImage.{IsReadAt}
-use Rattle.image_looks.specs.Descriptions.{IsObjectOf}
-use Rattle.image_looks.proofs.EachTold.{cut-off, several-told}
+use Rattle.image_looks.specs.EachImage.{AreHandedOn, IsReadAt}
+use Rattle.image_looks.specs.Descriptions.{IsDescribedFrom}
+use Rattle.image_looks.proofs.EachTold.{cut-off, several-told, several-weaker}
 use Rattle.image_looks.proofs.descriptions.do_describing.Goals as goal
 
 pub returns-in_err-greatest : goal.returns-in_err-greatest
@@ -13,6 +13,11 @@ returns-in_err-greatest g c =
 
 pub returns : goal.returns
 returns g c =
-    several-told (IsReadAt g.R.HostFiles.rights g.R.HostFiles.stands c.args.rt.now) (IsObjectOf g.W.Write.contents)
-    g.W.Write.contents (map (λ path. path.now) c.args.paths.now) c.args.out.now c.print_each.new.out c.several_end.new.out
-    c.in_ok-greatest.greatest c.several_end.result c.in_ok-greatest.ensures.ok c.several_end.ensures
+    let reads = IsReadAt g.R.HostFiles.rights g.R.HostFiles.stands c.args.rt.now in
+    let paths = map (λ path. path.now) c.args.paths.now in
+    let told = g.W.Write.contents in
+    let below = c.print_heading.new.out in
+    several-weaker (AreHandedOn reads (IsDescribedFrom told c.args.form) told paths below c.several_end.new.out) _
+    (λ greatest done. (below, c.in_ok-print_heading.ensures.ok, done)) c.several_end.result
+    (several-told reads (IsDescribedFrom told c.args.form) told paths below c.print_each.new.out c.several_end.new.out
+    c.in_ok-greatest.greatest c.several_end.result c.in_ok-greatest.ensures.ok c.several_end.ensures)

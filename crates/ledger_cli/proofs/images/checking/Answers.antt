@@ -1,10 +1,11 @@
--- Without --json images are viewed, and with it those of the words are described.
-use Rattle.std.proofs.Common.{◌≡◌, ◌∙◌, Bor, List, Option, Result, Some, [], ap, inl, inr, subst, sym, true}
+-- Images are viewed, or those of the words are described.
+use Rattle.std.proofs.Common.{◌≡◌, ◌∙◌, Bor, List, Option, Result, Some, [], ap, inl, inr, subst, sym}
+use Rattle.disk_reports.specs.declared.describing.DescriptionForm.{DescriptionForm}
 use Rattle.std.specs.Prelude.{codes, map, option_map, unwrap_or}
 use Rattle.clap.specs.Words.{Row, Text, all_of, found_of, rows_of}
 use Rattle.command_table.specs.Grammar.{values}
 use Rattle.ledger_cli.specs.Images.{AreDescribed, IsCheckJob, IsDescribing, IsLookJob}
-use Rattle.ledger_cli.specs.Flags.{is_given}
+use Rattle.ledger_cli.specs.Looks.{description_in}
 use Rattle.ledger_jobs.specs.declared.jobs.Job.{Job}
 use Rattle.image_looks.specs.declared.kinds.Look.{Look}
 use Rattle.ledger_cli.specs.declared.faults.JobFault.{JobFault}
@@ -18,24 +19,24 @@ given-values o given rows is told =
     (option_map (λ (s : Bor (List (Bor Text))). map (λ (v : Bor Text). v.now) s.now) t) []) (sym is)
     ∙ ap (λ (r : Option (List Text)). unwrap_or r []) told
 
-described-met : (rows : List Row) (images : List (Bor Text)) (r : Result Job JobFault)
-    → is_given (codes "json") rows ≡ true
-    → map (λ (v : Bor Text). v.now) images ≡ values (codes "IMAGE") rows → IsDescribing images r → IsCheckJob rows r
-described-met rows images r given told (inl (all, same, items)) =
-    inr (inl (all, same, subst (AreDescribed rows) (sym items) (given, told)))
-described-met rows images r given told (inr none) = inr (inr none)
+described-met : (rows : List Row) (form : DescriptionForm) (images : List (Bor Text)) (r : Result Job JobFault)
+    → description_in rows ≡ Some form
+    → map (λ (v : Bor Text). v.now) images ≡ values (codes "IMAGE") rows → IsDescribing form images r → IsCheckJob rows r
+described-met rows form images r given told (inl (all, same, items)) =
+    inr (inl (form, all, same, subst (AreDescribed rows form) (sym items) (given, told)))
+described-met rows form images r given told (inr none) = inr (inr none)
 
-pub returns-then-not-is_given : goal.returns-then-not-is_given
-returns-then-not-is_given c =
+pub returns-else-let-Some : goal.returns-else-let-Some
+returns-else-let-Some c =
     let rows = rows_of (found_of c.args.matches.now) in
     inl (
-      sym c.is_given.ensures ∙ c.if-not-is_given.true,
+      sym c.description_of.ensures ∙ c.in-None.is,
       subst (λ (what : Look). IsLookJob rows what c.viewing.result) c.checked.ensures c.viewing.ensures,
     )
 
 pub returns : goal.returns
 returns c =
     let rows = rows_of (found_of c.args.matches.now) in
-    described-met rows c.in-Some.images.now c.described.result (sym c.is_given.ensures ∙ c.if-not-is_given.false)
-    (given-values c.values_of.result c.in-Some.images (all_of (codes "IMAGE") rows) c.in-Some.is c.values_of.ensures)
+    described-met rows c.in-Some.form c.in-Some-2.images.now c.described.result (sym c.description_of.ensures ∙ c.in-Some.is)
+    (given-values c.values_of.result c.in-Some-2.images (all_of (codes "IMAGE") rows) c.in-Some-2.is c.values_of.ensures)
     c.described.ensures

@@ -44,7 +44,7 @@ returns-in-Sheet g c =
 pub returns-in-Describe : goal.returns-in-Describe
 returns-in-Describe g c =
     rw c.in-Describe.is (subst (λ (paths : List (Bor (List ℕ))). AreDescribed g.R.HostFiles.rights g.R.HostFiles.stands g.W.Write.contents
-    c.args.rt.now (map (λ path. path.now) paths) c.args.out.now c.do_describing.new.out c.do_describing.result) c.as_slice-in-Describe.ensures.value
+    c.args.rt.now c.in-Describe.form (map (λ path. path.now) paths) c.args.out.now c.do_describing.new.out c.do_describing.result) c.as_slice-in-Describe.ensures.value
     c.do_describing.ensures)
 
 pub returns-in-Several : goal.returns-in-Several

@@ -1,0 +1,168 @@
+//! Rows of a table of images, written as comma-separated values.
+ghost use Rattle.std.specs.Prelude.{OnOk, Some, flat_map};
+ghost use Rattle.std.specs.Io.KnownBytes.{Appends};
+ghost use Rattle.disk_reports.specs.Rows.{disk_cells, field, field_char, lack_cells, refused_row, row_hashes, row_head, row_text};
+ghost use Rattle.disk_reports.specs.Rows.{size_cell, verdict_cells};
+
+use crate::json::print_hex;
+use damaged_files::Shortfall;
+use disk_layout::{BamView, Fault};
+use line_text::Text;
+use reached_disk::disk_name;
+use sha1::Sha1;
+use sha2::{Digest, Sha256};
+use std::fmt::{self, Display, Formatter};
+use std::io::{self, Write};
+
+/// What a check finds: as it prints it, and the track and the sector of a fault.
+#[derive(Clone, Copy)]
+struct VerdictCells(Option<Fault>);
+
+impl Display for VerdictCells {
+    ghost output = { λ cells. Some (verdict_cells cells.0) };
+
+    fn fmt<W: fmt::Write>(&self, f: &mut Formatter<W>) -> fmt::Result {
+        match self.0 {
+            None => f.write_str("OK,,"),
+            Some(fault) => {
+                let place = fault.place();
+                write!(f, "{fault},{},{}", place.track(), place.sector())
+            }
+        }
+    }
+}
+
+/// What 18/0 says of the disk: its free blocks, name and id.
+#[derive(Clone, Copy)]
+struct DiskCells<'a>(&'a [u8; 256]);
+
+impl<'a> Display for DiskCells<'a> {
+    ghost output = { λ cells. Some (disk_cells cells.0.now) };
+
+    fn fmt<W: fmt::Write>(&self, f: &mut Formatter<W>) -> fmt::Result {
+        let map = BamView::new(self.0);
+        write!(
+            f,
+            "{},\"{}\",\"{}\"",
+            map.blocks_free(),
+            Text(disk_name(self.0)),
+            Text(map.id())
+        )
+    }
+}
+
+/// Where the file ends that is cut short, or that has fewer blocks than its entry says.
+#[derive(Clone, Copy)]
+struct LackCells(Option<Shortfall>);
+
+impl Display for LackCells {
+    ghost output = { λ cells. Some (lack_cells cells.0) };
+
+    fn fmt<W: fmt::Write>(&self, f: &mut Formatter<W>) -> fmt::Result {
+        match self.0 {
+            None => f.write_str(","),
+            Some(Shortfall::Short(place)) => write!(f, "{}/{},", place.track(), place.sector()),
+            Some(Shortfall::Fewer(place)) => write!(f, ",{}/{}", place.track(), place.sector()),
+        }
+    }
+}
+
+/// Writes a byte of a field. A quotation mark stands twice.
+fn print_field_char<W: Write>(out: &mut W, byte: u8) -> io::Result<()>
+    ensures { OnOk result (Appends (W.contents out.old) (W.contents out.new) (field_char byte)) }
+{
+    if byte == b'"' {
+        return out.write_all(b"\"\"");
+    }
+    out.write_all(&[byte])
+}
+
+/// Writes the bytes of a field.
+fn print_field_chars<W: Write>(out: &mut W, bytes: &[u8]) -> io::Result<()>
+    ensures { OnOk result (Appends (W.contents out.old) (W.contents out.new) (flat_map field_char bytes.now)) }
+{
+    for &byte in bytes {
+        print_field_char(out, byte)?;
+    }
+    Ok(())
+}
+
+/// Writes bytes as a field between quotation marks.
+fn print_field<W: Write>(out: &mut W, bytes: &[u8]) -> io::Result<()>
+    ensures { OnOk result (Appends (W.contents out.old) (W.contents out.new) (field bytes.now)) }
+{
+    out.write_all(b"\"")?;
+    print_field_chars(out, bytes)?;
+    out.write_all(b"\"")
+}
+
+/// Writes the row of an image up to its hashes.
+fn print_row_head<W: Write>(
+    out: &mut W,
+    name: &[u8],
+    found: Option<Fault>,
+    map: &[u8; 256],
+    lack: Option<Shortfall>,
+) -> io::Result<()>
+    ensures { OnOk result (Appends (W.contents out.old) (W.contents out.new) (row_head name.now found map.now lack)) }
+{
+    print_field(out, name)?;
+    write!(
+        out,
+        ",174848,{},{},{},",
+        VerdictCells(found),
+        DiskCells(map),
+        LackCells(lack)
+    )
+}
+
+/// Writes the hashes of an image, and the end of its row.
+fn print_row_hashes<W: Write>(out: &mut W, image: &[u8]) -> io::Result<()>
+    ensures { OnOk result (Appends (W.contents out.old) (W.contents out.new) (row_hashes image.now)) }
+{
+    print_hex(out, &Sha1::digest(image))?;
+    out.write_all(b",")?;
+    print_hex(out, &Sha256::digest(image))?;
+    out.write_all(b"\n")
+}
+
+/// Writes the row of an image of which a check finds this, with the bytes of 18/0, what the files lack, and the image's
+/// hashes.
+pub(crate) fn print_row<W: Write>(
+    out: &mut W,
+    name: &[u8],
+    found: Option<Fault>,
+    map: &[u8; 256],
+    lack: Option<Shortfall>,
+    image: &[u8],
+) -> io::Result<()>
+    ensures { OnOk result (Appends (W.contents out.old) (W.contents out.new) (row_text name.now found map.now lack image.now)) }
+{
+    print_row_head(out, name, found, map, lack)?;
+    print_row_hashes(out, image)
+}
+
+/// Writes a size between commas, if it is known.
+fn print_size_cell<W: Write>(out: &mut W, size: Option<u64>) -> io::Result<()>
+    ensures { OnOk result (Appends (W.contents out.old) (W.contents out.new) (size_cell size)) }
+{
+    match size {
+        None => out.write_all(b",,"),
+        Some(size) => write!(out, ",{size},"),
+    }
+}
+
+/// Writes the row of an image that is refused for this reason.
+pub(crate) fn print_refused_row<W: Write>(
+    out: &mut W,
+    name: &[u8],
+    size: Option<u64>,
+    why: &[u8],
+) -> io::Result<()>
+    ensures { OnOk result (Appends (W.contents out.old) (W.contents out.new) (refused_row name.now size why.now)) }
+{
+    print_field(out, name)?;
+    print_size_cell(out, size)?;
+    out.write_all(why)?;
+    out.write_all(b",,,,,,,,,\n")
+}
