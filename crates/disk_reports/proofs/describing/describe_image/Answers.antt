@@ -7,7 +7,7 @@ use Rattle.d64_image.specs.Memory.{disk_image}
 use Rattle.damaged_files.specs.cut.Told.{IsShortfallOf}
 use Rattle.disk_layout.specs.Directory.{map_place}
 use Rattle.disk_layout.specs.declared.slot.Slot.{Slot}
-use Rattle.disk_reports.specs.Objects.{object_text}
+use Rattle.disk_reports.specs.Descriptions.{description_text}
 use Rattle.command_faults.proofs.Loads.{by-load}
 use Rattle.disk_layout.specs.Clean.{IsVerdict}
 use Rattle.disk_reports.specs.Outcomes.{AreFound, IsDescribeFault}
@@ -40,10 +40,10 @@ returns-in-Ok g c =
         concerned = subst (λ (i : Image). AreFound i found files) judged c.list_files.ensures.files;
         lack = lack;
         lacks = subst (λ (i : Image). IsShortfallOf i lack) listed c.find_shortfall-lack.ensures.told;
-        printed = subst (λ (m : Sector). Appends (g.W.Write.contents c.args.out.now) (g.W.Write.contents c.print_object.new.out)
-            (object_text c.args.name.now found files m lack c.args.image.now)) map
-            (subst (λ (ss : List Slot). Appends (g.W.Write.contents c.args.out.now) (g.W.Write.contents c.print_object.new.out)
-            (object_text c.args.name.now found ss c.sector-map.result.now lack c.args.image.now)) c.as_slice.ensures.value c.in-Ok.ensures);
+        printed = subst (λ (m : Sector). Appends (g.W.Write.contents c.args.out.now) (g.W.Write.contents c.print_description.new.out)
+            (description_text c.args.form c.args.name.now found files m lack c.args.image.now)) map
+            (subst (λ (ss : List Slot). Appends (g.W.Write.contents c.args.out.now) (g.W.Write.contents c.print_description.new.out)
+            (description_text c.args.form c.args.name.now found ss c.sector-map.result.now lack c.args.image.now)) c.as_slice.ensures.value c.in-Ok.ensures);
       };
       err = tt;
       untouched = tt;
