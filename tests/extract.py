@@ -6,7 +6,7 @@ script:
 
 PROGRAM is what `tools/program` prints. The images are those of disks.py, made by cc1541 and cbmconvert (Debian's packages of
 these names), sound and with each fault; disks with a broken and with a looping directory, with names of every byte, with two
-files of one name, and with a separator at 18/0; RANDOM (10,000) images of random bytes, and RANDOM / 10 each of random bytes
+files of one name, with a separator at 18/0, and with directory art; RANDOM (10,000) images of random bytes, and RANDOM / 10 each of random bytes
 whose directory is 18/1 alone, and of random links. Each is taken out in a folder of its own, beside a file that has to stay.
 The script compares
 - the names of the folder's files, which begin with a digit or are index.csv, and that nothing else was made or changed;
@@ -94,6 +94,11 @@ def is_slot(slot):
     return tuple(slot[3:5]) in INDEX if slot[3] else slot[2] not in (0x84, 0xC4)
 
 
+def is_art(slot):
+    """Whether it is a line of directory art: a DEL without blocks, at 18/0 or nowhere."""
+    return slot[2] in (0x80, 0xC0) and slot[30:32] == b"\0\0" and (slot[3] == 0 or slot[3:5] == b"\x12\0")
+
+
 def file_name(number, name, ending):
     kept = "".join(chr(byte) if 32 <= byte <= 122 and byte not in b'"*/:<>?\\' else "_" for byte in name)
     return f"{number:02}-{kept}{ending}"
@@ -126,13 +131,17 @@ class Wanted:
         for number, ((place, slot), (blocks, last, ended)) in enumerate(zip(slots, chains), 1):
             shared = next((block for block in blocks if owned[block] > 1), None)
             data = self.data(image, blocks, last)
-            rows.append(self.row(number, slot, len(blocks), len(data), ended, shared))
-            self.files[rows[-1][1]] = data
+            art = is_art(slot)
+            rows.append(self.row(number, slot, 0, 0, "", None) if art else self.row(number, slot, len(blocks), len(data), ended, shared))
+            if art:
+                rows[-1][1] = ""
+            else:
+                self.files[rows[-1][1]] = data
             if slot[2] % 16 == 4 and 1 <= slot[23] <= 254:
                 self.files[file_name(number, slot[5:21].rstrip(b"\xa0"), ".csv")] = self.lines(data, slot[23])
             told = ended or (f"OWNEDTWICE {shared[0]}/{shared[1]}" if shared else "")
             told = told or ("" if slot[2] >= 128 or slot[2] == 0 else f"UNCLOSED {place[0]}/{place[1]}")
-            self.faults += [told] if told else []
+            self.faults += [told] if told and not art else []
             self.named.append((slot[5:21].rstrip(b"\xa0"), slot, data, fault or told))
         self.rows = rows
 
@@ -288,6 +297,7 @@ def named_disks(folder, sound):
     yield disks.with_every_byte(crowd, folder / "every.d64").read_bytes()
     yield bytes(Image(sound).put_entry(2, 5, b"LETTER".ljust(16, b"\xa0")).bytes)
     yield bytes(Image(sound).put_entry(2, 2, [0x80, 18, 0]).bytes)
+    yield bytes(Image(sound).put_entry(2, 2, [0x80, 18, 0]).put_entry(2, 30, [0, 0]).put_entry(1, 2, [0xC0, 0, 0]).put_entry(1, 30, [0, 0]).bytes)
     image = Image(sound)
     for side in image.disk.entries[0].sides:
         image.put(side, 0, bytes(256))

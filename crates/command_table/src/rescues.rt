@@ -114,7 +114,8 @@ const EXTRACT: Subcommand = Subcommand {
     about: "Take all files out of an image, as far as they can be read",
     more: "\
 It makes FOLDER, and in it a file for each entry of the directory, for example
-01-LETTER 02.prg. A relative file also has its records as lines (.csv). It takes
+01-LETTER 02.prg, but none of directory art: DEL entries of 0 blocks at 18/0 or
+without a block. A relative file also has its records as lines (.csv). It takes
 what can be read of a damaged file, and index.csv says what was found. It prints
 EXTRACTED if all files are whole, and then FEWER and a sector if a PRG, SEQ or
 USR that ends there has fewer blocks than its entry says. With --deleted it also

@@ -1,4 +1,5 @@
 -- What can be rescued of the files of a disk, written to a folder that is new.
+pub mod Art
 pub mod Deleted
 pub mod Folders
 pub mod Index

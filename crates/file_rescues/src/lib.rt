@@ -19,6 +19,7 @@ pub use finding::{Candidates, length_of_records};
 pub use forms::{ByteForm, ColumnForm, FileForm, RecordForm};
 pub use piece_printing::print_pieces;
 pub use record_printing::records_image;
+pub use rescue::art::is_art;
 pub use rescue::choices::Choice;
 pub use rescue::deleted::{deleted_of, is_deleted};
 pub use rescue::extracting::extract_image;

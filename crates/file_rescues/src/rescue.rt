@@ -1,4 +1,5 @@
 //! What can be rescued of the files of a disk, written to a folder that is new.
+pub(crate) mod art;
 pub(crate) mod choices;
 pub(crate) mod deleted;
 pub(crate) mod extracting;

@@ -13,6 +13,7 @@ use Rattle.line_text.specs.declared.petscii.characters.CharacterSet.TheVariants.
 use Rattle.line_text.specs.petscii.Quoted.{quoted}
 use Rattle.reached_disk.specs.Names.{name_of}
 use Rattle.reached_disk.specs.Types.{type_name}
+use Rattle.file_rescues.specs.rescue.Art.{is_art}
 use Rattle.file_rescues.specs.declared.rescue.rows.Row.{Row}
 
 -- the first line: what stands in each column
@@ -41,11 +42,15 @@ abbrev pub shared_text : Option Place → List ℕ
 shared_text None = []
 shared_text (Some p) = place_text p
 
--- whose the row is: the entry's number, the file's name, the entry's name as it is typed, and as a C64 shows it. Each byte
--- of a file's name is its own text
+-- the name of the file; none of directory art. Each byte of it is its own text
+unfoldable pub file_text : Row → List ℕ
+file_text r =
+    if is_art r.slot then [] else text_of (file_name_of r.number (name_of r.slot) (ending_of (type_byte r.slot)))
+
+-- whose the row is: the entry's number, the file's name, the entry's name as it is typed, and as a C64 shows it
 unfoldable pub naming_text : Row → List ℕ
 naming_text r =
-    decimal r.number ++ (codes ",\"" ++ (text_of (file_name_of r.number (name_of r.slot) (ending_of (type_byte r.slot)))
+    decimal r.number ++ (codes ",\"" ++ (file_text r
     ++ (codes "\",\"" ++ (text_of (name_of r.slot) ++ (codes "\"," ++ (quoted Graphics (name_of r.slot) ++ codes ","))))))
 
 -- what its entry says: its type, whether it is closed and locked, and its block count

@@ -21,6 +21,7 @@ use Rattle.line_text.specs.petscii.FileNames.{ending_of, file_name_of}
 use Rattle.line_text.specs.declared.petscii.file_names.Ending.{Ending}
 use Rattle.line_text.specs.declared.petscii.file_names.Ending.TheVariants.{Records}
 use Rattle.reached_disk.specs.Directories.{IsReadSoFar}
+use Rattle.file_rescues.specs.rescue.Art.{is_art}
 use Rattle.file_rescues.specs.rescue.Deleted.{deleted_slots}
 use Rattle.file_rescues.specs.rescue.Folders.{AddsFiles, AddsPart, NewFile, new_file}
 use Rattle.file_rescues.specs.rescue.Index.{heading, row_text}
@@ -82,20 +83,28 @@ abbrev pub line_files : ℕ → Rescued → List ℕ → Option ℕ → List New
 line_files n f bytes None = []
 line_files n f bytes (Some L) = entry_file n f Records (records_text (records_of L bytes)) ∷ []
 
--- all files that are made of entry n: one with its bytes, and one with its records
-unfoldable pub files_of : Image → ℕ → Rescued → List NewFile
-files_of img n f =
+-- the files of entry n: one with its bytes, and one with its records
+unfoldable pub own_files : Image → ℕ → Rescued → List NewFile
+own_files img n f =
     entry_file n f (ending_of (type_byte f.slot)) (bytes_in img f)
     ∷ line_files n f (bytes_in img f) (records_length f.slot)
+
+-- all files that are made of entry n: none if it is directory art
+unfoldable pub files_of : Image → ℕ → Rescued → List NewFile
+files_of img n f = if is_art f.slot then [] else own_files img n f
 
 -- the same of several entries, the first of them numbered n
 unfoldable pub files_from : Image → ℕ → List Rescued → List NewFile
 files_from img n [] = []
 files_from img n (f ∷ fs) = files_of img n f ++ files_from img (n + 1) fs
 
--- what the index says of entry n, if these sectors are somebody's
-abbrev pub row_of : Image → List Place → ℕ → Rescued → Row
-row_of img all n f = record {
+-- what the index says of entry n, which is directory art: it has nothing
+abbrev pub art_row : ℕ → Slot → Row
+art_row n s = record { number = n; slot = s; blocks = 0; bytes = 0; fault = None; shared = None }
+
+-- what it says of a file, if these sectors are somebody's
+abbrev pub file_row : Image → List Place → ℕ → Rescued → Row
+file_row img all n f = record {
   number = n;
   slot = f.slot;
   blocks = length f.blocks.items;
@@ -103,6 +112,10 @@ row_of img all n f = record {
   fault = f.fault;
   shared = first_shared all f.blocks.items;
 }
+
+-- what it says of entry n
+abbrev pub row_of : Image → List Place → ℕ → Rescued → Row
+row_of img all n f = if is_art f.slot then art_row n f.slot else file_row img all n f
 
 -- the lines of several entries, the first of them numbered n
 unfoldable pub rows_from : Image → List Place → ℕ → List Rescued → List ℕ

@@ -10,6 +10,7 @@ ghost use Rattle.file_rescues.specs.rescue.Rescues.{IsExtractFault, IsExtracted,
 ghost use Rattle.file_rescues.specs.rescue.Rescues.{files_from, files_of, first_fault, row_of, rows_from};
 ghost use Rattle.file_rescues.specs.rescue.Sharing.{owned};
 
+use crate::rescue::art::is_art;
 use crate::rescue::choices::Choice;
 use crate::rescue::deleted::rescue_chosen;
 use crate::rescue::folders::NewFolder;
@@ -33,6 +34,46 @@ const INDEX: &[u8] = b"index.csv";
 const HEADING: &str =
     "number,file,name,text,type,closed,locked,blocks,found,length,bytes,fault,shared\n";
 
+/// Makes the files of entry `number`, none of directory art, and returns its row of the index. `File` if the folder
+/// failed, or `NoMemory`.
+fn make_row<F: NewFolder>(
+    alloc: Global,
+    disk: &MemDisk,
+    folder: &mut F,
+    owners: &Owners,
+    number: u8,
+    file: &Rescued,
+) -> Result<Row, CommandFault>
+    requires rescued { IsRescued (disk_image disk.now) file.now }
+    ensures row { IfOk result (λ row. (all : List Place) → CountsAll owners.now all
+        → row ≡ row_of (disk_image disk.now) all number file.now) }
+    ensures ok { IfOk result (λ row. AddsFiles (F.files folder.old) (F.files folder.new)
+        (files_of (disk_image disk.now) number file.now)) }
+    ensures err { IfErr result (λ fault. IsMakeFault fault
+        × AddsPart (F.files folder.old) (F.files folder.new) (files_of (disk_image disk.now) number file.now)) }
+{
+    if is_art(&file.slot) {
+        return Ok(Row {
+            number,
+            slot: file.slot,
+            blocks: 0,
+            bytes: 0,
+            fault: None,
+            shared: None,
+        });
+    }
+    let bytes = make_files(alloc, disk, folder, number, file)?;
+    let blocks = file.blocks.as_slice();
+    Ok(Row {
+        number,
+        slot: file.slot,
+        blocks: blocks.len(),
+        bytes,
+        fault: file.fault,
+        shared: owners.first_shared(blocks),
+    })
+}
+
 /// Makes the files of entry `number`, and adds its row to the index. `File` if the folder failed, or `NoMemory`.
 fn extract_entry<F: NewFolder>(
     alloc: Global,
@@ -52,16 +93,7 @@ fn extract_entry<F: NewFolder>(
     ensures err { IfErr result (λ fault. IsMakeFault fault
         × AddsPart (F.files folder.old) (F.files folder.new) (files_of (disk_image disk.now) number file.now)) }
 {
-    let bytes = make_files(alloc, disk, folder, number, file)?;
-    let blocks = file.blocks.as_slice();
-    let row = Row {
-        number,
-        slot: file.slot,
-        blocks: blocks.len(),
-        bytes,
-        fault: file.fault,
-        shared: owners.first_shared(blocks),
-    };
+    let row = make_row(alloc, disk, folder, owners, number, file)?;
     put(index, row)?;
     Ok(row)
 }
@@ -127,7 +159,7 @@ fn extract_files<F: NewFolder>(
 /// relative one also a file with the lines of its records. After them it makes `index.csv`, with a line for each entry. A
 /// damaged directory or chain, a block that several have, and a file that isn't closed keep nothing back. Returns the
 /// first of these faults, the directory's before those of the entries in their order: `BadLink`, `Loop`, `OwnedTwice` or
-/// `Unclosed`.
+/// `Unclosed`. Directory art (`is_art`) has a line in the index, no file, and no fault.
 ///
 /// If they are chosen, the entries of other sectors of track 18 come after those of the directory, by the numbers of
 /// the sectors. These have a link as a directory sector has, slots that a drive may have written, and an entry.

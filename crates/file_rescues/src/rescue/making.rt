@@ -2,7 +2,7 @@
 ghost use Rattle.std.specs.Prelude.{◌≡◌, ◌≤◌, IfErr, IfOk, OnOk, [], ◌∷◌, length};
 ghost use Rattle.d64_image.specs.Memory.{disk_image};
 ghost use Rattle.file_rescues.specs.rescue.Folders.{AddsFiles, AddsPart, StaysInside, new_file};
-ghost use Rattle.file_rescues.specs.rescue.Rescues.{IsMakeFault, IsRescued, bytes_in, entry_file, files_of, line_files};
+ghost use Rattle.file_rescues.specs.rescue.Rescues.{IsMakeFault, IsRescued, bytes_in, entry_file, line_files, own_files};
 ghost use Rattle.file_rescues.specs.Found.{records_length};
 ghost use Rattle.file_rescues.specs.Records.{records_of, records_text};
 ghost use Rattle.command_faults.specs.declared.faults.CommandFault.TheVariants as faults;
@@ -113,9 +113,9 @@ pub(crate) fn make_files<F: NewFolder>(
 ) -> Result<usize, CommandFault>
     requires rescued { IsRescued (disk_image disk.now) file.now }
     ensures ok { IfOk result (λ count. (count ≡ length (bytes_in (disk_image disk.now) file.now))
-        × AddsFiles (F.files folder.old) (F.files folder.new) (files_of (disk_image disk.now) number file.now)) }
+        × AddsFiles (F.files folder.old) (F.files folder.new) (own_files (disk_image disk.now) number file.now)) }
     ensures err { IfErr result (λ fault. IsMakeFault fault
-        × AddsPart (F.files folder.old) (F.files folder.new) (files_of (disk_image disk.now) number file.now)) }
+        × AddsPart (F.files folder.old) (F.files folder.new) (own_files (disk_image disk.now) number file.now)) }
 {
     let bytes = bytes_of(alloc, disk, file)?;
     let ending = Ending::of_type(file.slot.bytes[2]);

@@ -1,10 +1,11 @@
 //! Lines of the index.
 ghost use Rattle.std.specs.Prelude.{◌≡◌, Some};
-ghost use Rattle.file_rescues.specs.rescue.Index.{closed_text, ended_text, entry_text, found_text, length_text, locked_text};
-ghost use Rattle.file_rescues.specs.rescue.Index.{naming_text, row_text, shared_text};
+ghost use Rattle.file_rescues.specs.rescue.Index.{closed_text, ended_text, entry_text, file_text, found_text, length_text};
+ghost use Rattle.file_rescues.specs.rescue.Index.{locked_text, naming_text, row_text, shared_text};
 ghost use Rattle.file_rescues.specs.rescue.Rescues as rescues;
 ghost use Rattle.file_rescues.specs.rescue.Rescues.{fault_of};
 
+use crate::rescue::art::is_art;
 use d64_image::Place;
 use disk_layout::{EntryView, Fault, Slot};
 use line_text::{CharacterSet, Ending, Quoted, Text, file_name};
@@ -18,7 +19,7 @@ pub struct Row {
     pub number: u8,
     /// Its entry.
     pub slot: Slot,
-    /// How many of its blocks can be reached.
+    /// How many of its blocks can be reached: 0 of directory art, of which nothing is said in the fields below either.
     pub blocks: usize,
     /// How many bytes these have.
     pub bytes: usize,
@@ -119,6 +120,24 @@ impl Display for Shared {
     }
 }
 
+/// The name of a row's file; none of directory art.
+#[derive(Clone, Copy)]
+struct NameOfFile(Row);
+
+impl Display for NameOfFile {
+    ghost output = { λ named. Some (file_text named.0) };
+
+    fn fmt<W: fmt::Write>(&self, f: &mut Formatter<W>) -> fmt::Result {
+        let row = &self.0;
+        if is_art(&row.slot) {
+            return Ok(());
+        }
+        let name = entry_name(&row.slot);
+        let file = file_name(row.number, name, Ending::of_type(row.slot.bytes[2]));
+        write!(f, "{}", Text(file.as_slice()))
+    }
+}
+
 /// Whose a row is.
 #[derive(Clone, Copy)]
 struct Naming(Row);
@@ -129,12 +148,11 @@ impl Display for Naming {
     fn fmt<W: fmt::Write>(&self, f: &mut Formatter<W>) -> fmt::Result {
         let row = &self.0;
         let name = entry_name(&row.slot);
-        let file = file_name(row.number, name, Ending::of_type(row.slot.bytes[2]));
         write!(
             f,
             "{},\"{}\",\"{}\",{},",
             row.number,
-            Text(file.as_slice()),
+            NameOfFile(*row),
             Text(name),
             Quoted {
                 set: CharacterSet::Graphics,

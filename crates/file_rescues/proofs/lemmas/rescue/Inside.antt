@@ -20,7 +20,8 @@ use Rattle.reached_disk.proofs.Lengths.{name-short}
 use Rattle.file_rescues.specs.rescue.Folders.{NewFile, StaysInside}
 use Rattle.reached_disk.specs.Names.{name_of}
 use Rattle.file_rescues.specs.Found.{records_length}
-use Rattle.file_rescues.specs.rescue.Rescues.{all_files, bytes_in, entry_file, files_from, files_of, index_of_files, line_files}
+use Rattle.file_rescues.specs.rescue.Art.{is_art}
+use Rattle.file_rescues.specs.rescue.Rescues.{all_files, bytes_in, entry_file, files_from, files_of, index_of_files, line_files, own_files}
 use Rattle.file_rescues.specs.declared.rescue.rescuing.Rescued.{Rescued}
 
 abbrev name : NewFile → List ℕ
@@ -95,14 +96,25 @@ lines-inside : (n : ℕ) (f : Rescued) (bytes : List ℕ) (o : Option ℕ) → n
 lines-inside n f bytes None low = tt
 lines-inside n f bytes (Some L) low = (name-inside n f.slot Records low, tt)
 
+-- none, or these
+unless-inside : (none : Bool) (fs : List NewFile) → AllByRecursion IsInside fs
+    → AllByRecursion IsInside (if none then [] else fs)
+unless-inside true fs all = tt
+unless-inside false fs all = all
+
+own-inside : (img : Image) (n : ℕ) (f : Rescued) → n < 256 → AllByRecursion IsInside (own_files img n f)
+unfolding own_files
+own-inside img n f low = (
+  name-inside n f.slot (ending_of (type_byte f.slot)) low,
+  lines-inside n f (bytes_in img f) (records_length f.slot) low,
+)
+
 from-inside : (img : Image) (n : ℕ) (files : List Rescued) → n + length files ≤ 256
     → AllByRecursion IsInside (files_from img n files)
 unfolding files_from files_of
 from-inside img n [] few = tt
-from-inside img n (f ∷ fs) few = inside-append (files_of img n f) (files_from img (n + 1) fs) (
-  name-inside n f.slot (ending_of (type_byte f.slot)) (omega (arith, few)),
-  lines-inside n f (bytes_in img f) (records_length f.slot) (omega (arith, few)),
-)
+from-inside img n (f ∷ fs) few = inside-append (files_of img n f) (files_from img (n + 1) fs)
+    (unless-inside (is_art f.slot) (own_files img n f) (own-inside img n f (omega (arith, few))))
     (from-inside img (n + 1) fs (omega (arith, few)))
 
 pub all-inside : (img : Image) (directory : List Place) (files : List Rescued) → length files ≤ 144
@@ -172,6 +184,25 @@ own-from n f bytes body (Some L) x has = elim (Contains-cases x _ (map name (lin
   ]
 ]
 
+-- the same of all files that are made of an entry
+files-once : (img : Image) (n : ℕ) (f : Rescued) → EachOnce (map name (files_of img n f))
+unfolding files_of own_files
+files-once img n f = unless (is_art f.slot)
+  where
+    unless : (none : Bool) → EachOnce (map name (if none then [] else own_files img n f))
+    unless true = tt
+    unless false = own-once n f (bytes_in img f) (bytes_in img f) (records_length f.slot)
+
+made-from : (img : Image) (n : ℕ) (f : Rescued) (x : List ℕ) → Contains (map name (files_of img n f)) x
+    → (a : List ℕ) × (e : Ending) × (x ≡ file_name_of n a e)
+unfolding files_of own_files
+made-from img n f x = unless (is_art f.slot)
+  where
+    unless : (none : Bool) → Contains (map name (if none then [] else own_files img n f)) x
+        → (a : List ℕ) × (e : Ending) × (x ≡ file_name_of n a e)
+    unless true has = absurd (Contains-nil x has)
+    unless false has = own-from n f (bytes_in img f) (bytes_in img f) (records_length f.slot) x has
+
 either : (xs ys : List NewFile) (y : List ℕ) → Contains (map name (xs ++ ys)) y
     → Contains (map name xs) y ⊎ Contains (map name ys) y
 either xs ys y has =
@@ -179,11 +210,11 @@ either xs ys y has =
 
 from-names : (img : Image) (n : ℕ) (files : List Rescued) → n + length files ≤ 256 → (x : List ℕ)
     → Contains (map name (files_from img n files)) x → IsFrom n x
-unfolding files_from files_of
+unfolding files_from
 from-names img n [] few x has = absurd (Contains-nil x has)
 from-names img n (f ∷ fs) few x has =
     elim (either (files_of img n f) (files_from img (n + 1) fs) x has) [
-      | inl here ↦ let own = own-from n f (bytes_in img f) (bytes_in img f) (records_length f.slot) x here in
+      | inl here ↦ let own = made-from img n f x here in
           (n, own.0, own.1, omega arith, omega (arith, few), own.2)
       | inr there ↦ later n (from-names img (n + 1) fs (omega (arith, few)) x there)
     ]
@@ -193,15 +224,15 @@ from-names img n (f ∷ fs) few x has =
 
 from-once : (img : Image) (n : ℕ) (files : List Rescued) → n + length files ≤ 256
     → EachOnce (map name (files_from img n files))
-unfolding files_from files_of
+unfolding files_from
 from-once img n [] few = tt
 from-once img n (f ∷ fs) few =
     subst EachOnce (sym (map-append name (files_of img n f) (files_from img (n + 1) fs)))
     (EachOnce-join (map name (files_of img n f)) (map name (files_from img (n + 1) fs))
-    (own-once n f (bytes_in img f) (bytes_in img f) (records_length f.slot))
+    (files-once img n f)
     (from-once img (n + 1) fs (omega (arith, few)))
     (λ x here there. apart x
-    (own-from n f (bytes_in img f) (bytes_in img f) (records_length f.slot) x here)
+    (made-from img n f x here)
     (from-names img (n + 1) fs (omega (arith, few)) x there)))
   where
     low : n < 256

@@ -9,12 +9,13 @@ use Rattle.disk_layout.specs.declared.faults.Fault.{Fault}
 use Rattle.line_text.specs.petscii.FileNames.{ending_of}
 use Rattle.line_text.specs.declared.petscii.file_names.Ending.{Ending}
 use Rattle.file_rescues.proofs.lemmas.rescue.Parts.{adds-both, adds-none, part-before, part-then}
-use Rattle.std.specs.Prelude.{codes}
+use Rattle.std.specs.Prelude.{codes, false, true}
+use Rattle.file_rescues.specs.rescue.Art.{is_art}
 use Rattle.file_rescues.specs.rescue.Folders.{AddsFiles, AddsPart, NewFile, new_file}
 use Rattle.file_rescues.specs.rescue.Index.{heading, row_text}
 use Rattle.file_rescues.specs.rescue.Sharing.{owned}
 use Rattle.file_rescues.specs.Found.{records_length}
-use Rattle.file_rescues.specs.rescue.Rescues.{all_files, bytes_in, entry_file, fault_of, files_from, files_of, first_fault, index_of_files, line_files, row_of, rows_from}
+use Rattle.file_rescues.specs.rescue.Rescues.{all_files, bytes_in, entry_file, fault_of, files_from, files_of, first_fault, index_of_files, line_files, own_files, row_of, rows_from}
 use Rattle.file_rescues.specs.declared.rescue.rescuing.Rescued.{Rescued}
 use Rattle.std.specs.declared.io.ErrorKind.{ErrorKind}
 use Rattle.std.specs.declared.io.ErrorKind.TheVariants as kinds
@@ -36,8 +37,8 @@ data-file img n f e bytes kind same =
 
 pub data-part : (a b : Option (List NewFile)) (img : Image) (n : ℕ) (f : Rescued) (e : Ending) (bytes : List ℕ)
     → e ≡ ending_of (type_byte f.slot) → bytes ≡ bytes_in img f → AddsPart a b (entry_file n f e bytes ∷ [])
-    → AddsPart a b (files_of img n f)
-unfolding files_of
+    → AddsPart a b (own_files img n f)
+unfolding own_files
 data-part a b img n f e bytes kind same part =
     part-before a b (entry_file n f (ending_of (type_byte f.slot)) (bytes_in img f) ∷ [])
     (line_files n f (bytes_in img f) (records_length f.slot))
@@ -46,8 +47,8 @@ data-part a b img n f e bytes kind same part =
 pub lines-part : (a b c : Option (List NewFile)) (img : Image) (n : ℕ) (f : Rescued) (e : Ending) (bytes more : List ℕ)
     → e ≡ ending_of (type_byte f.slot) → bytes ≡ bytes_in img f → more ≡ bytes_in img f
     → AddsFiles a b (entry_file n f e bytes ∷ []) → AddsPart b c (line_files n f more (records_length f.slot))
-    → AddsPart a c (files_of img n f)
-unfolding files_of
+    → AddsPart a c (own_files img n f)
+unfolding own_files
 lines-part a b c img n f e bytes more kind same again made part =
     part-then a b c (entry_file n f (ending_of (type_byte f.slot)) (bytes_in img f) ∷ [])
     (line_files n f (bytes_in img f) (records_length f.slot))
@@ -57,13 +58,25 @@ lines-part a b c img n f e bytes more kind same again made part =
 pub both-made : (a b c : Option (List NewFile)) (img : Image) (n : ℕ) (f : Rescued) (e : Ending) (bytes more : List ℕ)
     → e ≡ ending_of (type_byte f.slot) → bytes ≡ bytes_in img f → more ≡ bytes_in img f
     → AddsFiles a b (entry_file n f e bytes ∷ []) → AddsFiles b c (line_files n f more (records_length f.slot))
-    → AddsFiles a c (files_of img n f)
-unfolding files_of
+    → AddsFiles a c (own_files img n f)
+unfolding own_files
 both-made a b c img n f e bytes more kind same again made last =
     adds-both a b c (entry_file n f (ending_of (type_byte f.slot)) (bytes_in img f) ∷ [])
     (line_files n f (bytes_in img f) (records_length f.slot))
     (subst (λ (x : NewFile). AddsFiles a b (x ∷ [])) (data-file img n f e bytes kind same) made)
     (subst (λ (bs : List ℕ). AddsFiles b c (line_files n f bs (records_length f.slot))) again last)
+
+-- directory art has no file
+pub art-made : (a : Option (List NewFile)) (img : Image) (n : ℕ) (f : Rescued) → is_art f.slot ≡ true
+    → AddsFiles a a (files_of img n f)
+unfolding files_of
+art-made a img n f art = rw art (adds-none a)
+
+-- what isn't has its own
+pub own-made : (P : List NewFile → Type 0) (img : Image) (n : ℕ) (f : Rescued) → is_art f.slot ≡ false
+    → P (own_files img n f) → P (files_of img n f)
+unfolding files_of
+own-made P img n f none holds = rw none holds
 
 -- the files of entries, and of more behind them
 pub from-append : (img : Image) (n : ℕ) (xs ys : List Rescued)

@@ -7,4 +7,4 @@ use Rattle.file_rescues.proofs.rescue.extracting.extract_entry.Goals as goal
 pub returns-in_err-put-clause-err : goal.returns-in_err-put-clause-err
 returns-in_err-put-clause-err g c =
     let p = err_from_is_err_and c.from_residual-in_err-put.result c.from_residual-in_err-put.ensures.1 in
-    rw (p.1, p.2) (inr c.in_err-put.ensures.err, added-all _ _ _ c.in_ok-bytes.ensures.ok.1)
+    rw (p.1, p.2) (inr c.in_err-put.ensures.err, added-all _ _ _ c.in_ok-row.ensures.ok)

@@ -7,5 +7,4 @@ use Rattle.file_rescues.proofs.rescue.rows.NamingDisplay.fmt.Goals as goal
 pub returns-clause-writes : goal.returns-clause-writes
 unfolding naming_text
 returns-clause-writes g c = λ plain done. has_written_of_eq _ _ _ _ _
-    (rw (c.as_slice.ensures.value, c.file_name-file.ensures, c.entry_name-name.ensures.name, c.of_type.ensures) refl)
-    (c.write.ensures.writes plain done)
+    (rw (c.entry_name-name.ensures.name) refl) (c.write.ensures.writes plain done)
