@@ -5,8 +5,13 @@
 
 PROGRAM is what `tools/program` prints. A disk gets files of 0 to 20,000 bytes and of each type until one is refused as `DISK FULL`.
 Some of them are renamed or deleted on the way. After each word `check` prints OK, and the number of free blocks is the one that the
-files leave. At the end `cbmconvert` takes the files out, and `bytes` prints each: both have the bytes that were put. The first
-difference ends the script with status 1."""
+files leave. At the end `cbmconvert` takes the files out, and `bytes` prints each: both have the bytes that were put.
+
+On every second disk the map calls up to 60 blocks taken that no file owns, as direct access leaves them. After each word these have
+the bytes that they had, the map calls them taken, and `check` prints `MAPWRONG` at the first of them. At the end `repair` prints
+how many they are.
+
+The first difference ends the script with status 1."""
 
 import random
 import subprocess
@@ -24,6 +29,20 @@ def want(holds, what):
         sys.exit(1)
 
 
+def sectors_on(track):
+    return 21 if track < 18 else 19 if track < 25 else 18 if track < 31 else 17
+
+
+def index_of(track, sector):
+    """How many sectors of an image are before this one."""
+    return sum(map(sectors_on, range(1, track))) + sector
+
+
+def bit_of(track, sector):
+    """Where the map has the bit of a sector: the byte of the image, and the bit in it."""
+    return 256 * index_of(18, 0) + 4 * track + 1 + sector // 8, 1 << sector % 8
+
+
 def blocks_of(data):
     """How many blocks a file has: 254 bytes lie in each, and an empty file has one byte."""
     return max(1, -(-len(data) // 254))
@@ -34,7 +53,7 @@ class Disk:
 
     def __init__(self, program, folder, draw):
         self.program, self.folder, self.draw = program, folder, draw
-        self.image, self.files, self.words = folder / "disk.d64", {}, 0
+        self.image, self.files, self.kept, self.words = folder / "disk.d64", {}, {}, 0
         want(self.run("new", "--name", "PUT", "--id", "26") == (0, b"FORMATTED\n", b""), "new")
 
     def run(self, word, *rest):
@@ -42,10 +61,32 @@ class Disk:
         done = subprocess.run([self.program, word, self.image, *rest], capture_output=True, timeout=60)
         return done.returncode, done.stdout, done.stderr
 
+    def keep(self, count):
+        """Fills so many blocks of no file, and takes them in the map."""
+        places = [(track, sector) for track in range(1, 36) if track != 18 for sector in range(sectors_on(track))]
+        image = bytearray(self.image.read_bytes())
+        for place in self.draw.sample(places, count):
+            self.kept[place] = self.draw.randbytes(256)
+            at = 256 * index_of(*place)
+            image[at : at + 256] = self.kept[place]
+            at, bit = bit_of(*place)
+            image[at] &= ~bit
+            image[256 * index_of(18, 0) + 4 * place[0]] -= 1
+        self.image.write_bytes(image)
+
+    def free(self):
+        return 664 - len(self.kept) - sum(blocks_of(data) for _, data in self.files.values())
+
     def see(self, what):
-        """Checks the disk, and how many blocks are free."""
-        want(self.run("check") == (0, b"OK\n", b""), f"{what}: check isn't OK")
-        free = 664 - sum(blocks_of(data) for _, data in self.files.values())
+        """Checks the disk, how many blocks are free, and the blocks of no file."""
+        verdict = (1, b"MAPWRONG %d/%d\n" % min(self.kept), b"") if self.kept else (0, b"OK\n", b"")
+        want(self.run("check") == verdict, f"{what}: check doesn't print {verdict[1]}")
+        image = self.image.read_bytes()
+        for place, data in self.kept.items():
+            at, bit = bit_of(*place)
+            want(image[256 * index_of(*place) :][:256] == data, f"{what}: block {place} has other bytes")
+            want(not image[at] & bit, f"{what}: block {place} is free")
+        free = self.free()
         want(self.run("list")[1].endswith(f"{free} BLOCKS FREE\n".encode()), f"{what}: {free} blocks aren't free")
 
     def put(self, name):
@@ -55,7 +96,7 @@ class Disk:
         source = self.folder / "source"
         source.write_bytes(data)
         got = self.run("put", name, source, "--type", kind)
-        free = 664 - sum(blocks_of(it) for _, it in self.files.values())
+        free = self.free()
         if blocks_of(data) > free:
             want(got == (1, b"", b"DISK FULL\n"), f"{name} of {len(data)} bytes on {free} blocks: {got}")
             return False
@@ -85,20 +126,27 @@ class Disk:
         for name, (kind, data) in self.files.items():
             want(self.run("bytes", name) == (0, data, b""), f"bytes prints another {name}")
             want(taken.get(f"{name}.{kind}".lower()) == data, f"cbmconvert reads another {name}.{kind}: {sorted(taken)[:4]}")
+        kept = (1, b"KEPT %d\n" % len(self.kept), b"") if self.kept else (0, b"OK\n", b"")
+        want(self.run("repair") == kept, f"repair doesn't print {kept[1]}")
 
 
 def main(program, disks=20, seed=1):
-    draw, files, words = random.Random(int(seed)), 0, 0
-    for _ in range(int(disks)):
+    draw, files, words, kept = random.Random(int(seed)), 0, 0, 0
+    for turn in range(int(disks)):
         with tempfile.TemporaryDirectory() as folder:
             disk, number = Disk(str(Path(program).resolve()), Path(folder), draw), 1
+            if turn % 2:
+                disk.keep(draw.randint(1, 60))
             while disk.put(f"FILE {number}"):
                 number += 1
                 if draw.random() < 0.2:
                     disk.change()
             disk.read_back()
-            files, words = files + number - 1, words + disk.words
-    print(f"put_files: {disks} disks filled with {files} files by {words} words, read back by cbmconvert: no difference")
+            files, words, kept = files + number - 1, words + disk.words, kept + len(disk.kept)
+    print(
+        f"put_files: {disks} disks filled with {files} files by {words} words, read back by cbmconvert;"
+        f" {kept} blocks of no file stayed: no difference"
+    )
 
 
 if __name__ == "__main__":

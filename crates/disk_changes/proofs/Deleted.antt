@@ -7,17 +7,17 @@ use Rattle.d64_image.specs.declared.mem_disk.MemDisk.{MemDisk}
 use Rattle.damaged_files.specs.declared.sides.planning.Loss.TheVariants.{Refused}
 use Rattle.disk_changes.proofs.Judged.{never-fails}
 use Rattle.disk_changes.specs.Deletes.{IsDeleteRefusal, IsDeleted}
-use Rattle.disk_changes.specs.Judged.{IsCleanDisk}
+use Rattle.disk_changes.specs.Judged.{IsUsableDisk}
 use Rattle.disk_changes.specs.declared.changes.Changed.{Changed}
 use Rattle.command_faults.specs.declared.faults.CommandFault.TheVariants as faults
-use Rattle.disk_layout.specs.Clean.{IsCleanLayout}
+use Rattle.disk_layout.specs.Layout.{IsLayout}
 use Rattle.file_changes.specs.Deletes.{Deletes, HasFreed}
 use Rattle.command_faults.specs.declared.faults.CommandFault.{CommandFault}
 use Rattle.disk_changes.specs.ShopFiles.{HasShopFile}
 
-module _ (image name : List ℕ) (a b : MemDisk) (whole : IsCleanDisk image Refused) (is : disk_image a ≡ sectors_in image) where
-  clean : IsCleanLayout (disk_image a) whole.layout
-  clean = subst (λ (i : Image). IsCleanLayout i whole.layout) (sym is) whole.clean
+module _ (image name : List ℕ) (a b : MemDisk) (whole : IsUsableDisk image Refused) (is : disk_image a ≡ sectors_in image) where
+  sound : IsLayout (disk_image a) whole.layout
+  sound = subst (λ (i : Image). IsLayout i whole.layout) (sym is) whole.usable.clean.layout
 
   pub delete-done : (x : Unit {0}) → Deletes memory a b name (Ok x) → ¬ (HasShopFile image name) → (made : Changed)
       → made.disk ≡ b → made.text.items ≡ codes "DELETED\n" → IsDeleted image name made
@@ -25,13 +25,13 @@ module _ (image name : List ℕ) (a b : MemDisk) (whole : IsCleanDisk image Refu
     before = whole;
     other = other;
     after = subst (λ (d : MemDisk). HasFreed (sectors_in image) whole.layout name (disk_image d)) (sym disk)
-        (subst (λ (i : Image). HasFreed i whole.layout name (disk_image b)) is (c.layout whole.layout clean.layout).ok);
+        (subst (λ (i : Image). HasFreed i whole.layout name (disk_image b)) is (c.layout whole.layout sound).ok);
     text = text;
   }
 
   pub delete-refused : (fault : CommandFault) → Deletes memory a b name (Err fault)
       → IsDeleteRefusal image name fault
-  delete-refused faults.NoFile c = record { disk = whole; but = inr ((c.layout whole.layout clean.layout).not_found refl) }
-  delete-refused faults.Locked c = record { disk = whole; but = (c.layout whole.layout clean.layout).locked refl }
+  delete-refused faults.NoFile c = record { disk = whole; but = inr ((c.layout whole.layout sound).not_found refl) }
+  delete-refused faults.Locked c = record { disk = whole; but = (c.layout whole.layout sound).locked refl }
   delete-refused faults.Device c = absurd (never-fails a b c.failures)
   delete-refused _ c = absurd (⊎_elim (λ e. cc) (⊎_elim (λ e. cc) (λ e. cc)) c.told)

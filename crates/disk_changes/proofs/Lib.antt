@@ -10,3 +10,4 @@ pub mod SidesBuilt
 pub mod Slots
 pub mod StoredRecords
 pub mod Undeleted
+pub mod Usable

@@ -6,20 +6,20 @@ use Rattle.d64_image.specs.Memory.{disk_image, memory, sectors_in}
 use Rattle.d64_image.specs.declared.mem_disk.MemDisk.{MemDisk}
 use Rattle.damaged_files.specs.declared.sides.planning.Loss.TheVariants.{Refused}
 use Rattle.disk_changes.proofs.Judged.{never-fails}
-use Rattle.disk_changes.specs.Judged.{IsCleanDisk}
+use Rattle.disk_changes.specs.Judged.{IsUsableDisk}
 use Rattle.disk_changes.specs.Puts.{IsPut, IsPutRefusal}
 use Rattle.disk_changes.specs.declared.changes.Changed.{Changed}
 use Rattle.command_faults.specs.declared.faults.CommandFault.TheVariants as faults
-use Rattle.disk_layout.specs.Clean.{IsCleanLayout}
+use Rattle.disk_layout.specs.Layout.{IsLayout}
 use Rattle.file_changes.specs.Puts.{HasPut, Puts, sectors_for, stored}
 use Rattle.command_faults.specs.declared.faults.CommandFault.{CommandFault}
 use Rattle.file_changes.specs.declared.file_type.FileType.{FileType}
 use Rattle.rel_records.specs.creation.Made.{HasNoRoomFor}
 
-module _ (image name : List ℕ) (kind : FileType) (content : List ℕ) (a b : MemDisk) (whole : IsCleanDisk image Refused)
+module _ (image name : List ℕ) (kind : FileType) (content : List ℕ) (a b : MemDisk) (whole : IsUsableDisk image Refused)
     (is : disk_image a ≡ sectors_in image) where
-  clean : IsCleanLayout (disk_image a) whole.layout
-  clean = subst (λ (i : Image). IsCleanLayout i whole.layout) (sym is) whole.clean
+  sound : IsLayout (disk_image a) whole.layout
+  sound = subst (λ (i : Image). IsLayout i whole.layout) (sym is) whole.usable.clean.layout
 
   pub put-done : (x : Unit {0}) → Puts memory a b name kind content (Ok x) → (made : Changed) → made.disk ≡ b
       → made.text.items ≡ codes "PUT\n" → IsPut image name kind content made
@@ -27,15 +27,15 @@ module _ (image name : List ℕ) (kind : FileType) (content : List ℕ) (a b : M
     before = whole;
     after = subst (λ (d : MemDisk). HasPut (sectors_in image) whole.layout name kind (stored content) (disk_image d)) (sym disk)
         (subst (λ (i : Image). HasPut i whole.layout name kind (stored content) (disk_image b)) is
-        (c.layout whole.layout clean.layout).ok);
+        (c.layout whole.layout sound).ok);
     text = text;
   }
 
   pub put-refused : (fault : CommandFault) → Puts memory a b name kind content (Err fault)
       → IsPutRefusal image name kind content fault
-  put-refused faults.FileExists c = record { disk = whole; but = (c.layout whole.layout clean.layout).refuses.exists refl }
+  put-refused faults.FileExists c = record { disk = whole; but = (c.layout whole.layout sound).refuses.exists refl }
   put-refused faults.DiskFull c =
-      let full = (c.layout whole.layout clean.layout).refuses.full refl in
+      let full = (c.layout whole.layout sound).refuses.full refl in
       record {
         disk = whole;
         but = (subst (λ (i : Image). HasNoRoomFor i whole.layout (sectors_for (length (stored content)))) is full.0, full.1);

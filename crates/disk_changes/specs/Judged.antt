@@ -3,7 +3,7 @@ use Rattle.std.specs.Prelude.{◌≡◌, ◌≢◌, ◌<◌, ◌⊎◌, List, No
 use Rattle.command_faults.specs.Faults.{IsCleanFault, IsSoundFault}
 use Rattle.command_faults.specs.declared.faults.CommandFault.{CommandFault}
 use Rattle.command_faults.specs.declared.faults.CommandFault.TheVariants as faults
-use Rattle.d64_image.specs.Images.{sector}
+use Rattle.d64_image.specs.Images.{Image, sector}
 use Rattle.d64_image.specs.Memory.{sectors_in}
 use Rattle.d64_image.specs.declared.place.Place.{Place}
 use Rattle.damaged_files.specs.cut.Told.{HasNoCut, IsCutShort}
@@ -15,6 +15,7 @@ use Rattle.disk_layout.specs.Directory.{map_place}
 use Rattle.disk_layout.specs.Layout.{IsLayout, Layout}
 use Rattle.disk_layout.specs.Rest.{slot_name}
 use Rattle.file_changes.specs.Entries.{IsFreeName, entries_of}
+use Rattle.layout_check.specs.Keeping as keeping
 
 -- The image is that of a sound disk, and no file of it is cut short.
 pub record IsSoundWhole (image : List ℕ) : Type 0 where
@@ -32,6 +33,22 @@ pub record IsCleanDisk (image : List ℕ) (cut : Loss) : Type 0 where
   pub taken : IsTaken image cut
   pub layout : Layout
   pub clean : IsCleanLayout (sectors_in image) layout
+
+-- The image is clean, but its map calls these sectors taken, which nobody owns.
+pub record IsCleanWith (strays : List Place) (img : Image) (l : Layout) : Type 0 where
+  pub are : keeping.AreStray img l strays
+  pub clean : keeping.IsCleanBut strays img l
+
+-- it is clean, or would be without such sectors
+abbrev pub HasStraysAlone : Image → Type 0
+HasStraysAlone img = (l : Layout) × (strays : List Place) × IsCleanWith strays img l
+
+-- no file of the image is cut short, or one may be, and its disk is so
+pub record IsUsableDisk (image : List ℕ) (cut : Loss) : Type 0 where
+  pub taken : IsTaken image cut
+  pub layout : Layout
+  pub strays : List Place
+  pub usable : IsCleanWith strays (sectors_in image) layout
 
 -- the image is that of a disk of GEOS
 abbrev pub IsOfGeos : List ℕ → Type 0
@@ -63,6 +80,12 @@ IsUnclean image (faults.Short p) = IsPlainCut image p
 IsUnclean image faults.Geos = IsGeosCut image
 IsUnclean image fault = IsCleanFault image fault
 
+-- why the image isn't that of a disk that can be used: more than such sectors is wrong
+abbrev pub IsUnusable : List ℕ → CommandFault → Type 0
+IsUnusable image (faults.Layout fault) =
+    IsUnclean image (faults.Layout fault) × ¬ (HasStraysAlone (sectors_in image))
+IsUnusable image why = IsUnclean image why
+
 -- it is so, and this holds of its layout
 pub record IsSoundBut (image : List ℕ) (Q : Layout → Type 0) : Type 0 where
   pub whole : IsSoundWhole image
@@ -70,6 +93,10 @@ pub record IsSoundBut (image : List ℕ) (Q : Layout → Type 0) : Type 0 where
 
 pub record IsCleanBut (image : List ℕ) (cut : Loss) (Q : Layout → Type 0) : Type 0 where
   pub disk : IsCleanDisk image cut
+  pub but : Q disk.layout
+
+pub record IsUsableBut (image : List ℕ) (cut : Loss) (Q : Layout → Type 0) : Type 0 where
+  pub disk : IsUsableDisk image cut
   pub but : Q disk.layout
 
 -- no entry has the name: it is too long for one, or none is so named

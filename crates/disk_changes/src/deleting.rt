@@ -3,7 +3,7 @@ ghost use Rattle.std.specs.Prelude.{IfErr, IfOk};
 ghost use Rattle.disk_changes.specs.Deletes.{IsDeleted, IsDeleteRefusal};
 
 use crate::changes::Changed;
-use crate::judging::clean_disk;
+use crate::judging::usable_disk;
 use crate::outcomes::changed;
 use crate::shop_files::has_shop_file;
 use command_faults::CommandFault;
@@ -16,7 +16,7 @@ pub(crate) fn deleted(alloc: Global, image: &[u8], name: &[u8]) -> Result<Change
     ensures ok { IfOk result (IsDeleted image.now name.now) }
     ensures err { IfErr result (IsDeleteRefusal image.now name.now) }
 {
-    let mut disk = clean_disk(alloc, image, Loss::Refused)?;
+    let mut disk = usable_disk(alloc, image, Loss::Refused)?;
     if has_shop_file(alloc, image, name)? {
         return Err(CommandFault::ShopFile);
     }

@@ -1,7 +1,18 @@
 //! An image taken into memory and judged.
-ghost use Rattle.std.specs.Prelude.{◌≡◌, IfErr, IfOk};
+ghost use Rattle.std.specs.Prelude.{◌≡◌, ◌↔◌, IfErr, IfOk, IsTrue};
 ghost use Rattle.d64_image.specs.Memory.{disk_image, sectors_in};
-ghost use Rattle.disk_changes.specs.Judged.{IsCleanDisk, IsSoundWhole, IsTaken, IsUnclean, IsUnsoundOrShort, IsUntaken};
+ghost use Rattle.command_faults.specs.Faults.{IsLoadFault};
+ghost use Rattle.disk_changes.specs.Judged.{
+  HasStraysAlone,
+  IsCleanDisk,
+  IsSoundWhole,
+  IsTaken,
+  IsUnclean,
+  IsUnsoundOrShort,
+  IsUntaken,
+  IsUnusable,
+  IsUsableDisk,
+};
 ghost use Rattle.d64_image.specs.Images.{sector};
 ghost use Rattle.disk_changes.specs.mended.Kinds.{IsCutRefusal};
 ghost use Rattle.disk_layout.specs.Directory.{map_place as map_at};
@@ -11,7 +22,7 @@ use command_faults::{CommandFault, load};
 use d64_image::{MemDisk, Place};
 use damaged_files::{Loss, find_cut};
 use disk_layout::map_place;
-use layout_check::check;
+use layout_check::{check, repair_keeping};
 use std::alloc::Global;
 
 /// Why a disk of which a file is cut short here isn't changed: `Geos` if it is one of GEOS, otherwise `Short`.
@@ -62,4 +73,35 @@ pub(crate) fn clean_disk(alloc: Global, image: &[u8], cut: Loss) -> Result<MemDi
     let mut disk = taken_disk(alloc, image, cut)?;
     check(&mut disk)?;
     Ok(disk)
+}
+
+/// Whether nothing is wrong with the disk of an image but that its map calls sectors taken that nobody owns: a repair that
+/// leaves them so changes nothing.
+fn has_strays_alone(alloc: Global, image: &[u8], disk: &MemDisk) -> Result<bool, CommandFault>
+    requires { disk_image disk.now ≡ sectors_in image.now }
+    ensures ok { IfOk result (λ alone. IsTrue alone ↔ HasStraysAlone (sectors_in image.now)) }
+    ensures err { IfErr result (IsLoadFault image.now) }
+{
+    let mut kept = load(alloc, image)?;
+    match repair_keeping(&mut kept) {
+        Ok(_) => Ok(kept.bytes() == disk.bytes()),
+        // the disk isn't sound
+        Err(_) => Ok(false),
+    }
+}
+
+/// The disk of an image in memory, unless a file of it is cut short and that isn't accepted, or more is wrong with it than
+/// that its map calls sectors taken that nobody owns.
+pub(crate) fn usable_disk(alloc: Global, image: &[u8], cut: Loss) -> Result<MemDisk, CommandFault>
+    ensures ok { IfOk result (λ disk. IsUsableDisk image.now cut × (disk_image disk ≡ sectors_in image.now)) }
+    ensures err { IfErr result (IsUnusable image.now) }
+{
+    let mut disk = taken_disk(alloc, image, cut)?;
+    let Err(fault) = check(&mut disk) else {
+        return Ok(disk);
+    };
+    if has_strays_alone(alloc, image, &disk)? {
+        return Ok(disk);
+    }
+    Err(CommandFault::Layout(fault))
 }

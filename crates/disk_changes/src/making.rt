@@ -4,7 +4,7 @@ ghost use Rattle.disk_changes.specs.Makes.{IsMade, IsMakeRefusal};
 ghost use Rattle.rel_records.specs.File.{IsLength};
 
 use crate::changes::Changed;
-use crate::judging::clean_disk;
+use crate::judging::usable_disk;
 use crate::outcomes::changed;
 use command_faults::CommandFault;
 use damaged_files::Loss;
@@ -24,7 +24,7 @@ pub(crate) fn made(
     ensures ok { IfOk result (IsMade image.now name.now size cut) }
     ensures err { IfErr result (IsMakeRefusal image.now name.now cut) }
 {
-    let mut disk = clean_disk(alloc, image, cut)?;
+    let mut disk = usable_disk(alloc, image, cut)?;
     create(&mut disk, name, size)?;
     changed(alloc, disk, b"MADE\n")
 }

@@ -3,7 +3,7 @@ ghost use Rattle.std.specs.Prelude.{◌≤◌, IfErr, IfOk, length};
 ghost use Rattle.disk_changes.specs.Puts.{IsPut, IsPutRefusal};
 
 use crate::changes::Changed;
-use crate::judging::clean_disk;
+use crate::judging::usable_disk;
 use crate::outcomes::changed;
 use command_faults::CommandFault;
 use damaged_files::Loss;
@@ -22,7 +22,7 @@ pub(crate) fn put(
     ensures ok { IfOk result (IsPut image.now name.now kind content.now) }
     ensures err { IfErr result (IsPutRefusal image.now name.now kind content.now) }
 {
-    let mut disk = clean_disk(alloc, image, Loss::Refused)?;
+    let mut disk = usable_disk(alloc, image, Loss::Refused)?;
     put_file(&mut disk, name, kind, content)?;
     changed(alloc, disk, b"PUT\n")
 }

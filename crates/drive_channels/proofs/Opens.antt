@@ -5,8 +5,10 @@ use Rattle.std.proofs.lemmas.Option.{same_Some}
 use Rattle.d64_image.specs.Images.{Image}
 use Rattle.disk_layout.proofs.lemmas.layouts.Layouts.{IsLayout-one}
 use Rattle.disk_layout.proofs.lemmas.layouts.Uniques.{IsFirst-one}
+use Rattle.disk_layout.specs.Clean.{IsCleanLayout}
 use Rattle.disk_layout.specs.Layout.{File, IsLayout, Layout, record_length}
 use Rattle.disk_layout.specs.Rest.{IsFirst}
+use Rattle.rel_records.proofs.lemmas.Usable.{stays-clean}
 use Rattle.rel_records.specs.File.{entry_of, length_of}
 use Rattle.rel_records.specs.creation.Made.{IsMade, IsTakenName}
 use Rattle.rel_records.specs.declared.rel_file.RelFile.{RelFile}
@@ -193,13 +195,13 @@ makes-of old new l name L v layout made = record {
 
 -- and what is known after it
 pub known-made : (old new : Image) (l : Layout) (name : List ℕ) (L : ℕ) (v : RelFile) (e : NamedFile) (s : Position)
-    (number : ℕ) → IsMade old l name L new v → ¬ (IsTakenName l name) → e.file ≡ v → e.name.items ≡ name → IsName name
+    (number : ℕ) → IsCleanLayout old l → IsMade old l name L new v → ¬ (IsTakenName l name) → e.file ≡ v → e.name.items ≡ name → IsName name
     → s ≡ first_spot number → 2 ≤ number → number ≤ 14 → (checked : Bool) → checked ≡ true
     → IsKnown new (record { last = Some (record { found = e; spot = Some s }); before = None; checked = checked })
-known-made old new l name L v e s number made free file is named at low high checked yes-checked = record {
+known-made old new l name L v e s number was made free file is named at low high checked yes-checked = record {
   fresh = λ off. absurd (both off);
   remembered = λ _. record {
-    clean = (made.more.layout, made.more.clean);
+    clean = (made.more.layout, stays-clean old new l made.more.layout made.more.clean was);
     last_found = found-new new e v name made.more.layout made.more.file file is named
         (first-made old new l made.more.layout name made.more.file made.more.adds free (entry_of v) made.of.there
         made.more.named) made.of;

@@ -183,7 +183,7 @@ module _ {D : Type 0} (S : History D) (a b c : D) (name id : List ℕ) (bytes di
       ok = tt;
       moments = moments v d (Err fault) repairs;
       reads = reads v d (Err fault) repairs;
-      failures = failed_later S a c d (v.failures ∙ w.failures) (repair-failed S c d (S.failed_at d) (S.image c) fault
+      failures = failed_later S a c d (v.failures ∙ w.failures) (repair-failed Survey S c d (S.failed_at d) (S.image c) fault
           (empty_layout, empty v d (Err fault) repairs) repairs.err repairs.failures);
     }
 

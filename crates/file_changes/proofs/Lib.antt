@@ -3,6 +3,9 @@ pub mod ChainFiles
 pub mod Chained
 pub mod DeleteCalls
 pub mod Formatted
+pub mod FreedMaps
+pub mod FreeCalls
+pub mod Freed
 pub mod Mapped
 pub mod Overwritten
 pub mod NewChains

@@ -40,12 +40,12 @@ pub record IsRemapped (b : Image) (m : Layout) (c : Image) : Type 0 where
   pub elsewhere : (p : Place) → p ≢ map_place → sector c p ≡ sector b p
   pub header : header_of c ≡ header_of b
 
--- a repair of a sound disk fails by the device alone
-pub repair-failed : {D : Type 0} (S : History D) (a b : D) (failed_at : Place → Type 0) (img : Image) (fault : Fault)
-    → IsSound img → Holds failed_at img fault → TellsFault {T = Survey} S a b (Err fault) → Failed S a b
-repair-failed S a b failed_at img fault sound h tells =
+-- a repair or a survey of a sound disk fails by the device alone
+pub repair-failed : {D : Type 0} (T : Type 0) (S : History D) (a b : D) (failed_at : Place → Type 0) (img : Image) (fault : Fault)
+    → IsSound img → Holds failed_at img fault → TellsFault {T = T} S a b (Err fault) → Failed S a b
+repair-failed T S a b failed_at img fault sound h tells =
     let (p, is, at) = told-sound failed_at img fault h sound in
-    let P : Fault → Type 0 = λ f. TellsFault {T = Survey} S a b (Err f) in
+    let P : Fault → Type 0 = λ f. TellsFault {T = T} S a b (Err f) in
     subst P is tells
 
 -- places each once, which are all one place

@@ -97,6 +97,7 @@ module _ (a c : Image) (l : Layout) (ds : List ℕ) (st : Site) (h : IsTaking a 
       let (rest, is) = begins-with ps first at in
       record {
         layout = made.layout;
+        sound = made.sound;
         clean = made.clean;
         file = plain_file made.slot ps u;
         adds = made.adds;

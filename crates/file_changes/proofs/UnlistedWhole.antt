@@ -11,9 +11,10 @@ use Rattle.disk_layout.proofs.lemmas.growth.Commit.{all-join, all-left, all-righ
 use Rattle.disk_layout.proofs.lemmas.layouts.Agree.{map-unowned, owned-by_files}
 use Rattle.disk_layout.proofs.lemmas.layouts.Layouts.{get-contains}
 use Rattle.disk_layout.proofs.lemmas.lists.Lists.{all-map, contains-get}
-use Rattle.disk_layout.proofs.lemmas.lists.Once.{Contains-there, flat_map-in}
-use Rattle.disk_layout.proofs.lemmas.whole.Files.{AreExact, clean-exact}
-use Rattle.disk_layout.specs.Clean.{IsCleanLayout, IsExactFile}
+use Rattle.disk_layout.proofs.lemmas.lists.Once.{Contains-cases, Contains-here, Contains-there, all-in, flat_map-in}
+use Rattle.disk_layout.proofs.lemmas.counts.Recount.{flat_map-out}
+use Rattle.disk_layout.proofs.lemmas.whole.Files.{AreExact}
+use Rattle.disk_layout.specs.Clean.{IsExactFile}
 use Rattle.disk_layout.specs.Directory.{map_place}
 use Rattle.disk_layout.specs.Layout.{File, IsLayout, Layout, file_owns, is_rel, owners}
 use Rattle.disk_layout.specs.Whole.{IsWhole}
@@ -25,11 +26,8 @@ use Rattle.file_changes.specs.Deletes.{IsWithout}
 use Rattle.file_changes.specs.Entries.{without_file}
 use Rattle.file_changes.specs.Patches.{patched}
 
-module _ (a : Image) (l : Layout) (n : ℕ) (f : File) (clean : IsCleanLayout a l) (at : slice_get l.files n ≡ Some f)
-    (image : IsImage a) where
-  abbrev h : IsLayout a l
-  h = clean.layout
-
+module _ (a : Image) (l : Layout) (n : ℕ) (f : File) (h : IsLayout a l) (files : AreExactFiles a l.files)
+    (at : slice_get l.files n ≡ Some f) (image : IsImage a) where
   abbrev m : Layout
   m = without_file l n
 
@@ -46,6 +44,20 @@ module _ (a : Image) (l : Layout) (n : ℕ) (f : File) (clean : IsCleanLayout a 
             (Contains-there y f (drop (suc n) l.files) c)
       ])
 
+  -- what the new layout owns the old one owns
+  pub owned-before : (q : Place) → Contains (map_place ∷ owners (without_file l n)) q → Contains (map_place ∷ owners l) q
+  unfolding owners
+  owned-before q c = elim (Contains-cases q map_place (owners m) c) [
+    | inl e ↦ (let P : Place → Type 0 = Contains (map_place ∷ owners l) in
+        subst P e (Contains-here map_place (owners l)))
+    | inr d ↦ Contains-there q map_place (owners l) (elim (Contains-append_cases l.directory (flat_map file_owns m.files)
+        q d) [
+          | inl on ↦ Contains-append_left l.directory (flat_map file_owns l.files) q on
+          | inr own ↦ (let (y, there, mine) = flat_map-out file_owns m.files q own in
+              owned-by_files l q (flat_map-in file_owns l.files y q (old-file y there) mine))
+        ])
+  ]
+
   module _ (c : Image) (elsewhere : (q : Place) → q ≢ map_place → q ≢ f.slot.sector → sector c q ≡ sector a q) where
     -- what files own is as it was
     same : (y : File) (q : Place) → Contains l.files y → Contains (file_owns y) q → sector c q ≡ sector a q
@@ -59,9 +71,8 @@ module _ (a : Image) (l : Layout) (n : ℕ) (f : File) (clean : IsCleanLayout a 
     exact : (j : ℕ) (y : File) → slice_get m.files j ≡ Some y → IsTrue (is_rel y.slot) → AreExact c y
     exact j y there rel i q e =
         let on = old-file y (get-contains m.files j y there) in
-        let (k, was) = contains-get l.files y on in
         same y q on (Contains-append_right y.blocks y.sides q (get-contains y.sides i q e))
-        ∙ clean-exact a l k y clean was rel i q e
+        ∙ (all-in _ l.files y files on rel).sides i q e
 
     pub without-whole : IsLayout c (without_file l n) → IsWhole a → IsWhole c
     without-whole now w = exact-long c m now exact (λ y d.
@@ -77,7 +88,7 @@ module _ (a : Image) (l : Layout) (n : ℕ) (f : File) (clean : IsCleanLayout a 
   after : (q : Place) → q ≢ map_place → q ≢ f.slot.sector → sector b q ≡ sector a q
   after q ne off = sector-put_other a f.slot.sector q _ (λ e. off (sym e))
 
-  map-after : sector b map_place ≡ sector a map_place
+  pub map-after : sector b map_place ≡ sector a map_place
   map-after = sector-put_other a f.slot.sector map_place _ (λ e. h.directory.not_map
       (let P : Place → Type 0 = Contains l.directory in subst P e (place a l n f h at).0))
 
@@ -98,7 +109,7 @@ module _ (a : Image) (l : Layout) (n : ℕ) (f : File) (clean : IsCleanLayout a 
       let P : File → Type 0 = λ y. IsTrue (is_rel y.slot) → IsExactFile a y in
       let Q : File → Type 0 = λ y. IsTrue (is_rel y.slot) → IsExactFile b y in
       let parts : AllByRecursion P (take n l.files ++ f ∷ drop (suc n) l.files) =
-      (let R : List File → Type 0 = AllByRecursion P in subst R (split a l n f h at) clean.files) in
+      (let R : List File → Type 0 = AllByRecursion P in subst R (split a l n f h at) files) in
       all-map P Q m.files (λ y on. exact-file y (old-file y on))
       (all-join P (take n l.files) (drop (suc n) l.files)
       (all-left P (take n l.files) (f ∷ drop (suc n) l.files) parts)

@@ -4,7 +4,6 @@ use Rattle.d64_image.specs.History.{Changes, History, OnlyReads}
 use Rattle.d64_image.specs.Images.{Image, sector}
 use Rattle.d64_image.specs.Offsets.{overwritten}
 use Rattle.d64_image.specs.declared.place.Place.{Place}
-use Rattle.disk_layout.specs.Clean.{IsCleanLayout}
 use Rattle.disk_layout.specs.Directory.{map_place, type_byte}
 use Rattle.disk_layout.specs.Layout.{File, IsLayout, Layout}
 use Rattle.disk_layout.specs.Rest.{header_of, slot_name}
@@ -12,6 +11,7 @@ use Rattle.disk_layout.specs.Whole.{IsWhole}
 use Rattle.disk_layout.specs.declared.slot.Slot.{Slot}
 use Rattle.file_changes.specs.Entries.{IsFirstNamed, IsFreeName, entries_of, without_file}
 use Rattle.file_changes.specs.Faults.{TellsChange}
+use Rattle.layout_check.specs.Keeping.{AreStray, IsCleanBut}
 use Rattle.command_faults.specs.declared.faults.CommandFault.{CommandFault}
 use Rattle.command_faults.specs.declared.faults.CommandFault.TheVariants.{Device, Locked, NoFile}
 
@@ -41,10 +41,11 @@ pub record HasLost (a : Image) (l : Layout) (name : List ℕ) (c : Image) : Type
   pub of : IsDeletable l name number file
   pub without : IsWithout a l number file c
 
--- and its sectors are free
+-- and its sectors are free; those that were taken though nobody owned them still are, and otherwise c is clean
 pub record HasFreed (a : Image) (l : Layout) (name : List ℕ) (c : Image) : Type 0 where
   pub lost : HasLost a l name c
-  pub clean : IsCleanLayout c (without_file l lost.number)
+  pub clean : (strays : List Place) → AreStray a l strays → IsCleanBut strays a l
+      → IsCleanBut strays c (without_file l lost.number)
 
 -- A file was deleted, or not, on a disk with the layout l.
 pub record DeletesIn {D : Type 0} (S : History D) (old new : D) (l : Layout) (name : List ℕ)
@@ -75,6 +76,6 @@ pub record Deletes {D : Type 0} (S : History D) (old new : D) (name : List ℕ)
   pub layout : (l : Layout) → IsLayout (S.image old) l → DeletesIn S old new l name result
   pub told : IfErr result (λ e. (e ≡ NoFile) ⊎ ((e ≡ Locked) ⊎ (e ≡ Device)))
   pub refused : IfErr result (λ e. e ≢ Device → OnlyReads S old new 18)
-  -- those of a repair, and the directory's
-  pub reads : S.reads new ≤ S.reads old + 5562
+  -- those of two surveys, the directory's, an entry and the map
+  pub reads : S.reads new ≤ S.reads old + 4248
   pub failures : TellsChange S old new result

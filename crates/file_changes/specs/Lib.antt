@@ -3,6 +3,7 @@ pub mod Deletes
 pub mod Entries
 pub mod Faults
 pub mod Formats
+pub mod Frees
 pub mod NewNames
 pub mod Patches
 pub mod PutWrites

@@ -6,7 +6,6 @@ use Rattle.byteorder.specs.Endian.{little_bytes}
 use Rattle.d64_image.specs.History.{Changes, History, OnlyReads}
 use Rattle.d64_image.specs.Images.{Image, Sector, sector}
 use Rattle.d64_image.specs.declared.place.Place.{Place}
-use Rattle.disk_layout.specs.Clean.{IsCleanLayout}
 use Rattle.disk_layout.specs.Directory.{type_byte}
 use Rattle.disk_layout.specs.Layout.{File, IsLayout, Layout, count_field}
 use Rattle.disk_layout.specs.Records.{joined}
@@ -20,6 +19,7 @@ use Rattle.command_faults.specs.declared.faults.CommandFault.{CommandFault}
 use Rattle.command_faults.specs.declared.faults.CommandFault.TheVariants.{Device, DiskFull, FileExists}
 use Rattle.file_changes.specs.declared.file_type.FileType.{FileType}
 use Rattle.file_changes.specs.declared.file_type.FileType.TheVariants.{Prg, Seq, Usr}
+use Rattle.rel_records.specs.Usable.{StaysClean}
 use Rattle.rel_records.specs.creation.Made.{HasFilesOf, HasNoRoomFor, IsNewSlot}
 
 -- the type byte of a closed entry
@@ -59,12 +59,13 @@ plain_entry kind name first blocks =
     (type_number kind ∷ place_bytes first)
     ++ (slot_name name ++ (replicate 9 0 ++ little_bytes 2 blocks))
 
--- c is clean, and has the files of a and one more, of this name and type, that isn't locked: it has this data, and its
--- block count is right
+-- c is as clean as a, and has the files of a and one more, of this name and type, that isn't locked: it has this data,
+-- and its block count is right
 pub record HasPut (a : Image) (l : Layout) (name : List ℕ) (kind : FileType) (bytes : List ℕ) (c : Image) : Type 0
   where
     pub layout : Layout
-    pub clean : IsCleanLayout c layout
+    pub sound : IsLayout c layout
+    pub clean : StaysClean a l c layout
     pub file : File
     pub adds : AddsFile a c l layout file
     pub slot : IsNewSlot a l layout file.slot

@@ -1,19 +1,20 @@
 //! A file deleted.
 ghost use Rattle.std.specs.Prelude.{◌≡◌, ◌≤◌, ◌⊎◌, ℕ, IfErr, IfOk, length};
-ghost use Rattle.disk_layout.specs.Clean.{IsClean};
 ghost use Rattle.disk_layout.specs.Layout.{IsSound};
 ghost use Rattle.disk_layout.specs.declared.slot.Slot.{Slot};
 ghost use Rattle.file_changes.specs.Deletes.{Deletes, FindsDeletable, IsLocked};
 ghost use Rattle.file_changes.specs.Entries.{IsFirstNamed, IsFreeName};
+ghost use Rattle.rel_records.specs.Usable.{IsUsable};
 ghost use Rattle.command_faults.specs.declared.faults.CommandFault.TheVariants.{Locked, NoFile};
 
 use crate::entries::{first_named, list_entries};
+use crate::freeing::free_left;
 use crate::patching::patch_sector;
 use arrayvec::ArrayVec;
 use command_faults::CommandFault;
 use d64_image::Sectors;
 use disk_layout::{Slot, padded_name};
-use layout_check::repair;
+use layout_check::survey;
 
 /// The byte of a slot that has its type.
 const TYPE_AT: usize = 2;
@@ -51,7 +52,8 @@ fn find_deletable<D: Sectors>(disk: &mut D, name: &[u8]) -> Result<Slot, Command
 }
 
 /// Deletes the first file that has this name, of whatever type: the type in its entry becomes 0, and then the map calls
-/// its sectors free. The disk is clean before and after. Its bytes stay on the disk until another file takes the sectors.
+/// its sectors free. The disk is clean before and after, but sectors may be taken in its map that nobody owns: these, and
+/// no others, are so afterwards too. The file's bytes stay on the disk until another file takes its sectors.
 ///
 /// `NoFile` if no entry has the name, `Locked` if the first that has it is locked (bit 6 of its type). Both write
 /// nothing. `Device` if the device failed: the file is there or not, every other one is as it was, and perhaps the map
@@ -59,17 +61,20 @@ fn find_deletable<D: Sectors>(disk: &mut D, name: &[u8]) -> Result<Slot, Command
 ///
 /// Two sectors at most are written. In each image that the disk holds on the way all other files are as they were.
 pub fn delete<D: Sectors>(disk: &mut D, name: &[u8]) -> Result<(), CommandFault>
-    requires clean { IsClean (D.history.image disk.old) }
+    requires usable { IsUsable (D.history.image disk.old) }
     requires name { length name.now ≤ 16 }
     ensures { Deletes D.history disk.old disk.new name.now result }
 {
     let entry = find_deletable(disk, name)?;
+    let Ok(before) = survey(disk) else {
+        return Err(CommandFault::Device);
+    };
     let at = 32 * entry.number as usize + TYPE_AT;
     let Ok(()) = patch_sector(disk, entry.sector, at, &[0]) else {
         return Err(CommandFault::Device);
     };
-    match repair(disk) {
-        Ok(_) => Ok(()),
+    match free_left(disk, &before) {
+        Ok(()) => Ok(()),
         // the disk is sound
         Err(_) => Err(CommandFault::Device),
     }

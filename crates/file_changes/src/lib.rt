@@ -6,6 +6,7 @@ mod deleting;
 mod entries;
 mod file_type;
 mod formatting;
+mod freeing;
 mod new_names;
 mod patching;
 mod put_sectors;

@@ -1,8 +1,8 @@
 //! A file put on a disk.
 ghost use Rattle.std.specs.Prelude.{◌≡◌, ◌≤◌, length};
-ghost use Rattle.disk_layout.specs.Clean.{IsClean};
 ghost use Rattle.file_changes.specs.Puts as specs;
 ghost use Rattle.file_changes.specs.Puts.{Puts};
+ghost use Rattle.rel_records.specs.Usable.{IsUsable};
 
 use crate::file_type::FileType;
 use crate::put_writes::write_file;
@@ -20,7 +20,8 @@ fn stored(content: &[u8]) -> &[u8]
     if content.is_empty() { &EMPTY } else { content }
 }
 
-/// Puts a new file of this name, type and data on a clean disk. The data lie in a chain of sectors, 254 bytes in each,
+/// Puts a new file of this name, type and data on a disk. The disk is clean, but sectors may be taken in its map that
+/// nobody owns: these, and no others, are so afterwards too. The data lie in a chain of sectors, 254 bytes in each,
 /// the rest of the last one 0. The sectors are those that `Bam::pick` names, one after another. The entry goes into the
 /// first free slot of the directory or, if all are used, into a new directory sector, the lowest free one of track 18.
 /// If there are no data, the file gets a carriage return, as the drive gives one to an empty file when it closes it.
@@ -39,7 +40,7 @@ pub fn put_file<D: Sectors>(
     kind: FileType,
     content: &[u8],
 ) -> Result<(), CommandFault>
-    requires clean { IsClean (D.history.image disk.old) }
+    requires usable { IsUsable (D.history.image disk.old) }
     requires name { length name.now ≤ 16 }
     ensures { Puts D.history disk.old disk.new name.now kind content.now result }
 {

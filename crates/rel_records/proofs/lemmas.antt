@@ -9,3 +9,4 @@ pub mod creation
 pub mod whole
 pub mod Kept
 pub mod Told
+pub mod Usable

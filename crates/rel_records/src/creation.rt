@@ -1,11 +1,11 @@
 //! Creation of a relative file.
 ghost use Rattle.std.specs.Prelude.{◌≡◌, ◌≤◌, IfErr, IfOk, OnOk, length};
 ghost use Rattle.d64_image.specs.History.{OnlyReads, WritesNothing};
-ghost use Rattle.disk_layout.specs.Clean.{IsClean};
 ghost use Rattle.disk_layout.specs.Layout.{IsLayout, IsSound, Layout};
 ghost use Rattle.rel_records.specs.Calls.{Chooses, Creates};
 ghost use Rattle.rel_records.specs.Faults.{TellsRelFault};
 ghost use Rattle.rel_records.specs.File.{IsLength};
+ghost use Rattle.rel_records.specs.Usable.{IsUsable};
 ghost use Rattle.rel_records.specs.creation.Site.{IsFileAt, IsRoomOf};
 ghost use Rattle.rel_records.specs.declared.faults.RelFault.TheVariants.{Device};
 
@@ -46,12 +46,12 @@ fn read_room<D: Sectors>(disk: &mut D) -> Result<Room, RelFault>
     Ok(room)
 }
 
-/// Chooses what a new file of this name takes of a clean disk: this number of sectors, and an entry's slot. `Exists` if an
-/// entry has the name, of whatever type; otherwise `Full` if fewer blocks are free, or if the directory has neither a free
-/// slot nor a free sector; `Device` if the device failed. Nothing is written. At most fifty-five sectors are read, unless
-/// the device fails.
+/// Chooses what a new file of this name takes of a disk: this number of sectors, and an entry's slot. The disk is clean,
+/// but sectors may be taken in its map that nobody owns; they stay taken. `Exists` if an entry has the name, of whatever
+/// type; otherwise `Full` if fewer blocks are free, or if the directory has neither a free slot nor a free sector;
+/// `Device` if the device failed. Nothing is written. At most fifty-five sectors are read, unless the device fails.
 pub fn choose_site<D: Sectors>(disk: &mut D, name: &[u8], count: usize) -> Result<Site, RelFault>
-    requires clean { IsClean (D.history.image disk.old) }
+    requires usable { IsUsable (D.history.image disk.old) }
     requires name { length name.now ≤ 16 }
     ensures { Chooses D.history disk.old disk.new name.now count result }
 {
@@ -92,6 +92,7 @@ fn file_at(site: &Site, size: u8) -> RelFile
 /// Creates a relative file of this name and record length, in bytes, with one data block of empty records. Its entry
 /// goes into the first free slot of the directory. If all slots are used, the entry goes into a new directory sector,
 /// the lowest free one of track 18.
+/// The disk is clean, but sectors may be taken in its map that nobody owns: these, and no others, are so afterwards too.
 ///
 /// `Exists` is returned if an entry has the name, of whatever type; otherwise `Full` if fewer than two blocks are free,
 /// or if the directory has neither a free slot nor a free sector. Neither writes anything. The name isn't checked: the
@@ -101,7 +102,7 @@ fn file_at(site: &Site, size: u8) -> RelFile
 /// At most fifty-five sectors are read, unless the device fails. The last write makes the file. Whole files stay whole
 /// in each image that the disk holds on the way.
 pub fn create<D: Sectors>(disk: &mut D, name: &[u8], size: u8) -> Result<RelFile, RelFault>
-    requires clean { IsClean (D.history.image disk.old) }
+    requires usable { IsUsable (D.history.image disk.old) }
     requires name { length name.now ≤ 16 }
     requires low { 1 ≤ size }
     requires high { size ≤ 254 }

@@ -2,7 +2,6 @@
 use Rattle.std.specs.Prelude.{ℕ, ◌≡◌, ◌⊎◌, ◌<◌, ◌*◌, ◌/◌, ◌++◌, ◌∷◌, [], List, Contains, if◌then◌else◌, length, map}
 use Rattle.std.specs.Prelude.{nat_lt, replicate, slice_range}
 use Rattle.d64_image.specs.Images.{Image, sector}
-use Rattle.disk_layout.specs.Clean.{IsCleanLayout}
 use Rattle.disk_layout.specs.Directory.{map_place, type_byte}
 use Rattle.disk_layout.specs.Layout.{File, IsLayout, Layout, record_length}
 use Rattle.disk_layout.specs.Map.{IsFirstOn, IsFullTrack}
@@ -12,6 +11,7 @@ use Rattle.disk_layout.specs.Same.{AddsFile, stays_of}
 use Rattle.disk_layout.specs.View.{blocks_free}
 use Rattle.disk_layout.specs.Whole.{IsWhole}
 use Rattle.rel_records.specs.File.{IsFileOf, entry_of}
+use Rattle.rel_records.specs.Usable.{StaysClean}
 use Rattle.rel_records.specs.creation.Room.{AreFullSectors, IsFirstRoom}
 use Rattle.disk_layout.specs.declared.slot.Slot.{Slot}
 use Rattle.rel_records.specs.declared.rel_file.RelFile.{RelFile}
@@ -30,12 +30,12 @@ IsNewSlot old l m s =
     ⊎ (AreFullSectors old l.directory × (IsFirstOn (sector old map_place) 18 s.sector
     × ((s.number ≡ 0) × (m.directory ≡ l.directory ++ s.sector ∷ []))))
 
--- c is clean, and has the files of a and one more, a relative one that isn't locked, of this name and record length:
--- one block
--- of empty records
+-- c is as clean as a, and has the files of a and one more, a relative one that isn't locked, of this name and record
+-- length: one block of empty records
 pub record HasFileMore (a : Image) (l : Layout) (name : List ℕ) (L : ℕ) (c : Image) : Type 0 where
   pub layout : Layout
-  pub clean : IsCleanLayout c layout
+  pub sound : IsLayout c layout
+  pub clean : StaysClean a l c layout
   pub file : File
   pub adds : AddsFile a c l layout file
   pub slot : IsNewSlot a l layout file.slot

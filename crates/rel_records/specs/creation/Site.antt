@@ -6,11 +6,11 @@ use Rattle.d64_image.specs.Images.{Image, Sector, sector}
 use Rattle.d64_image.specs.declared.faults.DeviceFault.{DeviceFault}
 use Rattle.d64_image.specs.declared.place.Place.{Place}
 use Rattle.disk_layout.specs.Chain.{EachOnce}
-use Rattle.disk_layout.specs.Clean.{IsCleanLayout}
 use Rattle.disk_layout.specs.Directory.{map_place}
 use Rattle.disk_layout.specs.Layout.{Layout, owners}
 use Rattle.disk_layout.specs.Map.{IsFirstOn, IsMapOf}
 use Rattle.rel_records.specs.Puts.{IsPutSoFar, put_each}
+use Rattle.rel_records.specs.Usable.{IsUsableLayout}
 use Rattle.rel_records.specs.creation.Made.{HasFileMore}
 use Rattle.rel_records.specs.creation.NewFile.{IsEntered, IsLinkedTo, IsNewDirectory}
 use Rattle.rel_records.specs.creation.Room.{IsFirstRoom, IsFullDirectory}
@@ -33,9 +33,9 @@ pub record TakesSectors (old new : Sector) (ps : List Place) : Type 0 where
   pub owned : (owned : List Place) → IsMapOf old owned → IsMapOf new (ps ++ owned)
   pub header : (take 4 new ≡ take 4 old) × (drop 144 new ≡ drop 144 old)
 
--- the image is clean; the site has this number of its sectors, which nobody owned, and a map with its map's header
+-- the image can be used; the site has this number of its sectors, which nobody owned, and a map with its map's header
 pub record IsTaking (img : Image) (l : Layout) (n : ℕ) (s : Site) : Type 0 where
-  pub clean : IsCleanLayout img l
+  pub usable : IsUsableLayout img l
   pub count : length s.blocks.items ≡ n
   pub once : EachOnce s.blocks.items
   pub unowned : (p : Place) → Contains s.blocks.items p → ¬ (Contains (map_place ∷ owners l) p)
@@ -43,17 +43,18 @@ pub record IsTaking (img : Image) (l : Layout) (n : ℕ) (s : Site) : Type 0 whe
       × (drop 144 s.map.bytes ≡ drop 144 (sector img map_place))
   pub bytes : s.bytes ≡ sector img s.place
 
--- these sectors are taken, and the entry goes into the first free slot
+-- these sectors are taken, and all that were; the entry goes into the first free slot
 pub record IsSlotSite (img : Image) (l : Layout) (count : ℕ) (s : Site) : Type 0 where
   pub taking : IsTaking img l count s
-  pub map : IsMapOf s.map.bytes (s.blocks.items ++ map_place ∷ owners l)
+  pub map : (owned : List Place) → IsMapOf (sector img map_place) owned → IsMapOf s.map.bytes (s.blocks.items ++ owned)
   pub room : IsFirstRoom img l.directory s.place s.number
   pub entry : s.entry ≡ 8 * length room.front + s.number
 
 -- one more is taken, the lowest free sector of track 18: it follows the directory's last, and gets the entry
 pub record IsSectorSite (img : Image) (l : Layout) (count : ℕ) (s : Site) (fresh : Place) : Type 0 where
   pub taking : IsTaking img l count s
-  pub map : IsMapOf s.map.bytes (fresh ∷ s.blocks.items ++ map_place ∷ owners l)
+  pub map : (owned : List Place) → IsMapOf (sector img map_place) owned
+      → IsMapOf s.map.bytes (fresh ∷ s.blocks.items ++ owned)
   pub full : IsFullDirectory img l.directory s.place
   pub lowest : IsFirstOn (sector img map_place) 18 fresh
   pub no_fresh : ¬ (Contains (map_place ∷ owners l) fresh)

@@ -2,11 +2,11 @@
 ghost use Rattle.std.specs.Prelude.{◌≡◌, ◌≤◌, List, MatchOption, length};
 ghost use Rattle.d64_image.specs.Images.{Image, sector};
 ghost use Rattle.d64_image.specs.declared.place.Place.{Place};
-ghost use Rattle.disk_layout.specs.Clean.{IsCleanLayout};
 ghost use Rattle.disk_layout.specs.Directory.{map_place};
 ghost use Rattle.disk_layout.specs.Layout.{Layout};
 ghost use Rattle.disk_layout.specs.Map.{IsMapOf};
 ghost use Rattle.disk_layout.specs.View.{blocks_free};
+ghost use Rattle.rel_records.specs.Usable.{IsUsableLayout};
 ghost use Rattle.rel_records.specs.creation.Made.{HasNoRoomFor};
 ghost use Rattle.rel_records.specs.creation.Site.{IsRoomOf, IsSite, TakesSectors};
 
@@ -50,12 +50,12 @@ fn take_sectors(map: &mut Bam, count: usize) -> ArrayVec<Place, SECTORS>
     places
 }
 
-/// Takes a new file's sectors, this number of them, in the map of a clean disk, and one more for the directory if it is
-/// full. None if they aren't free.
+/// Takes a new file's sectors, this number of them, in the map of a disk that can be used, and one more for the
+/// directory if it is full. None if they aren't free.
 pub(crate) fn take_site(mut map: Bam, room: Room, count: usize) -> Option<Site>
-    requires of { (img : Image) × (l : Layout) × IsCleanLayout img l × (map.bytes ≡ sector img map_place)
+    requires of { (img : Image) × (l : Layout) × IsUsableLayout img l × (map.bytes ≡ sector img map_place)
         × IsRoomOf img l room }
-    ensures { (img : Image) → (l : Layout) → IsCleanLayout img l → map.bytes ≡ sector img map_place
+    ensures { (img : Image) → (l : Layout) → IsUsableLayout img l → map.bytes ≡ sector img map_place
         → IsRoomOf img l room → MatchOption result (HasNoRoomFor img l count)
         (λ site. IsSite img l count site × ¬ (HasNoRoomFor img l count)) }
 {

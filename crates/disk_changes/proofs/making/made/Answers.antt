@@ -1,13 +1,12 @@
 -- The call on the disk in memory, and what it tells.
-use Rattle.std.proofs.Common.{subst, sym, ◌∙◌, ap, Err}
+use Rattle.std.proofs.Common.{◌∙◌, ap, Err}
 use Rattle.std.proofs.lemmas.Result.{IfOk-weaker, err_from_is_err_and}
 use Rattle.disk_changes.proofs.MadeFile.{make-done, make-refused}
+use Rattle.disk_changes.proofs.Usable.{usable-image}
 use Rattle.disk_changes.proofs.making.made.Goals as goal
-use Rattle.disk_layout.specs.Clean.{IsClean}
 
-pub create-requires-clause-clean : goal.create-requires-clause-clean
-create-requires-clause-clean c = subst IsClean (sym c.in_ok-disk.ensures.ok.1)
-    (c.in_ok-disk.ensures.ok.0.layout, c.in_ok-disk.ensures.ok.0.clean)
+pub create-requires-clause-usable : goal.create-requires-clause-usable
+create-requires-clause-usable c = usable-image _ _ _ c.in_ok-disk.ensures.ok.1 c.in_ok-disk.ensures.ok.0
 
 pub returns-in_err-create-clause-err : goal.returns-in_err-create-clause-err
 returns-in_err-create-clause-err c =

@@ -2,10 +2,10 @@
 use Rattle.std.proofs.Common.{Err, arith, ap, inl, inr, refl, subst, sym, ◌∙◌}
 use Rattle.d64_image.proofs.Moments.{failed_later, no_write_then, reads_no_write, reads_then, reads_weaker}
 use Rattle.d64_image.specs.Images.{Image, sector}
-use Rattle.disk_layout.proofs.lemmas.layouts.Unclean.{clean-of}
 use Rattle.disk_layout.specs.Directory.{map_place}
 use Rattle.disk_layout.specs.Layout.{IsLayout, Layout}
 use Rattle.rel_records.proofs.lemmas.Told.{exists-not-full, full-not-exists, tells-rel-after}
+use Rattle.rel_records.proofs.lemmas.Usable.{usable-of}
 use Rattle.rel_records.proofs.lemmas.creation.TakenNames.{no-site, not-taken, room-still, taken-slot}
 use Rattle.rel_records.proofs.lemmas.writing.Puts.{passes}
 use Rattle.rel_records.specs.Calls.{Chooses}
@@ -44,9 +44,9 @@ returns-then-has_name g c =
 
 pub read_room-requires : goal.read_room-requires
 read_room-requires g c = record {
-  sound = let (l, clean) = c.requires.clean in
+  sound = let (l, usable) = c.requires.usable in
       let P : Image → Type 0 = λ i. IsLayout i l in
-      (l, subst P (sym c.list_slots.ensures.reads.image) clean.layout);
+      (l, subst P (sym c.list_slots.ensures.reads.image) usable.1.layout);
 }
 
 pub returns-in_err-room : goal.returns-in_err-room
@@ -71,16 +71,16 @@ returns-in_default g c =
 pub take_site-requires : goal.take_site-requires
 take_site-requires g c =
     let S = g.D.Sectors.history in
-    let (l, clean) = c.requires.clean in
+    let (l, usable) = c.requires.usable in
     let listed = c.list_slots.ensures.reads.image in
     let P : Image → Type 0 = λ i. IsLayout i l in
     record {
       of = (
         S.image c.args.disk.now,
         l,
-        clean,
+        usable,
         c.in-Ok.ensures.ok ∙ ap (λ (i : Image). sector i map_place) (c.read_room.ensures.quiet.image ∙ listed),
-        room-still _ _ l c.in_ok-room.room listed (c.in_ok-room.ensures.ok l (subst P (sym listed) clean.layout)),
+        room-still _ _ l c.in_ok-room.room listed (c.in_ok-room.ensures.ok l (subst P (sym listed) usable.1.layout)),
       );
     }
 
@@ -97,7 +97,7 @@ returns-in_default-take_site g c =
             record {
               exists = λ e. full-not-exists e;
               full = λ e. (
-                c.in_default-take_site.ensures a l (clean-of a l h c.requires.clean)
+                c.in_default-take_site.ensures a l (usable-of a l h c.requires.usable)
                     (c.in-Ok.ensures.ok ∙ ap (λ (i : Image). sector i map_place) (c.read_room.ensures.quiet.image ∙ listed))
                     (room-still _ _ l c.in_ok-room.room listed (c.in_ok-room.ensures.ok l (subst P (sym listed) h))),
                 not-taken l c.as_slice.result.now c.padded_name.result c.args.name.now c.has_name.result
@@ -123,7 +123,7 @@ returns g c =
     let listed = c.list_slots.ensures.reads.image in
     let taken = λ (l : Layout). λ (h : IsLayout a l).
     let P : Image → Type 0 = λ i. IsLayout i l in
-    c.in-Some.ensures a l (clean-of a l h c.requires.clean)
+    c.in-Some.ensures a l (usable-of a l h c.requires.usable)
     (c.in-Ok.ensures.ok ∙ ap (λ (i : Image). sector i map_place) (c.read_room.ensures.quiet.image ∙ listed))
     (room-still _ _ l c.in_ok-room.room listed (c.in_ok-room.ensures.ok l (subst P (sym listed) h))) in
     record {

@@ -53,9 +53,9 @@ returns-in_default g c =
 
 pub write_file-requires-clause-site : goal.write_file-requires-clause-site
 write_file-requires-clause-site g c =
-    let (l, clean) = c.requires.clean in
+    let (l, usable) = c.requires.usable in
     let P : Image → Type 0 = λ i. IsSite i l 2 c.in_ok-site.site in
-    (l, subst P (sym c.choose_site.ensures.quiet.image) (c.in_ok-site.ensures.ok l clean.layout))
+    (l, subst P (sym c.choose_site.ensures.quiet.image) (c.in_ok-site.ensures.ok l usable.1.layout))
 
 pub returns : goal.returns
 returns g c =
@@ -79,6 +79,6 @@ returns g c =
 
 pub file_at-requires-clause-two : goal.file_at-requires-clause-two
 file_at-requires-clause-two g c =
-    let (l, clean) = c.requires.clean in
+    let (l, usable) = c.requires.usable in
     (site-taking (g.D.Sectors.history.image c.args.disk.now) l 2 c.in_ok-site.site
-    (c.in_ok-site.ensures.ok l clean.layout)).count
+    (c.in_ok-site.ensures.ok l usable.1.layout)).count

@@ -51,9 +51,12 @@ still-of : (a b : Image) (l : Layout) (n : ℕ) (st : Site) (ps : List Place) �
     → ((q : Place) → Contains ps q → ¬ (Contains (owners l) q)) → ChangesOnly a st.map.bytes ps b
     → HasFilesOf a l b × (IsWhole a → IsWhole b)
 still-of a b l n st ps h unowned changes =
-    let layout = h.clean.layout in
-    let was = files-before a b st.map.bytes ps l layout unowned h.header changes in
-    (was, before-whole a b l h.clean was.layout (before-same a b st.map.bytes ps l layout unowned changes))
+    let layout = h.usable.1.layout in
+    let was = files-before a b st.map.bytes ps l layout unowned h.header changes in (
+      was,
+      before-whole a b l layout h.usable.1.files was.layout
+          (before-same a b st.map.bytes ps l layout unowned changes),
+    )
 
 pub still : (a b : Image) (l : Layout) (n : ℕ) (st : Site) → IsTaking a l n st
     → ChangesOnly a st.map.bytes st.blocks.items b → HasFilesOf a l b × (IsWhole a → IsWhole b)
@@ -144,6 +147,6 @@ pub puts-counted : (a : Image) (l : Layout) (n : ℕ) (st : Site) (entry : List 
     → MatchOption o (IsSlotSite a l n st) (IsSectorSite a l n st) → (puts : List (Place × Sector))
     → ArePutsOf st entry o puts → 3 + length puts ≡ creation_writes l
 puts-counted a l n st entry None h puts (bytes, entered, is) = omega
-    (arith, ap length is, four-writes a l st.place st.number h.taking.clean.layout h.room)
+    (arith, ap length is, four-writes a l st.place st.number h.taking.usable.1.layout h.room)
 puts-counted a l n st entry (Some fresh) h puts (first, last, made_of, linked, is) = omega
-    (arith, ap length is, five-writes a l h.taking.clean.layout h.full.full)
+    (arith, ap length is, five-writes a l h.taking.usable.1.layout h.full.full)

@@ -25,7 +25,7 @@ pub made-file : (a : Image) (l : Layout) (name : List ℕ) (L : ℕ) (st : Site)
 made-file a l name L st c v h at = record {
   more = h.more;
   of = record {
-    layout = h.more.clean.layout;
+    layout = h.more.sound;
     there = ap (slice_get h.more.layout.files) at.entry ∙ h.there;
     rel = h.more.named.0;
     shows = record {
@@ -94,7 +94,7 @@ module _ (a c : Image) (l : Layout) (n : ℕ) (f : File) (v : RelFile) (of : IsF
       (ap (λ xs. slice_get xs n) (sym h.adds.had) ∙ had) in
       let (g, there, same) = made-from (stays_of c) (slice_get h.layout.files k) (stays_of a f)
       (sym (slice_get-map (stays_of c) h.layout.files k) ∙ ap (λ xs. slice_get xs k) h.adds.has ∙ at) in
-      kept-of a c l h.layout n k f g v of h.clean.layout there same
+      kept-of a c l h.layout n k f g v of h.sound there same
 
   -- at each moment
   pub creating-stays : (name : List ℕ) (L : ℕ) → IsCreating a l name L c → StaysOf a c f v

@@ -99,6 +99,7 @@ module _ (c : Image) (w : IsImage c) (name : List ℕ) (map : Sector) (block sid
       record {
         more = record {
           layout = h.layout;
+          sound = h.sound;
           clean = h.clean;
           file = f;
           adds = h.adds;

@@ -1,5 +1,6 @@
 -- A new file's entry, of whatever type the file is, put into a free slot or linked: this write makes the file.
 use Rattle.std.proofs.Common.{drop, take, ◌≡◌, ℕ, ◌+◌, ◌<◌, inl, inr, false, true, List, [], ◌∷◌, ◌++◌, ap, append-nil}
+use Rattle.std.proofs.Common.{append_assoc}
 use Rattle.std.proofs.Common.{arith, length, map, refl, slice_index, subst, sym, ◌∙◌, ◌*◌, ◌≢◌, IsTrue, None, Some}
 use Rattle.std.proofs.lemmas.List.{map-append, length-map}
 use Rattle.std.proofs.lemmas.List.Elements.{Contains-append_cases, Contains-append_left}
@@ -20,8 +21,8 @@ use Rattle.d64_image.specs.declared.place.Place.{Place}
 use Rattle.disk_layout.proofs.lemmas.counts.CountWrites.{slot-byte}
 use Rattle.disk_layout.proofs.lemmas.growth.GrowthRecords.{get-seam}
 use Rattle.disk_layout.proofs.lemmas.lists.Lists.{snoc-last}
-use Rattle.disk_layout.specs.Clean.{IsCleanLayout, IsExactFile}
-use Rattle.disk_layout.specs.Layout.{File, IsFile, Layout, count_field, file_owns, is_rel, owners}
+use Rattle.disk_layout.specs.Clean.{IsExactFile}
+use Rattle.disk_layout.specs.Layout.{File, IsFile, IsLayout, Layout, count_field, file_owns, is_rel, owners}
 use Rattle.disk_layout.specs.Map.{IsFirstOn, IsMapOf}
 use Rattle.disk_layout.specs.Same.{AddsFile}
 use Rattle.disk_layout.specs.Whole.{IsWhole}
@@ -37,6 +38,7 @@ use Rattle.rel_records.proofs.lemmas.creation.Unowned.{owners-with}
 use Rattle.rel_records.proofs.lemmas.directory.AnyEntry.{entry-apart, entry-links, entry-used}
 use Rattle.rel_records.proofs.lemmas.directory.FullSlots.{files-full, slots-before}
 use Rattle.rel_records.proofs.lemmas.whole.Created.{IsLong, more-whole}
+use Rattle.rel_records.specs.Usable.{StaysClean}
 use Rattle.rel_records.specs.creation.Made.{HasFilesOf, IsNewSlot}
 use Rattle.rel_records.specs.creation.NewFile.{ChangesOnly, IsEntered, IsLinkedTo, IsNewDirectory}
 use Rattle.rel_records.specs.creation.Room.{AreFullSectors, IsFirstRoom, IsFirstSlot, IsFullDirectory, IsFullSector}
@@ -66,11 +68,12 @@ pub record IsFileBy (c : Image) (ps : List Place) (entry : List ℕ) (k : Slot �
   pub owns : (s : Slot) → file_owns (k s) ≡ ps
   pub right : (b : Image) → AgreeAt c b ps → (s : Slot) → IsSlotOf s entry → IsRight b (k s)
 
--- b is clean, and has the files of a and one more, that of the entry, whose sectors are as in c
+-- b is as clean as a, and has the files of a and one more, that of the entry, whose sectors are as in c
 pub record HasEntered (a c : Image) (l : Layout) (st : Site) (entry : List ℕ) (k : Slot → File) (b : Image) : Type 0
   where
     pub layout : Layout
-    pub clean : IsCleanLayout b layout
+    pub sound : IsLayout b layout
+    pub clean : StaysClean a l b layout
     pub slot : Slot
     pub of : IsSlotOf slot entry
     pub adds : AddsFile a b l layout (k slot)
@@ -100,10 +103,10 @@ module _ (a c d : Image) (l : Layout) (n : ℕ) (st : Site) (entry : List ℕ) (
   b = put d st.place bytes
 
   was : HasFilesOf a l d
-  was = files-before a d st.map.bytes qs l h.clean.layout none h.header changes
+  was = files-before a d st.map.bytes qs l h.usable.1.layout none h.header changes
 
   same : AgreeAt a d (owners l)
-  same = before-same a d st.map.bytes qs l h.clean.layout none changes
+  same = before-same a d st.map.bytes qs l h.usable.1.layout none changes
 
   in-dir : (q : Place) → Contains l.directory q → Contains (owners l) q
   unfolding owners
@@ -127,7 +130,7 @@ module _ (a c d : Image) (l : Layout) (n : ℕ) (st : Site) (entry : List ℕ) (
 
   -- it puts the entry into a free slot
   module _ (room : IsFirstRoom a l.directory st.place st.number)
-      (map_of : IsMapOf st.map.bytes (st.blocks.items ++ map_place ∷ owners l))
+      (map_of : (owned : List Place) → IsMapOf (sector a map_place) owned → IsMapOf st.map.bytes (st.blocks.items ++ owned))
       (at : st.entry ≡ 8 * length room.front + st.number) (no_sector : None ≡ st.fresh)
       (entered : IsEntered st.bytes bytes st.number entry) where
     abbrev s : Slot
@@ -169,25 +172,33 @@ module _ (a c d : Image) (l : Layout) (n : ℕ) (st : Site) (entry : List ℕ) (
     it : Made a d l room.front st.place st.number bytes (k (slot_in st.place bytes st.number))
     it = made takes
 
-    map-there : (xs ys : List Place) → owners l ≡ xs ++ ys
-        → IsMapOf (sector d map_place) (map_place ∷ (xs ++ (file_owns (k (slot_in st.place bytes st.number)) ++ ys)))
-    map-there xs ys e =
-        let P : List Place → Type 0 = λ os. IsMapOf (sector d map_place) (map_place ∷ (xs ++ (os ++ ys))) in
-        let Q : Sector → Type 0 = λ x. IsMapOf x (map_place ∷ (xs ++ (ps ++ ys))) in
-        subst P (sym (by.owns s)) (subst Q (sym map_is) (map-same st.map.bytes (ps ++ map_place ∷ (xs ++ ys))
-        (map_place ∷ (xs ++ (ps ++ ys))) (among (map_place ∷ xs) ys ps)
-        (subst (λ os. IsMapOf st.map.bytes (ps ++ map_place ∷ os)) e map_of)))
+    map-there : (strays xs ys : List Place) → IsMapOf (sector a map_place) (strays ++ map_place ∷ owners l)
+        → owners l ≡ xs ++ ys → IsMapOf (sector d map_place)
+        (strays ++ map_place ∷ (xs ++ (file_owns (k (slot_in st.place bytes st.number)) ++ ys)))
+    map-there strays xs ys was e =
+        let P : List Place → Type 0 = λ os. IsMapOf (sector d map_place) (strays ++ map_place ∷ (xs ++ (os ++ ys))) in
+        let Q : Sector → Type 0 = λ x. IsMapOf x (strays ++ map_place ∷ (xs ++ (ps ++ ys))) in
+        let X : List Place = strays ++ map_place ∷ xs in
+        let had : strays ++ map_place ∷ (xs ++ ys) ≡ (strays ++ map_place ∷ xs) ++ ys = simp append_assoc in
+        let has : (strays ++ map_place ∷ xs) ++ (ps ++ ys) ≡ strays ++ map_place ∷ (xs ++ (ps ++ ys)) =
+        simp append_assoc in
+        let all : strays ++ map_place ∷ owners l ≡ (strays ++ map_place ∷ xs) ++ ys =
+        ap (λ os. strays ++ map_place ∷ os) e ∙ had in
+        subst P (sym (by.owns s)) (subst Q (sym map_is) (subst (λ os. IsMapOf st.map.bytes os) has
+        (map-same st.map.bytes (ps ++ (X ++ ys)) (X ++ (ps ++ ys)) (among X ys ps)
+        (subst (λ os. IsMapOf st.map.bytes (ps ++ os)) all (map_of (strays ++ map_place ∷ owners l) was)))))
 
     stays : (f : File) → Contains l.files f → SameEntry f.slot (reslot (put d st.place bytes) f.slot)
         × (count_field (reslot (put d st.place bytes) f.slot) ≡ count_field f.slot)
     stays f e = let still = slot-stays takes f.slot (slot-of d l f was.layout e) in
         (same-entry f.slot (reslot b f.slot) still, ap count_field still)
 
-    slot-clean : IsCleanLayout (put d st.place bytes)
+    slot-clean : StaysClean a l (put d st.place bytes)
         (with_file (put d st.place bytes) l it.before it.after (k (slot_in st.place bytes st.number)))
-    slot-clean = still-clean a d l p bytes same (not_file takes) stays l.directory it.before it.after (k s) h.clean it.split
-        it.layout right.exact no-map (subst (λ os. IsMapOf (sector d map_place) (map_place ∷ os)) (sym it.has)
-        (map-there (l.directory ++ flat_map file_owns it.before) (flat_map file_owns it.after) it.had))
+    slot-clean strays was = still-clean a d l p bytes same (not_file takes) stays strays l.directory it.before it.after (k s)
+        was it.split it.layout right.exact no-map
+        (subst (λ os. IsMapOf (sector d map_place) (strays ++ map_place ∷ os)) (sym it.has)
+        (map-there strays (l.directory ++ flat_map file_owns it.before) (flat_map file_owns it.after) was.map it.had))
 
     -- the slots before it are as they were, all used
     place-of : length (map (reread (put d st.place bytes)) it.before) ≡ st.entry
@@ -202,6 +213,7 @@ module _ (a c d : Image) (l : Layout) (n : ℕ) (st : Site) (entry : List ℕ) (
     slot-made = (
       record {
         layout = with_file b l it.before it.after (k s);
+        sound = it.layout;
         clean = slot-clean;
         slot = s;
         of = of;
@@ -213,13 +225,15 @@ module _ (a c d : Image) (l : Layout) (n : ℕ) (st : Site) (entry : List ℕ) (
         number_is = refl;
         kept = kept;
       },
-      more-whole a d p bytes l _ it.before it.after (k s) h.clean.layout it.split refl slot-clean same
+      more-whole a d p bytes l _ it.before it.after (k s) h.usable.1.layout it.split refl it.layout
+          (slot-clean h.usable.0 h.usable.1).files same
           (not_file takes) stays right.long,
     )
 
   -- it links a new directory sector, in which the entry stands
   module _ (fresh : Place) (dir : IsFullDirectory a l.directory st.place)
-      (map_of : IsMapOf st.map.bytes (fresh ∷ st.blocks.items ++ map_place ∷ owners l))
+      (map_of : (owned : List Place) → IsMapOf (sector a map_place) owned
+      → IsMapOf st.map.bytes (fresh ∷ st.blocks.items ++ owned))
       (at : st.entry ≡ 8 * length l.directory) (first_slot : st.number ≡ 0)
       (lowest : IsFirstOn (sector a map_place) 18 fresh) (no_fresh : ¬ (Contains (map_place ∷ owners l) fresh))
       (apart : ¬ (Contains st.blocks.items fresh)) (has_sector : Some fresh ≡ st.fresh)
@@ -273,17 +287,25 @@ module _ (a c d : Image) (l : Layout) (n : ℕ) (st : Site) (entry : List ℕ) (
     once = once-linked b l fresh (k t) was.layout.once no_fresh (unowned t)
         (λ e. apart (subst (λ os. Contains os fresh) (by.owns t) e))
 
-    sector-map : IsMapOf (sector d map_place) (map_place ∷ owners m)
+    sector-map : (strays : List Place) → IsMapOf (sector a map_place) (strays ++ map_place ∷ owners l)
+        → IsMapOf (sector d map_place) (strays ++ map_place ∷ owners m)
     unfolding owners
-    sector-map =
+    sector-map strays had =
         let F : List Place = flat_map file_owns l.files in
         let all : List Place = (l.directory ++ fresh ∷ []) ++ F in
-        let P : List Place → Type 0 = λ os. IsMapOf (sector d map_place) (map_place ∷ (all ++ (os ++ []))) in
-        let Q : Sector → Type 0 = λ x. IsMapOf x (map_place ∷ (all ++ (ps ++ []))) in
-        let R : List Place → Type 0 = λ os. IsMapOf (sector d map_place) (map_place ∷ os) in
+        let X : List Place = strays ++ map_place ∷ l.directory in
+        let P : List Place → Type 0 = λ os. IsMapOf (sector d map_place) (strays ++ map_place ∷ (all ++ (os ++ []))) in
+        let Q : Sector → Type 0 = λ x. IsMapOf x (strays ++ map_place ∷ (all ++ (ps ++ []))) in
+        let R : List Place → Type 0 = λ os. IsMapOf (sector d map_place) (strays ++ map_place ∷ os) in
+        let S : List Place → Type 0 = λ os. IsMapOf st.map.bytes os in
+        let before : fresh ∷ (ps ++ (strays ++ map_place ∷ (l.directory ++ F))) ≡ fresh ∷ (ps ++ (X ++ F)) =
+        simp append_assoc in
+        let after : ((X ++ fresh ∷ []) ++ F) ++ (ps ++ []) ≡ strays ++ map_place ∷ (all ++ (ps ++ [])) =
+        simp append_assoc in
         subst R (sym (owners-with b (l.directory ++ fresh ∷ []) l.files [] (k t) all [] refl refl))
         (subst P (sym (by.owns t)) (subst Q (sym map_is)
-        (map-same st.map.bytes _ _ (among-directory l.directory F ps fresh) map_of)))
+        (subst S after (map-same st.map.bytes _ _ (among-directory X F ps fresh)
+        (subst S before (map_of (strays ++ map_place ∷ (l.directory ++ F)) had))))))
 
     out-dir : ¬ (Contains l.directory fresh)
     out-dir e = no_fresh (Contains-there fresh map_place (owners l) (in-dir fresh e))
@@ -334,16 +356,20 @@ module _ (a c d : Image) (l : Layout) (n : ℕ) (st : Site) (entry : List ℕ) (
     entries : (f : File) → Contains l.files f → SameEntry f.slot (reslot (put d st.place bytes) f.slot)
     entries f e = (linked-stays d l p bytes full relinked was.layout f e).0
 
-    sector-clean : IsCleanLayout (put d st.place bytes) m
-    sector-clean = still-clean a d l p bytes same not-file (linked-stays d l p bytes full relinked was.layout)
-        (l.directory ++ fresh ∷ []) l.files [] (k t) h.clean (sym (append-nil l.files))
-        (created-layout d b l l.files [] (k t) (l.directory ++ fresh ∷ []) was.layout (sym (append-nil l.files)) keeps
-        entries directory new-right.file once) new-right.exact no-map sector-map
+    sector-sound : IsLayout (put d st.place bytes) m
+    sector-sound = created-layout d b l l.files [] (k t) (l.directory ++ fresh ∷ []) was.layout
+        (sym (append-nil l.files)) keeps entries directory new-right.file once
+
+    sector-clean : StaysClean a l (put d st.place bytes) m
+    sector-clean strays had = still-clean a d l p bytes same not-file
+        (linked-stays d l p bytes full relinked was.layout) strays (l.directory ++ fresh ∷ []) l.files [] (k t) had
+        (sym (append-nil l.files)) sector-sound new-right.exact no-map (sector-map strays had.map)
 
     pub sector-made : IsMadeBy a c l st entry k (put d st.place bytes)
     sector-made =
         let made : HasEntered a c l st entry k (put d st.place bytes) = record {
           layout = m;
+          sound = sector-sound;
           clean = sector-clean;
           slot = t;
           of = new-of;
@@ -354,13 +380,13 @@ module _ (a c d : Image) (l : Layout) (n : ℕ) (st : Site) (entry : List ℕ) (
               (ap (λ x. take 4 x ++ drop 144 x) (sector-put_other d p map_place bytes no-map));
           new = inr (dir.full, (lowest, (refl, refl)));
           there = ap (slice_get m.files) (sym (length-map l.files (reread b)
-              ∙ files-full a l h.clean.layout dir.full ∙ sym at))
+              ∙ files-full a l h.usable.1.layout dir.full ∙ sym at))
               ∙ get-seam (map (reread b) l.files) [] (k t);
           sector_is = ap (sector_or p) has_sector;
           number_is = sym first_slot;
           kept = kept;
         } in (
           made,
-          more-whole a d p bytes l _ l.files [] (k t) h.clean.layout (sym (append-nil l.files)) refl sector-clean same
-              not-file (linked-stays d l p bytes full relinked was.layout) new-right.long,
+          more-whole a d p bytes l _ l.files [] (k t) h.usable.1.layout (sym (append-nil l.files)) refl sector-sound
+              (sector-clean h.usable.0 h.usable.1).files same not-file (linked-stays d l p bytes full relinked was.layout) new-right.long,
         )

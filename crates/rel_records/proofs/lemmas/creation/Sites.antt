@@ -1,4 +1,4 @@
--- What a new file takes of a clean disk: room in the directory, and sectors that nobody owned.
+-- What a new file takes of a disk that can be used: room in the directory, and sectors that nobody owned.
 use Rattle.std.proofs.Common.{◌≡◌, ◌+◌, ◌*◌, ◌<◌, ◌⊎◌, ℕ, inl, inr, List, [], ◌∷◌, ◌++◌, None, Option, Some, ap, arith, drop}
 use Rattle.std.proofs.Common.{length, length-append, subst, sym, take, ◌∙◌}
 use Rattle.std.specs.Prelude.{Contains, MatchOption, slice_get}
@@ -13,11 +13,11 @@ use Rattle.disk_layout.proofs.lemmas.lists.Lists.{get-once}
 use Rattle.disk_layout.proofs.lemmas.lists.Once.{Contains-cases, Contains-here, Contains-there}
 use Rattle.disk_layout.proofs.lemmas.map.Maps.{set-free, taken-map}
 use Rattle.disk_layout.specs.Chain.{EachOnce}
-use Rattle.disk_layout.specs.Clean.{IsCleanLayout}
 use Rattle.disk_layout.specs.Directory.{map_place}
 use Rattle.disk_layout.specs.Layout.{IsLayout, Layout, owners}
 use Rattle.disk_layout.specs.Map.{IsFirstOn, IsFree, IsFullTrack, IsMapOf, IsTaken}
 use Rattle.disk_layout.specs.View.{blocks_free}
+use Rattle.rel_records.specs.Usable.{IsUsableLayout}
 use Rattle.rel_records.specs.creation.Made.{HasNoRoomFor}
 use Rattle.rel_records.specs.creation.Room.{AreFullSectors, IsFirstRoom, IsFullDirectory}
 use Rattle.rel_records.specs.creation.Site.{IsRoomOf, IsSectorSite, IsSlotSite, IsTaking, TakesSectors}
@@ -61,13 +61,22 @@ either : (p q : Place) (ps : List Place) → (p ≡ q) ⊎ Contains ps q → Con
 either p q ps (inl e) = let P : Place → Type 0 = Contains (p ∷ ps) in subst P e (Contains-here p ps)
 either p q ps (inr c) = Contains-there q p ps c
 
-module _ (img : Image) (l : Layout) (clean : IsCleanLayout img l) (old mid : Sector) (read : old ≡ sector img map_place)
+module _ (img : Image) (l : Layout) (usable : IsUsableLayout img l) (old mid : Sector) (read : old ≡ sector img map_place)
     (ps : List Place) (count : ℕ) (taken : TakesSectors old mid ps) (long : length ps ≡ count) where
-  map-old : IsMapOf old (map_place ∷ owners l)
-  map-old = let P : Sector → Type 0 = λ x. IsMapOf x (map_place ∷ owners l) in subst P (sym read) clean.map
+  abbrev all : List Place
+  all = usable.0 ++ map_place ∷ owners l
 
-  map-mid : IsMapOf mid (ps ++ map_place ∷ owners l)
-  map-mid = taken.owned (map_place ∷ owners l) map-old
+  owned-in : (q : Place) → Contains (map_place ∷ owners l) q → Contains all q
+  owned-in q own = Contains-append_right usable.0 (map_place ∷ owners l) q own
+
+  at-first : (owned : List Place) → IsMapOf (sector img map_place) owned → IsMapOf old owned
+  at-first owned is = let P : Sector → Type 0 = λ x. IsMapOf x owned in subst P (sym read) is
+
+  map-old : IsMapOf old all
+  map-old = at-first all usable.1.map
+
+  map-mid : IsMapOf mid (ps ++ all)
+  map-mid = taken.owned all map-old
 
   -- the sectors, with a map that has the header of the one in which they are taken
   by-header : (s : Site) (r : Room) → s.blocks.items ≡ ps → s.bytes ≡ r.bytes → s.place ≡ r.place → IsRoomOf img l r
@@ -76,10 +85,10 @@ module _ (img : Image) (l : Layout) (clean : IsCleanLayout img l) (old mid : Sec
       let P : List Place → Type 0 = EachOnce in
       let Q : List Place → Type 0 = λ qs. (p : Place) → Contains qs p → ¬ (Contains (map_place ∷ owners l) p) in
       record {
-        clean = clean;
+        usable = usable;
         count = ap length blocks ∙ long;
         once = subst P (sym blocks) taken.once;
-        unowned = subst Q (sym blocks) (taken.unowned (map_place ∷ owners l) map-old);
+        unowned = subst Q (sym blocks) (λ p c own. taken.unowned all map-old p c (owned-in p own));
         header = (h.0 ∙ taken.header.0 ∙ ap (take 4) read, h.1 ∙ taken.header.1 ∙ ap (drop 144) read);
         bytes = bytes ∙ room.bytes ∙ ap (sector img) (sym place);
       }
@@ -89,14 +98,14 @@ module _ (img : Image) (l : Layout) (clean : IsCleanLayout img l) (old mid : Sec
 
   -- which sectors of track 18 are free hasn't changed
   still-free : (q : Place) → q.track ≡ 18 → IsFree (sector img map_place) q → IsFree mid q
-  still-free q on is = (map-mid.marked q).1 (λ c. elim (Contains-append_cases ps (map_place ∷ owners l) q c) [
+  still-free q on is = (map-mid.marked q).1 (λ c. elim (Contains-append_cases ps all q c) [
     | inl d ↦ taken.off q d on
-    | inr own ↦ set-free (sector img map_place) (map_place ∷ owners l) q clean.map is own
+    | inr own ↦ set-free (sector img map_place) all q usable.1.map is own
   ])
 
   was-free : (q : Place) → IsFree mid q → IsFree (sector img map_place) q
-  was-free q is = (clean.map.marked q).1 (λ own. set-free mid (ps ++ map_place ∷ owners l) q map-mid is
-      (Contains-append_right ps (map_place ∷ owners l) q own))
+  was-free q is = (usable.1.map.marked q).1 (λ own. set-free mid (ps ++ all) q map-mid is
+      (Contains-append_right ps all q own))
 
   -- a free slot
   pub slot-chosen : (s : Site) (r : Room) (k : ℕ) → ¬ (blocks_free old < count) → s.map.bytes ≡ mid
@@ -104,17 +113,19 @@ module _ (img : Image) (l : Layout) (clean : IsCleanLayout img l) (old mid : Sec
       → IsRoomOf img l r → r.number ≡ Some k → IsSlotSite img l count s × ¬ (HasNoRoomFor img l count)
   slot-chosen s r k enough map blocks place bytes number entry room is =
       let slot = room-slot img l r k room is in
-      let R : Sector → Type 0 = λ x. IsMapOf x (ps ++ map_place ∷ owners l) in
-      let T : List Place → Type 0 = λ qs. IsMapOf s.map.bytes (qs ++ map_place ∷ owners l) in
+      let T : List Place → List Place → Type 0 = λ owned qs. IsMapOf s.map.bytes (qs ++ owned) in
       let F : Place → ℕ → Type 0 = λ p n. (room : IsFirstRoom img l.directory p n)
       × (s.entry ≡ 8 * length room.front + n) in
       let U : Place → Type 0 = λ p. F p k in
       let V : ℕ → Type 0 = F s.place in
-      let before = before-is img l r slot.front slot.back clean.layout room slot.split in
+      let before = before-is img l r slot.front slot.back usable.1.layout room slot.split in
       let at = subst V (sym number) (subst U (sym place) (slot, omega (arith, entry, before))) in (
         record {
           taking = by-header s r blocks bytes place room (ap (take 4) map, ap (drop 144) map);
-          map = subst T (sym blocks) (subst R (sym map) map-mid);
+          map = λ owned is.
+              let R : Sector → Type 0 = λ x. IsMapOf x (ps ++ owned) in
+              let P : List Place → Type 0 = T owned in
+              subst P (sym blocks) (subst R (sym map) (taken.owned owned (at-first owned is)));
           room = at.0;
           entry = at.1;
         },
@@ -133,24 +144,26 @@ module _ (img : Image) (l : Layout) (clean : IsCleanLayout img l) (old mid : Sec
       → IsSectorSite img l count s fresh × ¬ (HasNoRoomFor img l count)
   sector-chosen s r fresh enough blocks place bytes number entry room is on take_it =
       let full = room-none img l r room is in
-      let before = before-is img l r full.front [] clean.layout room full.split in
+      let before = before-is img l r full.front [] usable.1.layout room full.split in
       let now = take_it on.free in
-      let all : List Place = ps ++ map_place ∷ owners l in
-      let out : ¬ (Contains (ps ++ map_place ∷ owners l) fresh) = set-free mid all fresh map-mid on.free in
-      let T : List Place → Type 0 = λ qs. IsMapOf s.map.bytes (fresh ∷ (qs ++ map_place ∷ owners l)) in
+      let out : ¬ (Contains (ps ++ all) fresh) = set-free mid (ps ++ all) fresh map-mid on.free in
       let U : Place → Type 0 = IsFullDirectory img l.directory in
       let site : IsSectorSite img l count s fresh = record {
         taking = by-header s r blocks bytes place room now.rest.header;
-        map = subst T (sym blocks) (taken-map mid s.map.bytes all (fresh ∷ all) fresh map-mid out now
-            (λ q. (λ d. Contains-cases q fresh all d, either fresh q all)));
+        map = λ owned is.
+            let had : IsMapOf mid (ps ++ owned) = taken.owned owned (at-first owned is) in
+            let T : List Place → Type 0 = λ qs. IsMapOf s.map.bytes (fresh ∷ (qs ++ owned)) in
+            subst T (sym blocks) (taken-map mid s.map.bytes (ps ++ owned) (fresh ∷ (ps ++ owned)) fresh had
+            (set-free mid (ps ++ owned) fresh had on.free) now
+            (λ q. (λ d. Contains-cases q fresh (ps ++ owned) d, either fresh q (ps ++ owned))));
         full = subst U (sym place) full;
         lowest = record {
           track = on.track;
           free = was-free fresh on.free;
           first = λ q at below free. on.first q at below (still-free q at free);
         };
-        no_fresh = λ own. out (Contains-append_right ps (map_place ∷ owners l) fresh own);
-        apart = λ c. out (Contains-append_left ps (map_place ∷ owners l) fresh (let W : List Place
+        no_fresh = λ own. out (Contains-append_right ps all fresh (owned-in fresh own));
+        apart = λ c. out (Contains-append_left ps all fresh (let W : List Place
             → Type 0 = λ qs. Contains qs fresh in subst W blocks c));
         number = number;
         entry = omega

@@ -1,4 +1,5 @@
--- A new file's entry leaves a clean image clean, where the map is that of the new owners: in a free slot, or linked.
+-- A new file's entry leaves an image as clean as it was, where the map is that of the new owners: in a free slot, or
+-- linked.
 use Rattle.std.proofs.Common.{◌≡◌, ◌≢◌, List, [], ◌∷◌, ◌++◌, ap, map, subst, sym, ◌∙◌, IsTrue}
 use Rattle.std.specs.List.{AllByRecursion}
 use Rattle.std.specs.Prelude.{Contains, flat_map}
@@ -12,11 +13,12 @@ use Rattle.disk_layout.proofs.lemmas.growth.Commit.{all-join, all-left, all-righ
 use Rattle.disk_layout.proofs.lemmas.layouts.Agree.{owned-side}
 use Rattle.disk_layout.proofs.lemmas.layouts.Layouts.{get-contains}
 use Rattle.disk_layout.proofs.lemmas.lists.Once.{Contains-here, Contains-there, flat_map-in}
-use Rattle.disk_layout.specs.Clean.{IsCleanLayout, IsExactFile}
+use Rattle.disk_layout.specs.Clean.{IsExactFile}
 use Rattle.disk_layout.specs.Directory.{map_place}
 use Rattle.disk_layout.specs.Layout.{File, IsLayout, Layout, count_field, file_owns, is_rel, is_rel_type, owners}
 use Rattle.disk_layout.specs.Map.{IsMapOf}
 use Rattle.disk_layout.specs.Side.{side_sector}
+use Rattle.layout_check.specs.Keeping.{IsCleanBut}
 use Rattle.rel_records.proofs.lemmas.creation.Creating.{SameEntry, with_new}
 
 -- the directory sector at p is written, and each entry that was there says what it said
@@ -48,13 +50,13 @@ module _ (a c : Image) (l : Layout) (p : Place) (bytes : Sector) (same : AgreeAt
     exact-all fs (λ g e. sub g (Contains-there g f fs e)) all.1,
   )
 
-  pub still-clean : (ps : List Place) (fs gs : List File) (k : File) → IsCleanLayout a l → l.files ≡ fs ++ gs
+  pub still-clean : (strays ps : List Place) (fs gs : List File) (k : File) → IsCleanBut strays a l → l.files ≡ fs ++ gs
       → IsLayout (put c p bytes) (record { directory = ps; files = with_new (put c p bytes) fs gs k })
       → (IsTrue (is_rel k.slot) → IsExactFile (put c p bytes) k) → p ≢ map_place
       → IsMapOf (sector c map_place)
-      (map_place ∷ owners (record { directory = ps; files = with_new (put c p bytes) fs gs k }))
-      → IsCleanLayout (put c p bytes) (record { directory = ps; files = with_new (put c p bytes) fs gs k })
-  still-clean ps fs gs k clean split layout exact no_map right =
+      (strays ++ map_place ∷ owners (record { directory = ps; files = with_new (put c p bytes) fs gs k }))
+      → IsCleanBut strays (put c p bytes) (record { directory = ps; files = with_new (put c p bytes) fs gs k })
+  still-clean strays ps fs gs k clean split layout exact no_map right =
       let Q : File → Type 0 = λ f. IsTrue (is_rel f.slot) → IsExactFile a f in
       let old = subst (λ ks. AllByRecursion Q ks) split clean.files in
       record {
@@ -63,7 +65,7 @@ module _ (a c : Image) (l : Layout) (p : Place) (bytes : Sector) (same : AgreeAt
             (map (reread (put c p bytes)) fs) (k ∷ map (reread (put c p bytes)) gs)
             (exact-all fs (λ f d. rw split (Contains-append_left fs gs f d)) (all-left Q fs gs old))
             (exact, exact-all gs (λ f d. rw split (Contains-append_right fs gs f d)) (all-right Q fs gs old));
-        map = subst (λ x. IsMapOf x (map_place ∷ owners (record {
+        map = subst (λ x. IsMapOf x (strays ++ map_place ∷ owners (record {
           directory = ps;
           files = with_new (put c p bytes) fs gs k;
         }))) (sym (sector-put_other c p map_place bytes no_map)) right;

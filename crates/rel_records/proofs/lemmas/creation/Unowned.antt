@@ -119,22 +119,22 @@ among X ys ps q = (
 )
 
 -- a new directory sector and places among the others, or before them
-pub among-directory : (dir F ps : List Place) (fresh q : Place) → Contains (fresh ∷ (ps ++ map_place ∷ (dir ++ F))) q
-    ↔ Contains (map_place ∷ (((dir ++ fresh ∷ []) ++ F) ++ (ps ++ []))) q
+pub among-directory : (dir F ps : List Place) (fresh q : Place) → Contains (fresh ∷ (ps ++ (dir ++ F))) q
+    ↔ Contains (((dir ++ fresh ∷ []) ++ F) ++ (ps ++ [])) q
 among-directory dir F ps fresh q =
-    let all : List Place = map_place ∷ ((dir ++ fresh ∷ []) ++ F) in
+    let all : List Place = (dir ++ fresh ∷ []) ++ F in
     let here = among all [] ps q in
-    let shape : ps ++ (all ++ []) ≡ (ps ++ map_place ∷ dir) ++ fresh ∷ F = simp (append_assoc, append-nil) in
-    let back : ps ++ map_place ∷ (dir ++ F) ≡ (ps ++ map_place ∷ dir) ++ F = simp append_assoc in
+    let shape : ps ++ (all ++ []) ≡ (ps ++ dir) ++ fresh ∷ F = simp (append_assoc, append-nil) in
+    let back : ps ++ (dir ++ F) ≡ (ps ++ dir) ++ F = simp append_assoc in
     let P : List Place → Type 0 = λ xs. Contains xs q in (
-      λ c. here.0 (subst P (sym shape) (elim (Contains-cases q fresh (ps ++ map_place ∷ (dir ++ F)) c) [
-        | inl e ↦ (let Q : Place → Type 0 = Contains ((ps ++ map_place ∷ dir) ++ fresh ∷ F) in
-            subst Q e (Contains-append_right (ps ++ map_place ∷ dir) (fresh ∷ F) fresh (Contains-here fresh F)))
-        | inr d ↦ insert-in (ps ++ map_place ∷ dir) F fresh q (subst P back d)
+      λ c. here.0 (subst P (sym shape) (elim (Contains-cases q fresh (ps ++ (dir ++ F)) c) [
+        | inl e ↦ (let Q : Place → Type 0 = Contains ((ps ++ dir) ++ fresh ∷ F) in
+            subst Q e (Contains-append_right (ps ++ dir) (fresh ∷ F) fresh (Contains-here fresh F)))
+        | inr d ↦ insert-in (ps ++ dir) F fresh q (subst P back d)
       ])),
-      λ c. elim (insert-out (ps ++ map_place ∷ dir) F fresh q (subst P shape (here.1 c))) [
-        | inl e ↦ (let Q : Place → Type 0 = Contains (fresh ∷ (ps ++ map_place ∷ (dir ++ F))) in
-            subst Q e (Contains-here fresh (ps ++ map_place ∷ (dir ++ F))))
-        | inr d ↦ Contains-there q fresh (ps ++ map_place ∷ (dir ++ F)) (subst P (sym back) d)
+      λ c. elim (insert-out (ps ++ dir) F fresh q (subst P shape (here.1 c))) [
+        | inl e ↦ (let Q : Place → Type 0 = Contains (fresh ∷ (ps ++ (dir ++ F))) in
+            subst Q e (Contains-here fresh (ps ++ (dir ++ F))))
+        | inr d ↦ Contains-there q fresh (ps ++ (dir ++ F)) (subst P (sym back) d)
       ],
     )

@@ -1,6 +1,7 @@
 -- A creation keeps files whole: before the entry is written, and after.
 use Rattle.std.proofs.Common.{◌≡◌, ◌≢◌, ℕ, ◌≤◌, inl, inr, List, ◌++◌, map, length, sym, ◌∙◌, ap, ap₂, arith}
 use Rattle.std.proofs.Common.{subst, slice_index, IsTrue}
+use Rattle.std.specs.List.{AllByRecursion}
 use Rattle.std.proofs.lemmas.List.Elements.{Contains-append_cases, Contains-append_left, Contains-append_right}
 use Rattle.std.specs.Prelude.{Contains, Some, flat_map, nat_le, slice_get, ◌&&◌, ◌||◌}
 use Rattle.d64_image.specs.Images.{Image, Sector, put, sector}
@@ -11,10 +12,10 @@ use Rattle.disk_layout.proofs.lemmas.layouts.Agree.{owned-block, owned-side}
 use Rattle.disk_layout.proofs.lemmas.layouts.Frames.{unless-same}
 use Rattle.disk_layout.proofs.lemmas.layouts.Layouts.{IsLayout-one, get-contains}
 use Rattle.disk_layout.proofs.lemmas.lists.Lists.{contains-get}
-use Rattle.disk_layout.proofs.lemmas.lists.Once.{flat_map-in, insert-out, map-in}
-use Rattle.disk_layout.proofs.lemmas.whole.Files.{AreExact, HasEnd, clean-exact, exact-ends, none-behind, not-zeros}
+use Rattle.disk_layout.proofs.lemmas.lists.Once.{all-in, flat_map-in, insert-out, map-in}
+use Rattle.disk_layout.proofs.lemmas.whole.Files.{AreExact, HasEnd, exact-ends, none-behind, not-zeros}
 use Rattle.disk_layout.proofs.lemmas.whole.Files.{rel-not-plain}
-use Rattle.disk_layout.specs.Clean.{IsCleanLayout}
+use Rattle.disk_layout.specs.Clean.{IsExactFile}
 use Rattle.disk_layout.specs.Layout.{File, IsLayout, Layout, count_field, file_owns, is_rel, is_rel_type, owners}
 use Rattle.disk_layout.specs.Listed.{is_plain}
 use Rattle.disk_layout.specs.Whole.{IsWhole, IsWholeFile}
@@ -43,20 +44,29 @@ exact-long img m now exact long k' is' =
       ended = λ t q last zeros. (long y (get-contains m.files k y there)).1 t q last zeros;
     })
 
--- what the layout of a clean image owns is as it was
-pub before-whole : (a c : Image) (l : Layout) → IsCleanLayout a l → IsLayout c l → AgreeAt a c (owners l) → IsWhole a
-    → IsWhole c
-before-whole a c l clean now same w = exact-long c l now exact long
+-- these files have exact side sectors, if they are relative
+abbrev pub AreExactFiles : Image → List File → Type 0
+AreExactFiles img fs = AllByRecursion (λ f. IsTrue (is_rel f.slot) → IsExactFile img f) fs
+
+exact-sides : (img : Image) (m : Layout) (k : ℕ) (y : File) → AreExactFiles img m.files
+    → slice_get m.files k ≡ Some y → IsTrue (is_rel y.slot) → AreExact img y
+exact-sides img m k y exact at rel j q there =
+    (all-in _ m.files y exact (get-contains m.files k y at) rel).sides j q there
+
+-- what the layout of an image with exact files owns is as it was
+pub before-whole : (a c : Image) (l : Layout) → IsLayout a l → AreExactFiles a l.files → IsLayout c l
+    → AgreeAt a c (owners l) → IsWhole a → IsWhole c
+before-whole a c l was clean now same w = exact-long c l now exact long
   where
     exact : (k : ℕ) (y : File) → slice_get l.files k ≡ Some y → IsTrue (is_rel y.slot) → AreExact c y
     exact k y there rel j q at =
         sym (same q (owned-side l y q (get-contains l.files k y there) (get-contains y.sides j q at)))
-        ∙ clean-exact a l k y clean there rel j q at
+        ∙ exact-sides a l k y clean there rel j q at
 
     long : (y : File) → Contains l.files y → IsLong c y
     long y on =
         let (i, there) = contains-get l.files y on in
-        let old = w l clean.layout i y there in (
+        let old = w l was i y there in (
           old.counted,
           λ t q last zeros. old.ended t q last
               (same q (owned-block l y q on (get-contains y.blocks _ q last)) ∙ zeros),
@@ -74,12 +84,12 @@ fresh-long b s block side u L rel fresh = (
       absurd (omega (arith, fresh.index, at)))),
 )
 
--- The entry of a new file, whose count and end are right, was written into the sector at p: the image is clean, and no
+-- The entry of a new file, whose count and end are right, was written into the sector at p: the files are exact, and no
 -- other entry changed its type or its count.
 module _ (a c : Image) (p : Place) (bytes : Sector) (l m : Layout) (fs gs : List File) (k : File)
     (is : IsLayout a l) (split : l.files ≡ fs ++ gs)
     (files : m.files ≡ with_new (put c p bytes) fs gs k)
-    (clean : IsCleanLayout (put c p bytes) m) (same : AgreeAt a c (owners l))
+    (sound : IsLayout (put c p bytes) m) (exact : AreExactFiles (put c p bytes) m.files) (same : AgreeAt a c (owners l))
     (off : ¬ (Contains (flat_map file_owns l.files) p))
     (stays : (f : File) → Contains l.files f → SameEntry f.slot (reslot (put c p bytes) f.slot)
     × (count_field (reslot (put c p bytes) f.slot) ≡ count_field f.slot))
@@ -120,5 +130,5 @@ module _ (a c : Image) (p : Place) (bytes : Sector) (l m : Layout) (fs gs : List
       ]
 
   pub more-whole : IsWhole (put c p bytes)
-  more-whole = exact-long (put c p bytes) m clean.layout
-      (λ k y there. clean-exact (put c p bytes) m k y clean there) long
+  more-whole = exact-long (put c p bytes) m sound
+      (λ k y there. exact-sides (put c p bytes) m k y exact there) long

@@ -6,6 +6,7 @@ use Rattle.drive_channels.proofs.open_files.OpenFiles.make.Goals as goal
 use Rattle.drive_channels.specs.Inside.{channel_at}
 use Rattle.drive_channels.specs.declared.open_file.Position.{Position}
 use Rattle.drive_channels.specs.declared.status.Status.TheVariants as statuses
+use Rattle.rel_records.proofs.lemmas.Usable.{clean-usable}
 use Rattle.rel_records.specs.File.{entry_of}
 use Rattle.rel_records.specs.declared.faults.RelFault.{RelFault}
 use Rattle.rel_records.specs.declared.faults.RelFault.TheVariants as faults
@@ -41,7 +42,7 @@ returns-in-Ok g c =
           (makes-of _ _ clean.0 c.args.name.now c.args.size c.in-Ok.file clean.1.layout made)
           (ap₂ (λ (v : RelFile) (s : Position). Some (channel_at (entry_of v) s)) c.new.ensures.file c.first.ensures) refl;
       known = known-made _ _ clean.0 c.args.name.now c.args.size c.in-Ok.file c.new.result c.first.result c.args.channel
-          made
+          clean.1 made
           ((c.in-Ok.ensures.refuses.layout clean.0 clean.1.layout).fits).1 c.new.ensures.file c.new.ensures.name
           c.requires.name c.first.ensures
           c.requires.channel.low c.requires.channel.high c.args.self.now.checked c.requires.checked;
@@ -99,7 +100,7 @@ returns-in_default g c =
 
 pub create-requires : goal.create-requires
 create-requires g c = record {
-  clean = (c.requires.known.remembered c.requires.checked).clean;
+  usable = clean-usable (g.D.Sectors.history.image c.args.disk.now) (c.requires.known.remembered c.requires.checked).clean;
   name = c.requires.name.high;
   low = c.requires.size.low;
   high = c.requires.size.high;
