@@ -1,5 +1,5 @@
 //! Places for the first side sectors of relative entries that name none.
-ghost use Rattle.std.specs.Prelude.{◌≡◌, ◌≤◌, ◌<◌, IsTrue, Some};
+ghost use Rattle.std.specs.Prelude.{◌≡◌, ◌≤◌, ◌<◌, IsTrue, Some, false};
 ghost use Rattle.d64_image.specs.Memory.{disk_image};
 ghost use Rattle.d64_image.specs.Offsets.{overwritten};
 ghost use Rattle.d64_image.specs.declared.place.Place as places;
@@ -56,6 +56,7 @@ fn side_to_name(before: &mut MemDisk, slot: &Slot, plan: &mut Plan) -> Option<Pl
 pub fn name_sides(before: &mut MemDisk, after: &mut MemDisk) -> bool
     requires copy { disk_image after.old ≡ disk_image before.old }
     ensures named { IsTrue result → NamesSides (disk_image before.old) (disk_image after.new) }
+    ensures stays { result ≡ false → disk_image after.new ≡ disk_image after.old }
     ensures same { disk_image before.new ≡ disk_image before.old }
 {
     let mut slots = ArrayVec::new();

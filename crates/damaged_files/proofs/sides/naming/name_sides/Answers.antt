@@ -1,5 +1,6 @@
 -- Entry by entry.
 use Rattle.std.proofs.Common.{◌≡◌, ◌<◌, ◌∷◌, [], List, ap, length, refl, subst, sym, ◌∙◌}
+use Rattle.std.proofs.lemmas.Bool.{false≢true}
 use Rattle.std.proofs.lemmas.Option.{slice_get_read}
 use Rattle.std.specs.Prelude.{Contains}
 use Rattle.d64_image.specs.Images.{Image}
@@ -20,7 +21,7 @@ low img ss all s (ps, is) same c =
     (slot-there img ps s (subst (λ (xs : List Slot). Contains xs s) (same ∙ is.slots) c)).1
 
 pub loop-slot-init : goal.loop-slot-init
-loop-slot-init c = record { before = c.begin_plan.ensures.same; named = []; each = tt; after = c.requires.copy }
+loop-slot-init c = record { before = c.begin_plan.ensures.same; named = []; each = tt; after = c.requires.copy; stays = λ e. refl }
 
 pub put_name-requires : goal.put_name-requires
 put_name-requires c =
@@ -44,12 +45,14 @@ loop-slot-preserved c =
             named = (s, q) ∷ old.named;
             each = ((get-contains all _ s here, c.side_to_name.ensures.none q w.in-Some-side_to_name.is), old.each);
             after = ap (λ d. disk_image d) w.after-is ∙ w.put_name.ensures ∙ ap (λ (i : Image). with_side i s q) old.after;
+            stays = λ e. absurd (false≢true (sym e ∙ w.any-is));
           }
       | in_default-side_to_name w ↦ record {
         before = c.side_to_name.ensures.same ∙ old.before;
         named = old.named;
         each = old.each;
         after = ap (λ d. disk_image d) w.after-is ∙ old.after;
+        stays = λ e. ap (λ d. disk_image d) w.after-is ∙ old.stays (sym w.any-is ∙ e);
       }
     ]
 

@@ -1,4 +1,4 @@
-use Rattle.std.proofs.Common.{◌≡◌, List}
+use Rattle.std.proofs.Common.{◌≡◌, List, false}
 use Rattle.std.specs.List.{AllByRecursion}
 use Rattle.std.specs.Prelude.{Contains}
 use Rattle.d64_image.specs.Memory.{disk_image}
@@ -13,4 +13,5 @@ invariant-loop-slot l = record {
   named : List (Slot × Place);
   each : AllByRecursion (λ e. Contains l.slot-items e.0 × NamesNoSide e.0) named;
   after : disk_image l.after ≡ with_sides (disk_image l.fn.before) named;
+  stays : l.any ≡ false → disk_image l.after ≡ disk_image l.fn.after;
 }
