@@ -8,3 +8,4 @@ pub mod Printing
 pub mod ReachedRecords
 pub mod SoundDirectory
 pub mod SoundRecords
+pub mod WholeFiles

@@ -5,3 +5,4 @@ pub mod Forms
 pub mod Found
 pub mod Printed
 pub mod Records
+pub mod Whole

@@ -12,6 +12,7 @@ mod record_printing;
 // What can be rescued of the files of a disk, written to a folder that is new.
 mod rescue;
 mod unclosed_records;
+mod whole_files;
 
 pub use byte_printing::bytes_image;
 pub use chains::{print_bytes, read_file};
@@ -29,3 +30,4 @@ pub use rescue::mem_folder::{MemFile, MemFolder};
 pub use rescue::rescuing::Rescued;
 pub use rescue::rows::Row;
 pub use unclosed_records::unclosed_records_image;
+pub use whole_files::whole_file;
