@@ -172,8 +172,8 @@ def wanted_circles(disk, verdict):
              if any(is_open(disk, place) for place in PLACES if place[0] == track)]
     fault = []
     if fault_of(verdict):
-        place = fault_place(verdict)
-        fault = [["f", RINGS[place], ("class", "edge"), verdict], ["f", RINGS[place], ("class", "fault"), verdict],
+        place, told = fault_place(verdict), verdict.splitlines()[0]
+        fault = [["f", RINGS[place], ("class", "edge"), told], ["f", RINGS[place], ("class", "fault"), told],
                  ["f", ring(place, 35700), ("class", "fault"), None]]
     return [wanted_circle(disk, place) for place in places] + lines + fault
 
@@ -191,7 +191,7 @@ def white_line(disk, track):
 
 
 def fault_place(verdict):
-    found = FAULT.fullmatch(verdict)
+    found = FAULT.fullmatch(verdict.splitlines()[0])
     want(found, f"the verdict {verdict!r}")
     return int(found[2]), int(found[3])
 
@@ -240,7 +240,7 @@ class Bench:
         tracks = disk.map_lines(fault)
         for line, wanted in zip(lines, tracks):
             want(line == wanted, f"{line} in the map in place of {wanted}")
-        want(len(lines) == len(tracks) + len(disk.entries) + 1 and lines[-1] == verdict, f"the map ends in {lines[-1]}")
+        want(lines[len(tracks) + len(disk.entries):] == verdict.splitlines(), f"the map ends in {lines[-1]}")
         for number, (line, entry) in enumerate(zip(lines[len(tracks):], disk.entries)):
             want(re.match(f'{disk.mark_of_entry(number)} \\d+ "{re.escape(entry.name)}" ', line), f"{entry.name}'s line is {line}")
 

@@ -41,9 +41,9 @@ def fault_of(verdict):
 
 
 def verdict_of(lines):
-    """What a picture tells, by these lines of a check of the image and the image again: the fault, or SHORT, or OK."""
-    told = [line.rsplit(": ", 1)[1] for line in lines]
-    return told[-1] if told[0] == "OK" else told[0]
+    """What a picture tells, by these lines of a check of the image and the image again: the fault and SHORT, a line each, or OK."""
+    told = [line.rsplit(": ", 1)[1] for line in lines[:len(lines) // 2]]
+    return "\n".join(told[1:] if told[0] == "OK" and told[1:] else told)
 
 
 def html(text):
@@ -100,7 +100,8 @@ class Page:
         if not self.fault:
             return ""
         rim = arc(35700, sectors_on(self.fault[0])) - 200
-        marks = "".join(f'{ring(self.fault)} class="{name}"><title>{self.verdict}</title></circle>\n' for name in ("edge", "fault"))
+        told = self.verdict.splitlines()[0]
+        marks = "".join(f'{ring(self.fault)} class="{name}"><title>{told}</title></circle>\n' for name in ("edge", "fault"))
         return f'<g id="f">\n{marks}{ring(self.fault, 35700)} stroke-dasharray="{rim} 300000" class="fault"/>\n</g>\n'
 
     def drawing(self):
@@ -129,7 +130,8 @@ class Page:
         ends = f"{len(self.disk.entries)} files, {free} of 664 blocks free"
         if self.sound:
             return f"Sound: {ends}"
-        word, place = self.verdict.split()
+        (word, place), *more = map(str.split, self.verdict.splitlines())
+        ends = "".join(f"a file is cut short at sector {where}; " for _, where in more) + ends
         owners = self.owners(self.fault)
         if word == "OWNEDTWICE" and len(owners) > 1:
             first, second = (self.owner_named(owner) for owner in owners[:2])
@@ -166,8 +168,11 @@ class Page:
     def line(self, number):
         """The line of an entry on the poster."""
         entry = self.disk.entries[number]
-        column, line = number // 36 % 4, number % 36
-        return (f'<svg x="{20 + 65 * column}" y="{306 + 3 * line}" width="63" height="3"><path class="{look(number)}" d="M0 1.5h3"/>'
+        count = len(self.disk.entries)
+        times = 3 if count <= 12 else 2 if count <= 36 else 1
+        column, line = divmod(number, 36 // times)
+        return (f'<svg x="{20 + 65 * times * column}" y="{306 + 3 * times * line}" width="{63 * times}" height="{3 * times}" '
+                f'viewBox="0 0 63 3"><path class="{look(number)}" d="M0 1.5h3"/>'
                 f'<text class="e" x="10" y="2.3">{entry.count}</text><text x="11.5" y="2.3">{entry.type_text("&lt;")}</text>'
                 f'<g transform="translate(19)" clip-path="url(#n)"><text y="2.3">{html(entry.shown)}</text></g>'
                 f'<text x="41.5" y="2.3">{html(entry.signs)}</text></svg>\n')

@@ -76,7 +76,7 @@ class Wanted:
 
     def __init__(self, name, image, lines):
         self.disk = Disk(image)
-        self.verdict = lines[-1]
+        self.verdict = lines[-2] if fault_of(lines[-2]) else lines[-1]
         self.fault = fault_of(self.verdict)
         tracks = self.disk.map_lines(self.fault)
         for line, wanted in zip(lines, tracks):

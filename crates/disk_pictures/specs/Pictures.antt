@@ -184,7 +184,7 @@ fault_group (Some f) = fault_sector f
 -- the page's style
 unfoldable pub style : List ℕ
 style = codes
-    ":root{color-scheme:light dark}body{margin:24px;background:#fbfaf7;color:#222;font:14px/1.4 ui-monospace,Menlo,Consolas,\"DejaVu Sans Mono\",monospace}h1{font-size:20px;margin:0}h1,p{overflow-wrap:anywhere}bdi:not(:empty){margin-left:2ch}p{margin:4px 0 12px}a{color:inherit}main{display:grid;gap:16px 32px;grid-template-columns:minmax(0,720px) minmax(0,1fr)}main>div{max-height:calc(100vh - 130px);overflow:auto}main>svg{width:100%;height:auto}table{border-collapse:collapse}td,th{padding:1px 8px;text-align:right;white-space:pre}tr>:nth-child(3),tr>:nth-child(4){text-align:left}td a{display:inline-block;max-width:20ch;overflow:hidden;text-overflow:ellipsis;vertical-align:bottom;text-decoration:none}td a:hover,td a:focus{max-width:none;text-decoration:underline}ul{list-style:none;padding:0;margin:0 0 12px}li{margin:0 0 2px}i{display:inline-block;box-sizing:border-box;width:12px;height:12px;margin:0 6px 0 0;background:currentColor;background-clip:content-box;vertical-align:-1px;forced-color-adjust:none}.bad b{color:#b00000}.good b{color:#17692b}circle{fill:none;stroke-width:700}.w1 circle{stroke-width:540}.w2 circle{stroke-width:390}i.w1{padding:1.5px 0}i.w2{padding:3px 0}i.w3{padding:0 4px}text{font:1100px ui-monospace,Menlo,Consolas,\"DejaVu Sans Mono\",monospace;fill:#444;text-anchor:middle}.n{pointer-events:none;fill:none;stroke:#444;stroke-width:120}.n text{paint-order:stroke;stroke:#fbfaf7;stroke-width:300}.free{stroke:#e8e4d9}.lost{stroke:#9898aa}.map{stroke:#161616}.dir{stroke:#5e5e5e}.edge{stroke:#fff;stroke-width:1500}.fault{stroke:#d40000;stroke-width:1100}.open circle{stroke:#fff;stroke-width:200;pointer-events:none}.free i{color:#e8e4d9}.lost i{color:#9898aa}.map i{color:#161616}.dir i{color:#5e5e5e}.fault i{color:#d40000}.side i{background:linear-gradient(90deg,#999 50%,#444 50%)}.open i{background:linear-gradient(#999 40%,#fff 40%,#fff 60%,#999 60%)}.c0{stroke:#8c8259;color:#8c8259}.c0 .s{stroke:#4d4831}.c1{stroke:#1c9182;color:#1c9182}.c1 .s{stroke:#0f5048}.c2{stroke:#4b75ff;color:#4b75ff}.c2 .s{stroke:#29408c}.c3{stroke:#e320ba;color:#e320ba}.c3 .s{stroke:#7d1266}.c4{stroke:#406c83;color:#406c83}.c4 .s{stroke:#233b48}.c5{stroke:#716046;color:#716046}.c5 .s{stroke:#3e3526}.c6{stroke:#3a4353;color:#3a4353}.c6 .s{stroke:#20252e}.c7{stroke:#4a3934;color:#4a3934}.c7 .s{stroke:#291f1d}.c8{stroke:#0c0bca;color:#0c0bca}.c8 .s{stroke:#07066f}.c9{stroke:#5d0476;color:#5d0476}.c9 .s{stroke:#330241}.c10{stroke:#630a00;color:#630a00}.c10 .s{stroke:#360600}.c11{stroke:#041c33;color:#041c33}.c11 .s{stroke:#020f1c}g:target circle{stroke-width:800}svg:has(g:target) g g:not(:target):not(#f){opacity:.15}.all{visibility:hidden}main:has(g:target) .all{visibility:visible}main:not(:has(circle.free)) li.free{display:none}main:not(:has(circle.lost)) li.lost{display:none}main:not(:has(circle.s)) li.side{display:none}main:not(:has(.open circle)) li.open{display:none}main:not(:has(circle.fault)) li.fault{display:none}@media(max-width:900px){body{margin:12px}main{display:block}main>div{max-height:none}}@media screen and (prefers-color-scheme:dark){body{background:#15171b;color:#e6e6e6}text{fill:#c8c8c8}.n{stroke:#c8c8c8}.n text{stroke:#15171b}.free{stroke:#2a2d34}.lost{stroke:#a29c93}.map{stroke:#fff}.dir{stroke:#9aa0aa}.edge{stroke:#15171b}.fault{stroke:#ff4a3d}.bad b{color:#ff7a70}.good b{color:#6fd08c}.free i{color:#2a2d34}.lost i{color:#a29c93}.map i{color:#fff}.dir i{color:#9aa0aa}.fault i{color:#ff4a3d}.c0{stroke:#627c6e;color:#627c6e}.c0 .s{stroke:#b0beb6}.c1{stroke:#85748f;color:#85748f}.c1 .s{stroke:#c2bac7}.c2{stroke:#aa46f5;color:#aa46f5}.c2 .s{stroke:#d4a2fa}.c3{stroke:#2fa067;color:#2fa067}.c3 .s{stroke:#97d0b3}.c4{stroke:#7b92c5;color:#7b92c5}.c4 .s{stroke:#bdc8e2}.c5{stroke:#2fcd81;color:#2fcd81}.c5 .s{stroke:#97e6c0}.c6{stroke:#96baff;color:#96baff}.c6 .s{stroke:#cadcff}.c7{stroke:#d2bf02;color:#d2bf02}.c7 .s{stroke:#e8df80}.c8{stroke:#c9c5be;color:#c9c5be}.c8 .s{stroke:#e4e2de}.c9{stroke:#c4d2e6;color:#c4d2e6}.c9 .s{stroke:#e2e8f2}.c10{stroke:#a5fdbe;color:#a5fdbe}.c10 .s{stroke:#d2fede}.c11{stroke:#fff700;color:#fff700}.c11 .s{stroke:#fffb80}}@page{size:A4;margin:10mm}@media print{*{print-color-adjust:exact;-webkit-print-color-adjust:exact}body{margin:0;font-size:10px}main{display:block}main>svg{display:block;width:130mm;margin:0 auto}main>div{max-height:none;overflow:visible;columns:90mm;font-size:7px;line-height:1.15}main>div:has(tr:nth-child(81)){columns:60mm}main>div:has(tr:nth-child(81)) bdi{display:none}td,th{padding:0 3px}i{width:9px;height:7px}i.w1{padding:1px 0}i.w2{padding:2px 0}i.w3{padding:0 3px}tr:first-child{break-after:avoid}.hint,.all{display:none}}"
+    ":root{color-scheme:light dark}body{margin:24px;background:#fbfaf7;color:#222;font:14px/1.4 ui-monospace,Menlo,Consolas,\"DejaVu Sans Mono\",monospace}h1{font-size:20px;margin:0}h1,p{overflow-wrap:anywhere}bdi:not(:empty){margin-left:2ch}p{margin:4px 0 12px}a{color:inherit}main{display:grid;gap:16px 32px;grid-template-columns:minmax(0,720px) minmax(0,1fr)}main>div{max-height:calc(100vh - 130px);overflow:auto}main>svg{width:100%;height:auto}table{border-collapse:collapse}td,th{padding:1px 8px;text-align:right;white-space:pre}tr>:nth-child(3),tr>:nth-child(4){text-align:left}td a{display:inline-block;max-width:20ch;overflow:hidden;text-overflow:ellipsis;vertical-align:bottom;text-decoration:none}td a:hover,td a:focus{max-width:none;text-decoration:underline}ul{list-style:none;padding:0;margin:0 0 12px}li{margin:0 0 2px}i{display:inline-block;box-sizing:border-box;width:12px;height:12px;margin:0 6px 0 0;background:currentColor;background-clip:content-box;vertical-align:-1px;forced-color-adjust:none}.bad b{color:#b00000}.good b{color:#17692b}circle{fill:none;stroke-width:700}.w1 circle{stroke-width:540}.w2 circle{stroke-width:390}i.w1{padding:1.5px 0}i.w2{padding:3px 0}i.w3{padding:0 4px}text{font:1100px ui-monospace,Menlo,Consolas,\"DejaVu Sans Mono\",monospace;fill:#444;text-anchor:middle}.n{pointer-events:none;fill:none;stroke:#444;stroke-width:120}.n text{paint-order:stroke;stroke:#fbfaf7;stroke-width:300}.free{stroke:#e8e4d9}.lost{stroke:#9898aa}.map{stroke:#161616}.dir{stroke:#5e5e5e}.edge{stroke:#fff;stroke-width:1500}.fault{stroke:#d40000;stroke-width:1100}.open circle{stroke:#fff;stroke-width:200;pointer-events:none}.free i{color:#e8e4d9}.lost i{color:#9898aa}.map i{color:#161616}.dir i{color:#5e5e5e}.fault i{color:#d40000}.side i{background:linear-gradient(90deg,#999 50%,#444 50%)}.open i{background:linear-gradient(#999 40%,#fff 40%,#fff 60%,#999 60%)}.c0{stroke:#8c8259;color:#8c8259}.c0 .s{stroke:#4d4831}.c1{stroke:#1c9182;color:#1c9182}.c1 .s{stroke:#0f5048}.c2{stroke:#4b75ff;color:#4b75ff}.c2 .s{stroke:#29408c}.c3{stroke:#e320ba;color:#e320ba}.c3 .s{stroke:#7d1266}.c4{stroke:#406c83;color:#406c83}.c4 .s{stroke:#233b48}.c5{stroke:#716046;color:#716046}.c5 .s{stroke:#3e3526}.c6{stroke:#3a4353;color:#3a4353}.c6 .s{stroke:#20252e}.c7{stroke:#4a3934;color:#4a3934}.c7 .s{stroke:#291f1d}.c8{stroke:#0c0bca;color:#0c0bca}.c8 .s{stroke:#07066f}.c9{stroke:#5d0476;color:#5d0476}.c9 .s{stroke:#330241}.c10{stroke:#630a00;color:#630a00}.c10 .s{stroke:#360600}.c11{stroke:#041c33;color:#041c33}.c11 .s{stroke:#020f1c}g:target circle{stroke-width:800}svg:has(g:target) g g:not(:target):not(#f){opacity:.15}.all{visibility:hidden}main:has(g:target) .all{visibility:visible}main:not(:has(circle.free)) li.free{display:none}main:not(:has(circle.lost)) li.lost{display:none}main:not(:has(circle.s)) li.side{display:none}main:not(:has(.open circle)) li.open{display:none}main:not(:has(circle.fault)) li.fault{display:none}table:not(:has(td:nth-child(n+5):not(:empty))) :is(td,th):nth-child(n+5){display:none}@media(max-width:900px){body{margin:12px}main{display:block}main>div{max-height:none}}@media screen and (prefers-color-scheme:dark){body{background:#15171b;color:#e6e6e6}text{fill:#c8c8c8}.n{stroke:#c8c8c8}.n text{stroke:#15171b}.free{stroke:#2a2d34}.lost{stroke:#a29c93}.map{stroke:#fff}.dir{stroke:#9aa0aa}.edge{stroke:#15171b}.fault{stroke:#ff4a3d}.bad b{color:#ff7a70}.good b{color:#6fd08c}.free i{color:#2a2d34}.lost i{color:#a29c93}.map i{color:#fff}.dir i{color:#9aa0aa}.fault i{color:#ff4a3d}.c0{stroke:#627c6e;color:#627c6e}.c0 .s{stroke:#b0beb6}.c1{stroke:#85748f;color:#85748f}.c1 .s{stroke:#c2bac7}.c2{stroke:#aa46f5;color:#aa46f5}.c2 .s{stroke:#d4a2fa}.c3{stroke:#2fa067;color:#2fa067}.c3 .s{stroke:#97d0b3}.c4{stroke:#7b92c5;color:#7b92c5}.c4 .s{stroke:#bdc8e2}.c5{stroke:#2fcd81;color:#2fcd81}.c5 .s{stroke:#97e6c0}.c6{stroke:#96baff;color:#96baff}.c6 .s{stroke:#cadcff}.c7{stroke:#d2bf02;color:#d2bf02}.c7 .s{stroke:#e8df80}.c8{stroke:#c9c5be;color:#c9c5be}.c8 .s{stroke:#e4e2de}.c9{stroke:#c4d2e6;color:#c4d2e6}.c9 .s{stroke:#e2e8f2}.c10{stroke:#a5fdbe;color:#a5fdbe}.c10 .s{stroke:#d2fede}.c11{stroke:#fff700;color:#fff700}.c11 .s{stroke:#fffb80}}@page{size:A4;margin:10mm}@media print{*{print-color-adjust:exact;-webkit-print-color-adjust:exact}body{margin:0;font-size:10px}main{display:block}main>svg{display:block;width:130mm;margin:0 auto}main>div{max-height:none;overflow:visible;columns:90mm;font-size:7px;line-height:1.15}main>div:has(tr:nth-child(81)){columns:60mm}main>div:has(tr:nth-child(81)) bdi{display:none}td,th{padding:0 3px}i{width:9px;height:7px}i.w1{padding:1px 0}i.w2{padding:2px 0}i.w3{padding:0 3px}tr:first-child{break-after:avoid}.hint,.all{display:none}}"
 
 -- the dash of each ring: the arc of a sector less 200, and then nothing; and half as long, for entries of the fourth shape
 unfoldable pub dashes : List ℕ

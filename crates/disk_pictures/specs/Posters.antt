@@ -1,7 +1,7 @@
 -- The poster of a disk: an SVG file of its own, 297 by 420 units. All of it is our own. Bytes of the disk stand in it as `show`
 -- shows them, and names also as `signs` does, and in no other way. The poster that is printed shows them by `html_of` and
 -- `petscii_of`.
-use Rattle.std.specs.Prelude.{ℕ, ◌+◌, ◌*◌, ◌/◌, ◌%◌, List, ◌++◌, codes, decimal, slice_range}
+use Rattle.std.specs.Prelude.{ℕ, ◌+◌, ◌*◌, ◌/◌, ◌%◌, List, ◌++◌, codes, decimal, if◌then◌else◌, length, nat_le, slice_range}
 use Rattle.d64_image.specs.Images.{Sector}
 use Rattle.disk_layout.specs.Directory.{type_byte}
 use Rattle.disk_layout.specs.Layout.{File, Layout, count_field}
@@ -42,24 +42,35 @@ unfoldable pub poster_legend : List ℕ
 poster_legend = codes
     "</g>\n<g class=\"n\">\n<text y=\"-34220\">1</text>\n<text y=\"-31020\">5</text>\n<text y=\"-27020\">10</text>\n<text y=\"-23020\">15</text>\n<text y=\"-20620\">18</text>\n<text y=\"-19020\">20</text>\n<text y=\"-15020\">25</text>\n<text y=\"-11020\">30</text>\n<text y=\"-7020\">35</text>\n<path d=\"M300-36250h3000l-600-250m600 250l-600 250\"/>\n</g>\n</svg>\n<svg x=\"20\" y=\"298\" width=\"50\" height=\"4\"><path class=\"map\" d=\"M0 2h3\"/><text x=\"4.5\" y=\"2.8\">map of free sectors</text></svg>\n<svg x=\"56\" y=\"298\" width=\"50\" height=\"4\"><path class=\"dir\" d=\"M0 2h3\"/><text x=\"4.5\" y=\"2.8\">directory</text></svg>\n<svg x=\"84\" y=\"298\" width=\"50\" height=\"4\"><path class=\"free\" d=\"M0 2h3\"/><text x=\"4.5\" y=\"2.8\">free</text></svg>\n<svg x=\"104\" y=\"298\" width=\"50\" height=\"4\"><path class=\"lost\" d=\"M0 2h3\"/><text x=\"4.5\" y=\"2.8\">taken, in no file</text></svg>\n<svg x=\"138\" y=\"298\" width=\"50\" height=\"4\"><path class=\"c0\" d=\"M0 2h1.5\"/><path class=\"side\" d=\"M1.5 2h1.5\"/><text x=\"4.5\" y=\"2.8\">side sectors (right)</text></svg>\n<svg x=\"178\" y=\"298\" width=\"50\" height=\"4\"><path class=\"c0\" d=\"M0 2h3\"/><path class=\"white\" d=\"M0 2h3\"/><text x=\"4.5\" y=\"2.8\">in use, free in the map</text></svg>\n<svg x=\"224\" y=\"298\" width=\"50\" height=\"4\"><path class=\"fault\" d=\"M0 2h3\"/><text x=\"4.5\" y=\"2.8\">the fault</text></svg>\n"
 
--- where the line of entry k stands: 36 lines of 3 units in each of four columns
-abbrev pub line_left : ℕ → ℕ
-line_left k = 20 + 65 * (k / 36 % 4)
+-- where the line of entry k of n stands: up to 12 of 9 units in one column, up to 36 of 6 units in two columns of 18, or
+-- more of 3 units in four columns of 36
+abbrev pub line_left : ℕ → ℕ → ℕ
+line_left n k = if nat_le n 12 then 20 else (if nat_le n 36 then 20 + 130 * (k / 18 % 2) else 20 + 65 * (k / 36 % 4))
 
 -- how far down it stands
-abbrev pub line_top : ℕ → ℕ
-line_top k = 306 + 3 * (k % 36)
+abbrev pub line_top : ℕ → ℕ → ℕ
+line_top n k =
+    if nat_le n 12 then 306 + 9 * (k % 12) else (if nat_le n 36 then 306 + 6 * (k % 18) else 306 + 3 * (k % 36))
 
--- the beginning of the line of entry k: where it stands, and its colour and shape
-unfoldable pub line_start : ℕ → List ℕ
-line_start k =
-    codes "<svg x=\"" ++ (decimal (line_left k) ++ (codes "\" y=\"" ++ (decimal (line_top k)
-    ++ (codes "\" width=\"63\" height=\"3\"><path class=\"" ++ (look k ++ codes "\" d=\"M0 1.5h3\"/>")))))
+-- how wide the line of one of n entries is
+abbrev pub line_width : ℕ → ℕ
+line_width n = if nat_le n 12 then 189 else (if nat_le n 36 then 126 else 63)
 
--- the line of entry k: its block count as stored, its type, its name, and that as a C64 shows it
-unfoldable pub poster_line : Show → Show → ℕ → File → List ℕ
-poster_line show signs k f =
-    line_start k ++ (codes "<text class=\"e\" x=\"10\" y=\"2.3\">" ++ (decimal (count_field f.slot)
+-- and how high
+abbrev pub line_height : ℕ → ℕ
+line_height n = if nat_le n 12 then 9 else (if nat_le n 36 then 6 else 3)
+
+-- the beginning of the line of entry k of n: where it stands, its size, and its colour and shape
+unfoldable pub line_start : ℕ → ℕ → List ℕ
+line_start n k =
+    codes "<svg x=\"" ++ (decimal (line_left n k) ++ (codes "\" y=\"" ++ (decimal (line_top n k)
+    ++ (codes "\" width=\"" ++ (decimal (line_width n) ++ (codes "\" height=\"" ++ (decimal (line_height n)
+    ++ (codes "\" viewBox=\"0 0 63 3\"><path class=\"" ++ (look k ++ codes "\" d=\"M0 1.5h3\"/>")))))))))
+
+-- the line of entry k of n: its block count as stored, its type, its name, and that as a C64 shows it
+unfoldable pub poster_line : Show → Show → ℕ → ℕ → File → List ℕ
+poster_line show signs n k f =
+    line_start n k ++ (codes "<text class=\"e\" x=\"10\" y=\"2.3\">" ++ (decimal (count_field f.slot)
     ++ (codes "</text><text x=\"11.5\" y=\"2.3\">" ++ (type_text (codes "&lt;") (type_byte f.slot)
     ++ (codes "</text><g transform=\"translate(19)\" clip-path=\"url(#n)\"><text y=\"2.3\">" ++ (show (name_of f.slot)
     ++ (codes "</text></g><text x=\"41.5\" y=\"2.3\">" ++ (signs (name_of f.slot) ++ codes "</text></svg>\n"))))))))
@@ -68,7 +79,7 @@ poster_line show signs k f =
 unfoldable pub poster_text : Show → Show → Verdict → Sector → Layout → List ℕ
 poster_text show signs v map l =
     poster_head show signs map ++ (poster_told show v map l ++ (drawing_text show v.found map l ++ (poster_legend
-    ++ (numbered (poster_line show signs) 0 l.files ++ codes "</svg>\n"))))
+    ++ (numbered (poster_line show signs (length l.files)) 0 l.files ++ codes "</svg>\n"))))
 
 -- the poster of a disk
 abbrev pub poster_of : Verdict → Sector → Layout → List ℕ

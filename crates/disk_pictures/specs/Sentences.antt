@@ -93,12 +93,21 @@ abbrev pub sound_text : Option Place → List ℕ
 sound_text None = codes "Sound: "
 sound_text (Some p) = codes "A file is cut short at sector " ++ (place_text p ++ codes "; ")
 
+-- what is said of a fault
+abbrev pub fault_sentence : Show → Layout → Fault → List ℕ
+fault_sentence show l (fault.OwnedTwice p) =
+    shared_text show l p (slice_get (owners_of l p) 0) (slice_get (owners_of l p) 1)
+fault_sentence show l f = words_before f ++ (place_text (place_of f) ++ words_after f)
+
+-- what is said after it: that a file is cut short, if one is
+abbrev pub also_text : Option Place → List ℕ
+also_text None = []
+also_text (Some p) = codes "a file is cut short at sector " ++ (place_text p ++ codes "; ")
+
 -- what a verdict says, as the beginning of a sentence
 abbrev pub sentence_text : Show → Layout → Option Fault → Option Place → List ℕ
 sentence_text show l None cut = sound_text cut
-sentence_text show l (Some (fault.OwnedTwice p)) cut =
-    shared_text show l p (slice_get (owners_of l p) 0) (slice_get (owners_of l p) 1)
-sentence_text show l (Some f) cut = words_before f ++ (place_text (place_of f) ++ words_after f)
+sentence_text show l (Some f) cut = fault_sentence show l f ++ also_text cut
 
 -- and with the number of files and of free blocks as the map counts them
 unfoldable pub summary_text : Show → Verdict → Sector → Layout → List ℕ

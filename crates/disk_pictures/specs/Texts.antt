@@ -46,11 +46,12 @@ abbrev pub is_fault_at : Option Fault → Place → Bool
 is_fault_at None p = false
 is_fault_at (Some f) p = is_place (place_of f) p
 
--- the fault; otherwise where the first file ends that is cut short; otherwise OK
+-- the fault, and on a line of its own where the first file ends that is cut short; OK if there is neither
 abbrev pub verdict_by : Option Fault → Option Place → List ℕ
 verdict_by None None = codes "OK"
 verdict_by None (Some p) = codes "SHORT " ++ place_text p
-verdict_by (Some f) cut = fault_text f
+verdict_by (Some f) None = fault_text f
+verdict_by (Some f) (Some p) = fault_text f ++ (codes "\n" ++ (codes "SHORT " ++ place_text p))
 
 -- the same of a verdict
 abbrev pub verdict_text : Verdict → List ℕ

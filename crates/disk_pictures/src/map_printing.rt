@@ -109,9 +109,9 @@ fn print_map<W: Write>(out: &mut W, verdict: Verdict, drawing: &Drawing) -> Resu
 }
 
 /// Prints which sector is whose, for a terminal: a line for each track, with a mark for each of its sectors, and a line
-/// for each entry. At last stands what a check of the disk reports, which is also the result, or if that is nothing, where the
-/// first file is cut short. A damaged disk is drawn as
-/// far as its links go. The map of a sound disk is that of its layout.
+/// for each entry. At last stands what a check of the disk reports, which is also the result, and on a line of its own where the
+/// first file is cut short, if one is. A damaged disk is drawn as far as its links go. The map of a sound disk is that of
+/// its layout.
 ///
 /// `*` is the map, and `=` the directory. A letter is a block of the entry whose line begins with it, and the capital one
 /// of its side sectors. `.` is free, `?` is taken in the map and of no entry, and `!` is the sector of the fault. With

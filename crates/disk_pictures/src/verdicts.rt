@@ -23,13 +23,14 @@ pub(crate) struct Verdict {
     pub(crate) cut: Option<Place>,
 }
 
-/// The fault, otherwise `SHORT` and that sector, otherwise `OK`.
+/// The fault, and on a line of its own `SHORT` and that sector; `OK` if there is neither.
 impl Display for Verdict {
     ghost output = { λ verdict. Some (verdict_text verdict) };
 
     fn fmt<W: fmt::Write>(&self, f: &mut Formatter<W>) -> fmt::Result {
         match (self.found, self.cut) {
-            (Some(fault), _) => write!(f, "{fault}"),
+            (Some(fault), None) => write!(f, "{fault}"),
+            (Some(fault), Some(place)) => write!(f, "{fault}\n{}", Shortfall::Short(place)),
             (None, Some(place)) => write!(f, "{}", Shortfall::Short(place)),
             (None, None) => f.write_str("OK"),
         }

@@ -18,7 +18,8 @@ use std::io::Write;
 const MARKS: &str =
     "<style>svg>g>g:not(#f):not(.differs){opacity:.4}svg>g>g:target:not(#f){opacity:1}.differs circle{stroke:#000;\
     stroke-width:320;pointer-events:none}.differs i{color:#000;padding:4px 0}td:nth-child(5){text-align:left;\
-    white-space:normal}@media screen and (prefers-color-scheme:dark){.differs circle{stroke:#fff}\
+    white-space:normal}table:not(:has(td))::before{content:\"No file differs.\"}table:not(:has(td)) tr{display:none}\
+    @media screen and (prefers-color-scheme:dark){.differs circle{stroke:#fff}\
     .differs i{color:#fff}}</style>\n<g class=\"differs\">\n";
 
 /// Whether the two disks hold other bytes at a place.

@@ -50,6 +50,7 @@ const STYLE: &str = ":root{color-scheme:light dark}body{margin:24px;background:#
     main:has(g:target) .all{visibility:visible}main:not(:has(circle.free)) li.free{display:none}\
     main:not(:has(circle.lost)) li.lost{display:none}main:not(:has(circle.s)) li.side{display:none}\
     main:not(:has(.open circle)) li.open{display:none}main:not(:has(circle.fault)) li.fault{display:none}\
+    table:not(:has(td:nth-child(n+5):not(:empty))) :is(td,th):nth-child(n+5){display:none}\
     @media(max-width:900px){body{margin:12px}main{display:block}main>div{max-height:none}}\
     @media screen and (prefers-color-scheme:dark){body{background:#15171b;color:#e6e6e6}text{fill:#c8c8c8}\
     .n{stroke:#c8c8c8}.n text{stroke:#15171b}.free{stroke:#2a2d34}.lost{stroke:#a29c93}.map{stroke:#fff}\

@@ -4,7 +4,8 @@ ghost use Rattle.disk_pictures.specs.Drawings.{file_in};
 ghost use Rattle.disk_pictures.specs.Held.{drawn_in};
 ghost use Rattle.disk_pictures.specs.Html.{html_of};
 ghost use Rattle.disk_pictures.specs.Petscii.{petscii_of};
-ghost use Rattle.disk_pictures.specs.Posters.{line_left, line_start, line_top, poster_head, poster_line, poster_told};
+ghost use Rattle.disk_pictures.specs.Posters.{line_height, line_left, line_start, line_top, line_width};
+ghost use Rattle.disk_pictures.specs.Posters.{poster_head, poster_line, poster_told};
 
 use crate::drawing::Drawing;
 use crate::drawn_file::DrawnFile;
@@ -110,34 +111,64 @@ impl Display for Heading<'_> {
     }
 }
 
-/// How far from the left the line of this entry stands.
-fn left(number: usize) -> usize
-    ensures { result ≡ line_left number }
+/// The greatest number of entries whose lines stand in one column, and in two.
+const ONE_COLUMN: usize = 12;
+
+const TWO_COLUMNS: usize = 36;
+
+/// How far from the left the line of this entry stands, one of so many.
+fn left(count: usize, number: usize) -> usize
+    ensures { result ≡ line_left count number }
 {
-    20 + 65 * (number / 36 % 4)
+    match count {
+        0..=ONE_COLUMN => 20,
+        0..=TWO_COLUMNS => 20 + 130 * (number / 18 % 2),
+        _ => 20 + 65 * (number / 36 % 4),
+    }
 }
 
 /// How far from the top it stands.
-fn top(number: usize) -> usize
-    ensures { result ≡ line_top number }
+fn top(count: usize, number: usize) -> usize
+    ensures { result ≡ line_top count number }
 {
-    306 + 3 * (number % 36)
+    match count {
+        0..=ONE_COLUMN => 306 + 9 * (number % 12),
+        0..=TWO_COLUMNS => 306 + 6 * (number % 18),
+        _ => 306 + 3 * (number % 36),
+    }
 }
 
-/// The beginning of the line of the entry with this number.
+/// How wide and how high the line of one of so many entries is.
+fn size(count: usize) -> (usize, usize)
+    ensures width { result.0 ≡ line_width count }
+    ensures height { result.1 ≡ line_height count }
+{
+    match count {
+        0..=ONE_COLUMN => (189, 9),
+        0..=TWO_COLUMNS => (126, 6),
+        _ => (63, 3),
+    }
+}
+
+/// The beginning of the line of an entry.
 #[derive(Clone, Copy)]
-struct LineStart(usize);
+struct LineStart {
+    count: usize,
+    number: usize,
+}
 
 impl Display for LineStart {
-    ghost output = { λ start. Some (line_start start.0) };
+    ghost output = { λ start. Some (line_start start.count start.number) };
 
     fn fmt<W: fmt::Write>(&self, f: &mut Formatter<W>) -> fmt::Result {
+        let (width, height) = size(self.count);
         write!(
             f,
-            "<svg x=\"{}\" y=\"{}\" width=\"63\" height=\"3\"><path class=\"{}\" d=\"M0 1.5h3\"/>",
-            left(self.0),
-            top(self.0),
-            Look(self.0)
+            "<svg x=\"{}\" y=\"{}\" width=\"{width}\" height=\"{height}\" viewBox=\"0 0 63 3\">\
+            <path class=\"{}\" d=\"M0 1.5h3\"/>",
+            left(self.count, self.number),
+            top(self.count, self.number),
+            Look(self.number)
         )
     }
 }
@@ -145,6 +176,8 @@ impl Display for LineStart {
 /// The line of an entry: its block count, its type, and its name, as it is typed and as a C64 shows it.
 #[derive(Clone, Copy)]
 pub(crate) struct Line<'a> {
+    /// How many entries there are.
+    pub count: usize,
     /// The entry's number.
     pub number: usize,
     /// The entry.
@@ -152,7 +185,7 @@ pub(crate) struct Line<'a> {
 }
 
 impl Display for Line<'_> {
-    ghost output = { λ entry. Some (poster_line html_of petscii_of entry.number (file_in entry.file.now)) };
+    ghost output = { λ entry. Some (poster_line html_of petscii_of entry.count entry.number (file_in entry.file.now)) };
 
     fn fmt<W: fmt::Write>(&self, f: &mut Formatter<W>) -> fmt::Result {
         let entry = EntryView::new(&self.file.slot.bytes);
@@ -166,7 +199,10 @@ impl Display for Line<'_> {
             "{}<text class=\"e\" x=\"10\" y=\"2.3\">{}</text><text x=\"11.5\" y=\"2.3\">{kind}</text>\
             <g transform=\"translate(19)\" clip-path=\"url(#n)\"><text y=\"2.3\">{}</text></g>\
             <text x=\"41.5\" y=\"2.3\">{}</text></svg>",
-            LineStart(self.number),
+            LineStart {
+                count: self.count,
+                number: self.number
+            },
             entry.block_count(),
             Html(name),
             Petscii(name)

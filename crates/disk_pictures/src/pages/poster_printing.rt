@@ -1,5 +1,5 @@
 //! The poster of a disk, as an SVG file of its own.
-ghost use Rattle.std.specs.Prelude.{◌≡◌, ◌≢◌, IfErr, IfOk, OnOk, map};
+ghost use Rattle.std.specs.Prelude.{◌≡◌, ◌≢◌, IfErr, IfOk, OnOk, length, map};
 ghost use Rattle.std.specs.Io.KnownBytes.{Appends};
 ghost use Rattle.d64_image.specs.Memory.{sectors_in};
 ghost use Rattle.disk_layout.specs.Layout.{IsLayout, Layout};
@@ -25,11 +25,19 @@ use std::io::Write;
 /// Prints the lines of the entries.
 fn print_lines<W: Write>(out: &mut W, files: &[DrawnFile]) -> Result<(), CommandFault>
     ensures ok { OnOk result (Appends (W.contents out.old) (W.contents out.new)
-        (numbered (poster_line html_of petscii_of) 0 (map file_in files.now))) }
+        (numbered (poster_line html_of petscii_of (length files.now)) 0 (map file_in files.now))) }
     ensures err { IfErr result (λ fault. fault ≡ faults.File) }
 {
     for (number, file) in files.iter().enumerate() {
-        print_text(out, Line { number, file })?;
+        let count = files.len();
+        print_text(
+            out,
+            Line {
+                count,
+                number,
+                file,
+            },
+        )?;
     }
     Ok(())
 }
@@ -54,9 +62,9 @@ fn print_poster<W: Write>(
 }
 
 /// Prints the disk as a poster: an SVG file of its own, 297 by 420 units. It has the drawing of `picture_image`, the
-/// disk's name, what a check reports as a sentence, the meaning of the colours, and the directory in four columns. It has
-/// no script and loads nothing, and names of the disk stand in it only as text. A name longer than its column is cut by
-/// the column's edge. What a check of the disk reports is also the result. A damaged disk is drawn as far as its links
+/// disk's name, what a check reports as a sentence, the meaning of the colours, and the directory in up to four columns: the
+/// fewer entries, the larger are their lines. It has no script and loads nothing, and names of the disk stand in it only
+/// as text. A name longer than its column is cut by the column's edge. What a check of the disk reports is also the result. A damaged disk is drawn as far as its links
 /// go. The poster of a sound disk is that of its layout.
 ///
 /// `ImageSize`; `NoMemory`; `Layout` if the directory's sectors aren't a chain on track 18: nothing was printed then.

@@ -2,8 +2,8 @@
 ghost use Rattle.std.specs.Prelude.{◌≡◌, Some};
 ghost use Rattle.disk_pictures.specs.Held.{drawn_in};
 ghost use Rattle.disk_pictures.specs.Html.{html_of};
-ghost use Rattle.disk_pictures.specs.Sentences.{entry_named, owner_named, sentence_text, shared_text, summary_text};
-ghost use Rattle.disk_pictures.specs.Sentences.{sound_text, words_after, words_before};
+ghost use Rattle.disk_pictures.specs.Sentences.{also_text, entry_named, fault_sentence, owner_named, sentence_text};
+ghost use Rattle.disk_pictures.specs.Sentences.{shared_text, sound_text, summary_text, words_after, words_before};
 
 use crate::drawing::Drawing;
 use crate::html::Html;
@@ -125,21 +125,19 @@ impl Display for Sound {
     }
 }
 
-/// What a verdict says, as the beginning of a sentence.
+/// What is said of a fault.
 #[derive(Clone, Copy)]
-struct Sentence<'a> {
+struct FaultSentence<'a> {
     drawing: &'a Drawing,
-    verdict: Verdict,
+    fault: Fault,
 }
 
-impl Display for Sentence<'_> {
-    ghost output = { λ said. Some (sentence_text html_of (drawn_in said.drawing.now) said.verdict.found
-        said.verdict.cut) };
+impl Display for FaultSentence<'_> {
+    ghost output = { λ said. Some (fault_sentence html_of (drawn_in said.drawing.now) said.fault) };
 
     fn fmt<W: fmt::Write>(&self, f: &mut Formatter<W>) -> fmt::Result {
-        match self.verdict.found {
-            None => write!(f, "{}", Sound(self.verdict.cut)),
-            Some(Fault::OwnedTwice(place)) => {
+        match self.fault {
+            Fault::OwnedTwice(place) => {
                 let drawing = self.drawing;
                 let two = two_owners(drawing, place);
                 write!(
@@ -152,10 +150,45 @@ impl Display for Sentence<'_> {
                     }
                 )
             }
-            Some(fault) => {
+            fault => {
                 let (begin, end) = words_about(fault);
                 write!(f, "{begin}{}{end}", PlaceText(fault.place()))
             }
+        }
+    }
+}
+
+/// What is said after a fault: where the first file is cut short, if one is.
+#[derive(Clone, Copy)]
+struct Also(Option<Place>);
+
+impl Display for Also {
+    ghost output = { λ said. Some (also_text said.0) };
+
+    fn fmt<W: fmt::Write>(&self, f: &mut Formatter<W>) -> fmt::Result {
+        match self.0 {
+            None => Ok(()),
+            Some(place) => write!(f, "a file is cut short at sector {}; ", PlaceText(place)),
+        }
+    }
+}
+
+/// What a verdict says, as the beginning of a sentence.
+#[derive(Clone, Copy)]
+struct Sentence<'a> {
+    drawing: &'a Drawing,
+    verdict: Verdict,
+}
+
+impl Display for Sentence<'_> {
+    ghost output = { λ said. Some (sentence_text html_of (drawn_in said.drawing.now) said.verdict.found
+        said.verdict.cut) };
+
+    fn fmt<W: fmt::Write>(&self, f: &mut Formatter<W>) -> fmt::Result {
+        let (drawing, cut) = (self.drawing, self.verdict.cut);
+        match self.verdict.found {
+            None => write!(f, "{}", Sound(cut)),
+            Some(fault) => write!(f, "{}{}", FaultSentence { drawing, fault }, Also(cut)),
         }
     }
 }

@@ -14,7 +14,8 @@ use Rattle.reached_disk.specs.Names.{disk_name, name_of}
 use Rattle.disk_pictures.specs.Pictures.{block_arc, dashes, drawing_text, file_group, group_head, look}
 use Rattle.disk_pictures.specs.Pictures.{is_blocks, is_sides, legend_text, link_text, own_block, own_side, page_text}
 use Rattle.disk_pictures.specs.Pictures.{ring_of, row_text, side_arc, style, title_text, told_text, verdict_class}
-use Rattle.disk_pictures.specs.Sentences.{named, owner_named, owners_of, sentence_text, shared_text, sound_text, summary_text}
+use Rattle.disk_pictures.specs.Sentences.{also_text, fault_sentence, named, owner_named, owners_of, sentence_text}
+use Rattle.disk_pictures.specs.Sentences.{shared_text, sound_text, summary_text}
 use Rattle.disk_pictures.specs.Texts.{numbered, verdict_text}
 use Rattle.disk_layout.specs.declared.faults.Fault.TheVariants as fault
 use Rattle.disk_pictures.specs.declared.owners.Owner.{Owner}
@@ -96,20 +97,22 @@ module _ (f g : Show) (same : (bytes : List ℕ) → IsSameMarkup (f bytes) (g b
   on-shared l p None b = alike (shared_text f l p None b)
   on-shared l p (Some a) None = alike (shared_text f l p (Some a) None)
 
+  on-fault : (l : Layout) (v : Fault) → IsSameMarkup (fault_sentence f l v) (fault_sentence g l v)
+  on-fault l (fault.OwnedTwice p) = on-shared l p (slice_get (owners_of l p) 0) (slice_get (owners_of l p) 1)
+  on-fault l (fault.BadLink p) = alike _
+  on-fault l (fault.Loop p) = alike _
+  on-fault l (fault.BadType p) = alike _
+  on-fault l (fault.Unclosed p) = alike _
+  on-fault l (fault.BadSide p) = alike _
+  on-fault l (fault.BadLength p) = alike _
+  on-fault l (fault.CountWrong p) = alike _
+  on-fault l (fault.MapWrong p) = alike _
+  on-fault l (fault.Device p) = alike _
+
   on-sentence : (l : Layout) (v : Option Fault) (cut : Option Place)
       → IsSameMarkup (sentence_text f l v cut) (sentence_text g l v cut)
   on-sentence l None cut = alike (sound_text cut)
-  on-sentence l (Some (fault.OwnedTwice p)) cut =
-      on-shared l p (slice_get (owners_of l p) 0) (slice_get (owners_of l p) 1)
-  on-sentence l (Some (fault.BadLink p)) cut = alike _
-  on-sentence l (Some (fault.Loop p)) cut = alike _
-  on-sentence l (Some (fault.BadType p)) cut = alike _
-  on-sentence l (Some (fault.Unclosed p)) cut = alike _
-  on-sentence l (Some (fault.BadSide p)) cut = alike _
-  on-sentence l (Some (fault.BadLength p)) cut = alike _
-  on-sentence l (Some (fault.CountWrong p)) cut = alike _
-  on-sentence l (Some (fault.MapWrong p)) cut = alike _
-  on-sentence l (Some (fault.Device p)) cut = alike _
+  on-sentence l (Some v) cut = before _ _ (also_text cut) (on-fault l v)
 
   pub on-summary : (v : Verdict) (map : Sector) (l : Layout)
       → IsSameMarkup (summary_text f v map l) (summary_text g v map l)

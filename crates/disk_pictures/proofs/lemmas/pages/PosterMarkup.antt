@@ -1,6 +1,6 @@
 -- The markup of a poster is the same, however bytes of the disk are shown, where what is shown has the same markup.
 use Rattle.std.proofs.Common.{ℕ, List}
-use Rattle.std.specs.Prelude.{codes, decimal, slice_range}
+use Rattle.std.specs.Prelude.{codes, decimal, length, slice_range}
 use Rattle.d64_image.specs.Images.{Sector}
 use Rattle.disk_layout.specs.Directory.{type_byte}
 use Rattle.disk_layout.specs.Layout.{File, Layout, count_field}
@@ -39,11 +39,11 @@ module _ (f g : Show) (same : (bytes : List ℕ) → IsSameMarkup (f bytes) (g b
       (behind (codes "</text>\n<svg x=\"23.5\" y=\"44\" width=\"250\" height=\"250\" viewBox=\"-36600 -36600 73200 73200\">\n<svg x=\"-6900\" y=\"-1200\" width=\"13800\" height=\"2400\" viewBox=\"-6900 -1200 13800 2400\"><text class=\"hub\" y=\"400\">") _ _
       (before (f name) (g name) _ (same name)))))))
 
-  on-line : (k : ℕ) (d : File) → IsSameMarkup (poster_line f s k d) (poster_line g u k d)
+  on-line : (n k : ℕ) (d : File) → IsSameMarkup (poster_line f s n k d) (poster_line g u n k d)
   unfolding poster_line
-  on-line k d =
+  on-line n k d =
       let name = name_of d.slot in
-      behind (line_start k) _ _
+      behind (line_start n k) _ _
       (behind (codes "<text class=\"e\" x=\"10\" y=\"2.3\">") _ _
       (behind (decimal (count_field d.slot)) _ _ (behind (codes "</text><text x=\"11.5\" y=\"2.3\">") _ _
       (behind (type_text (codes "&lt;") (type_byte d.slot)) _ _ (behind (codes "</text><g transform=\"translate(19)\" clip-path=\"url(#n)\"><text y=\"2.3\">") _ _
@@ -55,4 +55,5 @@ module _ (f g : Show) (same : (bytes : List ℕ) → IsSameMarkup (f bytes) (g b
   unfolding poster_text
   on-poster v map l = both _ _ _ _ (on-head map) (both _ _ _ _ (on-told v map l)
       (both _ _ _ _ (on-drawing f g same v.found map l)
-      (behind poster_legend _ _ (before _ _ _ (each (poster_line f s) (poster_line g u) on-line 0 l.files)))))
+      (behind poster_legend _ _ (before _ _ _
+      (each (poster_line f s (length l.files)) (poster_line g u (length l.files)) (on-line (length l.files)) 0 l.files)))))

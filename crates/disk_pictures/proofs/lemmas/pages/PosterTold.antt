@@ -8,7 +8,7 @@ use Rattle.disk_pictures.specs.Html.{html_of}
 use Rattle.reached_disk.specs.Names.{disk_name, name_of}
 use Rattle.disk_pictures.specs.Petscii.{petscii_of}
 use Rattle.disk_pictures.specs.Pictures.{look}
-use Rattle.disk_pictures.specs.Posters.{line_left, line_start, line_top, poster_line, poster_told}
+use Rattle.disk_pictures.specs.Posters.{line_height, line_left, line_start, line_top, line_width, poster_line, poster_told}
 use Rattle.disk_pictures.specs.Sentences.{summary_text}
 use Rattle.disk_pictures.specs.declared.verdicts.Verdict.{Verdict}
 use Rattle.reached_disk.specs.Types.{type_text}
@@ -22,18 +22,20 @@ pub heading-written : (v : Verdict) (map : Sector) (l : Layout) (id version name
 unfolding poster_told
 heading-written v map l id version name a b c = rw (a, b, c) refl
 
-pub start-written : (k left top : ℕ) → left ≡ line_left k → top ≡ line_top k
+pub start-written : (n k left top width height : ℕ) → left ≡ line_left n k → top ≡ line_top n k → width ≡ line_width n
+    → height ≡ line_height n
     → codes "<svg x=\"" ++ (decimal left ++ (codes "\" y=\"" ++ (decimal top
-    ++ (codes "\" width=\"63\" height=\"3\"><path class=\"" ++ (look k ++ codes "\" d=\"M0 1.5h3\"/>"))))) ≡ line_start k
+    ++ (codes "\" width=\"" ++ (decimal width ++ (codes "\" height=\"" ++ (decimal height
+    ++ (codes "\" viewBox=\"0 0 63 3\"><path class=\"" ++ (look k ++ codes "\" d=\"M0 1.5h3\"/>"))))))))) ≡ line_start n k
 unfolding line_start
-start-written k left top a b = rw (a, b) refl
+start-written n k left top width height a b c d = rw (a, b, c, d) refl
 
-pub line-written : (k : ℕ) (f : File) (count byte : ℕ) (name : List ℕ)
+pub line-written : (n k : ℕ) (f : File) (count byte : ℕ) (name : List ℕ)
     → count ≡ count_field f.slot → byte ≡ type_byte f.slot → name ≡ name_of f.slot
-    → line_start k ++ (codes "<text class=\"e\" x=\"10\" y=\"2.3\">" ++ (decimal count
+    → line_start n k ++ (codes "<text class=\"e\" x=\"10\" y=\"2.3\">" ++ (decimal count
     ++ (codes "</text><text x=\"11.5\" y=\"2.3\">" ++ (type_text (codes "&lt;") byte
     ++ (codes "</text><g transform=\"translate(19)\" clip-path=\"url(#n)\"><text y=\"2.3\">" ++ (html_of name
     ++ (codes "</text></g><text x=\"41.5\" y=\"2.3\">" ++ (petscii_of name ++ codes "</text></svg>\n"))))))))
-    ≡ poster_line html_of petscii_of k f
+    ≡ poster_line html_of petscii_of n k f
 unfolding poster_line
-line-written k f count byte name a b c = rw (a, b, c) refl
+line-written n k f count byte name a b c = rw (a, b, c) refl

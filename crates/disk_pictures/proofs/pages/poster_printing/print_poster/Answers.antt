@@ -1,5 +1,6 @@
 -- The head, the drawing, the legend, the lines and the end are the poster.
-use Rattle.std.proofs.Common.{List, ℕ, map, subst}
+use Rattle.std.proofs.Common.{List, ℕ, length, map, subst, sym}
+use Rattle.std.proofs.lemmas.List.{length-map}
 use Rattle.std.specs.Prelude.{Option, codes}
 use Rattle.std.specs.Io.KnownBytes.{Appends, Keeps}
 use Rattle.std.proofs.KnownBytes.{Appends-kept, Appends-trans}
@@ -21,7 +22,7 @@ all-printed : (a b c d e f h i : Option (List ℕ)) (v : Verdict) (bytes : Secto
     → Appends a b (poster_head html_of petscii_of bytes)
     → Appends b c (poster_told html_of v bytes l) → Appends c d (drawing_text html_of v.found bytes l)
     → Appends d e poster_legend
-    → Appends e f (numbered (poster_line html_of petscii_of) 0 l.files) → Appends f h (codes "</svg>\n") → Keeps h i
+    → Appends e f (numbered (poster_line html_of petscii_of (length l.files)) 0 l.files) → Appends f h (codes "</svg>\n") → Keeps h i
     → Appends a i (poster_of v bytes l)
 unfolding poster_text
 all-printed a b c d e f h i v bytes l head told drawing legend lines end kept =
@@ -34,8 +35,10 @@ unfolding poster_legend
 returns-clause-ok g c =
     let d = c.args.drawing.now in
     let lines = subst (λ fs. Appends (g.W.Write.contents c.print_text-3.new.out) (g.W.Write.contents c.print_lines.new.out)
-    (numbered (poster_line html_of petscii_of) 0 (map file_in fs))) c.as_slice.ensures.value c.in_ok-print_lines.ensures.ok in
+    (numbered (poster_line html_of petscii_of (length fs)) 0 (map file_in fs))) c.as_slice.ensures.value c.in_ok-print_lines.ensures.ok in
+    let all = subst (λ (n : ℕ). Appends (g.W.Write.contents c.print_text-3.new.out) (g.W.Write.contents c.print_lines.new.out)
+    (numbered (poster_line html_of petscii_of n) 0 (map file_in d.files.items))) (sym (length-map d.files.items file_in)) lines in
     at-ok c.flush.result (all-printed _ _ _ _ _ _ _ _ c.args.verdict d.map (drawn_in d)
     c.in_ok-print_text.ensures.ok
     c.in_ok-print_text-2.ensures.ok
-    c.in_ok-print_drawing.ensures.ok c.in_ok-print_text-3.ensures.ok lines c.in_ok-print_text-4.ensures.ok c.flush.ensures.kept)
+    c.in_ok-print_drawing.ensures.ok c.in_ok-print_text-3.ensures.ok all c.in_ok-print_text-4.ensures.ok c.flush.ensures.kept)

@@ -6,7 +6,7 @@ use Rattle.disk_pictures.proofs.pages.poster.LineDisplay.fmt.Goals as goal
 
 pub returns-clause-writes : goal.returns-clause-writes
 returns-clause-writes g c = λ plain done. has_written_of_eq _ _ _ _ _
-    (line-written c.args.self.now.number (file_in c.args.self.now.file.now) _ _ _
+    (line-written c.args.self.now.count c.args.self.now.number (file_in c.args.self.now.file.now) _ _ _
     (rw c.new-entry.ensures at c.block_count.ensures) (rw c.new-entry.ensures at c.type_byte.ensures)
     c.entry_name-name.ensures.name)
     (c.writeln.ensures.writes plain done)
