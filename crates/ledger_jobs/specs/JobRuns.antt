@@ -23,7 +23,7 @@ use Rattle.image_edits.specs.NewDisks.{IsNewDiskEnd}
 use Rattle.shop_jobs.specs.Formats.{IsFormattedEnd}
 use Rattle.shop_jobs.specs.NewShops.{IsNewShopEnd}
 use Rattle.image_edits.specs.EditRuns.{IsSalvagedFrom, IsCopiedFrom, IsEditOver}
-use Rattle.shop_jobs.specs.KeptServices.{IsServiceKept}
+use Rattle.shop_jobs.specs.KeptServices.{IsPlayKept, IsServiceKept}
 use Rattle.shop_jobs.specs.ServiceEnds.{IsNearEnd}
 use Rattle.shop_jobs.specs.ShopRuns.{IsDryOver, IsLeftPlayed, IsPlayedOverFile, IsPlayedOverLog}
 
@@ -58,7 +58,9 @@ module _ {H F W : Type 0} (g : HostGhosts H F) (r : ReadGhosts F) (s : SeekGhost
   IsJobOver (jobs.Sheet images) old new end = AreDrawnOnSheet rights stands contents host (paths_of images) old new end
   IsJobOver (jobs.Describe form images) old new end = AreDescribed rights stands contents host form (paths_of images) old new end
   IsJobOver (jobs.Several what images) old new end = AreOverviewed rights stands contents host what (paths_of images) old new end
-  IsJobOver (jobs.PlayLogged image script loss) old new end = IsPlayedOverLog rights stands contents host image.now script.now old new end
+  IsJobOver (jobs.PlayLogged image script loss) old new end =
+      IsPlayedOverLog rights stands contents host image.now script.now old new end
+      × IsPlayKept g r s logs folders stands rights traces contents host image.now script.now old new end
   IsJobOver (jobs.Serve image loss) old new end = IsLoggedService contents (IsShopAt stands host image.now) old new end
       × IsServiceKept g r s logs folders stands rights traces contents (given host) host image.now old new end
   -- `do_trim` does that job

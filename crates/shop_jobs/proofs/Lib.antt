@@ -2,6 +2,8 @@ pub mod Begun
 pub mod DryTold
 pub mod Durably
 pub mod Durables
+pub mod LandedKept
+pub mod LogPlayKept
 pub mod Logged
 pub mod Lasts
 pub mod LoggedTold

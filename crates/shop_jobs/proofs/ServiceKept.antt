@@ -1,60 +1,36 @@
 -- What a service left of its log and of the folder, from how its lines were served and its log was landed.
-use Rattle.std.proofs.Common.{◌≡◌, ◌∙◌, ◌++◌, [], ℕ, Bool, true, false, List, Option, None, Some, Result, Ok, Err, ap, append-nil, inl, inr, length, refl, subst, sym}
-use Rattle.std.specs.Prelude.{IsErr, OnOk, OnSome, option_to_list}
-use Rattle.std.specs.Io.KnownBytes.{Appends, Consumes, IsAtEnd}
-use Rattle.std.proofs.lemmas.Bool.{false≢true}
-use Rattle.std.proofs.lemmas.Option.{none-some, same_Some}
-use Rattle.d64_image.specs.Images.{Image}
-use Rattle.d64_image.specs.Memory.{disk_image, sectors_in}
-use Rattle.d64_image.specs.declared.mem_disk.MemDisk.{MemDisk}
-use Rattle.host_session.specs.declared.runs.event_loop.LoopFault.{LoopFault}
+use Rattle.std.proofs.Common.{◌≡◌, ◌++◌, [], ℕ, Bool, List, Option, Some, Result, Ok, Err, inl, inr, length, refl, subst, sym}
+use Rattle.std.specs.Prelude.{IsErr, OnOk}
+use Rattle.std.specs.Io.KnownBytes.{Appends}
+use Rattle.d64_image.specs.Memory.{sectors_in}
 use Rattle.host_session.specs.events.Telling.{Output}
 use Rattle.host_session.specs.runs.ScriptRuns.{AreToldSo}
 use Rattle.host_session.specs.runs.Chains.{told_in}
-use Rattle.host_session.specs.shop.Shop.{IsSettled, IsShop, Shop, start_of}
+use Rattle.host_session.specs.shop.Shop.{Shop, start_of}
 use Rattle.line_server.specs.Batches.{BatchInput}
 use Rattle.image_log.specs.life.Folders.{FolderHistory}
 use Rattle.image_log.specs.life.LiveLogs.{of_live}
 use Rattle.image_log.specs.declared.life.live_log.LiveLog.{LiveLog}
 use Rattle.image_log.specs.declared.log_file.LogFile.{Ghosts}
-use Rattle.line_server.proofs.lemmas.logged.UnderWay.{as_many_replies}
-use Rattle.line_server.specs.logged.Reporting.{IsToldTo, of_output}
-use Rattle.line_server.specs.logged.Serves.{IsSafe, shop_behind}
+use Rattle.line_server.specs.logged.Reporting.{of_output}
+use Rattle.line_server.specs.logged.Serves.{shop_behind}
 use Rattle.line_text.specs.scripts.Lines.{lines}
 use Rattle.request_cards.specs.Ledgers.{replies, report}
 use Rattle.request_cards.specs.declared.reply.Reply.{Reply}
 use Rattle.command_faults.specs.declared.faults.CommandFault.{CommandFault}
-use Rattle.command_faults.specs.declared.faults.CommandFault.TheVariants as faults
-use Rattle.disk_layout.specs.declared.faults.Fault.{Fault}
 use Rattle.damaged_files.specs.declared.sides.planning.Loss.{Loss}
-use Rattle.opened_files.specs.Ends.{JobEnd, as_run}
+use Rattle.opened_files.specs.Ends.{JobEnd}
 use Rattle.opened_files.specs.Losses.{IsEndOfRun, IsGuarded}
+use Rattle.shop_jobs.proofs.LandedKept.{ended-err, of_run}
 use Rattle.shop_jobs.proofs.LoggedTold.{passed-back, watched-back}
-use Rattle.shop_jobs.proofs.PlayedOver.{all_told}
-use Rattle.shop_jobs.proofs.ReplyTold.{landed-ok}
 use Rattle.shop_jobs.specs.KeptServices.{IsServedIn, IsServedOrNot}
 use Rattle.shop_jobs.specs.LandedRuns.{HasLanded, IsDoneAndLanded, IsLandedEnd, watched_end}
-use Rattle.shop_jobs.specs.LoggedRuns.{IsLoggedRun, IsLoggedTo, IsUnlogged}
+use Rattle.shop_jobs.specs.LoggedRuns.{IsLoggedRun, IsUnlogged}
 use Rattle.shop_jobs.proofs.ServiceTold.{given-back, lent-lines}
 use Rattle.shop_jobs.specs.Replies.{IsShopOf, lines_to}
 use Rattle.shop_jobs.specs.declared.reply_lines.WatchedReplies.{WatchedReplies}
 use Rattle.shop_jobs.specs.WatchedFiles.{while_there}
 use Rattle.shop_jobs.specs.declared.watched_files.RepliesWhileNamed.{RepliesWhileNamed}
-
--- bytes that were consumed stand at the front
-front_of : (old new : Option (List ℕ)) (bs : List ℕ) → Consumes old new bs → (all : List ℕ) → old ≡ Some all
-    → (later : List ℕ) × (all ≡ bs ++ later)
-front_of None new bs x all is = absurd (none-some all is)
-front_of (Some xs) None bs x all is = absurd x
-front_of (Some xs) (Some ys) bs x all is = (ys, sym (same_Some xs all is) ∙ x)
-
--- and if none is left, they are all
-all_of : (old new : Option (List ℕ)) (bs : List ℕ) → Consumes old new bs → OnSome old (IsAtEnd new) → (all : List ℕ)
-    → old ≡ Some all → all ≡ bs
-all_of None new bs x end all is = absurd (none-some all is)
-all_of (Some xs) None bs x end all is = absurd x
-all_of (Some xs) (Some ys) bs x end all is =
-    sym (same_Some xs all is) ∙ x ∙ ap (λ (rest : List ℕ). bs ++ rest) end ∙ append-nil bs
 
 -- what is known of it holds of an input of which no less is known, and of what was passed on by other words
 module _ {F D : Type 0} {G : Ghosts F} (h : FolderHistory D) (image : List ℕ) (given other : Option (List ℕ))
@@ -87,142 +63,39 @@ module _ {F D : Type 0} {G : Ghosts F} (h : FolderHistory D) (image : List ℕ) 
         (λ s. replies (start_of s) [] (lines x.handled)) x.done;
   }
 
--- how a job ends whose run didn't end well
-ended-err : {F D : Type 0} {G : Ghosts F} (h : FolderHistory D) (left : LiveLog F D G) (gone : Bool) (ended : JobEnd)
-    (folder : Option D) (end : JobEnd) → IsLandedEnd h left (watched_end gone ended) folder end → IsErr ended → IsErr end
-ended-err h left gone ended folder (Err refusal) landed bad = refl
-ended-err h left gone (Ok found) folder (Ok printed) landed bad = absurd (false≢true bad)
-ended-err h left gone (Err refusal) folder (Ok printed) landed bad =
-    absurd (false≢true (landed-ok h left gone (Err refusal) folder (Ok printed) landed refl))
-
 module _ {F D N R T : Type 0} {G : Ghosts F} (h : FolderHistory D) (i : BatchInput R) (o : Output T) (image : List ℕ)
     (log : LiveLog F D G) (loss : Loss) (old_in new_in : R) (old new : RepliesWhileNamed N T) (first final : T)
     (begun : old.out.now ≡ first) (back : old.out.ghost_name ≡ new.out.ghost_name → final ≡ new.out.now) where
   abbrev Told : List Reply → Type 0
   Told rs = AreToldSo o first final rs
 
-  abbrev Served : JobEnd → Type 0
-  Served end = IsServedOrNot h image (i.remaining old_in) log Told first final end
-
   abbrev Run : LiveLog F D G → Result Unit CommandFault → Type 0
   Run left ended = IsLoggedRun (of_live h) i (of_output (while_there o)) image log left old_in new_in old new ended
 
-  abbrev To : LiveLog F D G → (MemDisk → Result MemDisk (LoopFault × MemDisk)) → Type 0
-  To left end = IsLoggedTo (of_live h) i (of_output (while_there o)) image log left old_in new_in old new end
+  untold : new ≡ old → final ≡ first
+  untold same = watched-back old new first final begun back same
 
-  module _ (left : LiveLog F D G) (folder : Option D) (end : MemDisk → Result MemDisk (LoopFault × MemDisk)) (x : To left end)
-    where
-      safe_of : (s : Shop) → IsShopOf image s → (of_live h).stands_for log (sectors_in image)
-          → IsSafe (of_live h) s (sectors_in image) (lines x.served.handled)
-          (x.served.turns ++ option_to_list x.served.last) log left
-      safe_of s shop stands =
-          subst (λ (c : Image). IsSafe (of_live h) s c (lines x.served.handled)
-          (x.served.turns ++ option_to_list x.served.last) log left) x.holds
-          (x.served.safe s (subst (λ (c : Image). IsShop c s) (sym x.holds) shop.1)
-          (subst (λ (c : Image). (of_live h).stands_for log c) (sym x.holds) stands))
-
-      -- of a job that isn't done
-      part : (fault : CommandFault) → Served (Err fault)
-      part fault = inr (record {
-        left = left;
-        folder = folder;
-        handled = x.served.handled;
-        rest = x.served.rest;
-        whole = x.served.whole;
-        lacks = x.served.lacks;
-        read = front_of _ _ _ x.served.read;
-        turns = x.served.turns ++ option_to_list x.served.last;
-        safe = safe_of;
-        all = tt;
-        done = tt;
-      })
-
-  -- a log that was landed after a run that ended well
-  rests_in : (left : LiveLog F D G) (gone : Bool) (folder : Option D) (found : Option Fault)
-      → IsLandedEnd h left (watched_end gone (Ok None)) folder (Ok found) → (s : Shop) (c : Image) → IsSettled c s
-      → (of_live h).stands_for left c → HasLanded h s folder
-  rests_in left true folder found landed s c settled stands = let bad = (landed.left refl).0 in cc
-  rests_in left false None found landed s c settled stands = false≢true (landed.tried (λ e. cc))
-  rests_in left false (Some folder) found landed s c settled stands = (c, settled, landed.landed c stands (inl refl))
-
-  module _ (left : LiveLog F D G) (gone : Bool) (folder : Option D) (found : Option Fault) (x : To left (λ d. Ok d))
-      (landed : IsLandedEnd h left (watched_end gone (Ok None)) folder (Ok found)) where
-    told_of : (s : Shop) → IsShopOf image s → Told (replies (start_of s) [] (lines x.served.handled))
-    told_of s shop =
-        let y = x.served in
-        let over = y.all tt in
-        let here : IsShop (disk_image x.disk) s = subst (λ (c : Image). IsShop c s) (sym x.holds) shop.1 in
-        let t = subst (λ (l : Option (Reply × LiveLog F D G)). IsToldTo (of_output (while_there o)) old new y.turns l) over.0
-        y.told in
-        record {
-          turns = t.0;
-          is = passed-back old new first final begun back (λ a b. o.told a b t.0) t.2.0 t.2.2;
-          replies = t.1 ∙ all_told y.turns y.last (replies (start_of s) [] (lines y.handled)) over.0 (y.replies_are s here)
-              (over.1 ∙ sym (as_many_replies s (lines y.handled)));
-        }
-
-    count_of : length (x.served.turns ++ option_to_list x.served.last) ≡ length (lines x.served.handled)
-    count_of =
-        let over = x.served.all tt in
-        ap (λ (l : Option (Reply × LiveLog F D G)). length (x.served.turns ++ option_to_list l)) over.0
-        ∙ ap length (append-nil x.served.turns) ∙ over.1
-
-    landed_of : (s : Shop) → IsShopOf image s → (of_live h).stands_for log (sectors_in image)
-        → HasLanded h (shop_behind s (lines x.served.handled)) folder
-    landed_of s shop stands =
-        let here : IsShop (disk_image x.disk) s = subst (λ (c : Image). IsShop c s) (sym x.holds) shop.1 in
-        let rests = x.served.rests s here in
-        rests_in left gone folder found landed (shop_behind s (lines x.served.handled)) (disk_image x.left) rests.0
-        (rests.1 (subst (λ (c : Image). (of_live h).stands_for log c) (sym x.holds) stands))
-
-    whole_of : Served (Ok found)
-    whole_of = inr (record {
-      left = left;
-      folder = folder;
-      handled = x.served.handled;
-      rest = x.served.rest;
-      whole = x.served.whole;
-      lacks = x.served.lacks;
-      read = front_of _ _ _ x.served.read;
-      turns = x.served.turns ++ option_to_list x.served.last;
-      safe = safe_of left folder (λ d. Ok d) x;
-      all = all_of _ _ _ x.served.read x.served.end;
-      done = λ s shop. (told_of s shop, count_of, landed_of s shop);
-    })
-
-  untold : (fault : CommandFault) → new ≡ old → Served (Err fault)
-  untold fault same = inl (refl, watched-back old new first final begun back same)
-
-  part_of : (left : LiveLog F D G) (folder : Option D) (ran fault : CommandFault) → Run left (Err ran) → Served (Err fault)
-  part_of left folder faults.File fault (inl x) = part left folder _ x fault
-  part_of left folder faults.File fault (inr x) = part left folder _ x fault
-  part_of left folder faults.Device fault x = part left folder _ x fault
-  part_of left folder (faults.ScriptLine line) fault x = absurd x
-  part_of left folder _ fault x = untold fault x.1.2
-
-  of_run : (left : LiveLog F D G) (gone : Bool) (folder : Option D) (run : Result Unit CommandFault) (end : JobEnd)
-      → Run left run → IsLandedEnd h left (watched_end gone (as_run run)) folder end → Served end
-  of_run left gone folder (Ok u) (Ok found) x landed = whole_of left gone folder found x landed
-  of_run left gone folder (Ok u) (Err fault) x landed = part left folder _ x fault
-  of_run left gone folder (Err ran) (Ok found) x landed =
-      absurd (false≢true (landed-ok h left gone (Err ran) folder (Ok found) landed refl))
-  of_run left gone folder (Err ran) (Err fault) x landed = part_of left folder ran fault x
+  told-so : (turns : List (Reply × LiveLog F D G)) → (of_output {L = LiveLog F D G} (while_there o)).told old new turns
+      → Told (told_in turns)
+  told-so turns (xs, same, told) =
+      record { turns = xs; is = passed-back old new first final begun back (λ a b. o.told a b xs) told.0 told.2; replies = same }
 
   -- what a service left whose log was landed
   pub served-kept : (gone : Bool) (folder : Option D) (end : JobEnd)
       → IsDoneAndLanded h (λ left ended. IsGuarded image loss (IsUnlogged log left old_in new_in old new)
-      (IsEndOfRun (Run left)) ended) gone folder end → Served end
+      (IsEndOfRun (Run left)) ended) gone folder end
+      → IsServedOrNot h image (i.remaining old_in) log Told first final end
   served-kept gone folder end x = of_done x.done
     where
       of_done : IsGuarded image loss (IsUnlogged log x.left old_in new_in old new) (IsEndOfRun (Run x.left)) x.ended
-          → Served end
+          → IsServedOrNot h image (i.remaining old_in) log Told first final end
       of_done (inl (refusal, is, refused, why, same)) = inl (
         ended-err h x.left gone x.ended folder end x.landed (subst (λ (e : JobEnd). IsErr e) (sym is) refl),
-        watched-back old new first final begun back same.2,
+        untold same.2,
       )
       of_done (inr (may, (run, is, ran))) =
-          of_run x.left gone folder run end ran
-          (subst (λ (e : JobEnd). IsLandedEnd h x.left (watched_end gone e) folder end) is x.landed)
+          of_run h i (of_output (while_there o)) image log old_in new_in old new first final Told untold told-so x.left gone folder
+          run end ran (subst (λ (e : JobEnd). IsLandedEnd h x.left (watched_end gone e) folder end) is x.landed)
 
 -- what was passed to a writer that was lent was printed
 module _ {F D W : Type 0} {G : Ghosts F} (h : FolderHistory D) (contents : W → Option (List ℕ)) (image : List ℕ)

@@ -1,4 +1,4 @@
--- What a service over a log leaves in the folder of its image. Our own.
+-- What a service or a play over a log leaves in the folder of its image. Our own.
 use Rattle.std.specs.Prelude.{◌≡◌, ◌⊎◌, ◌++◌, ◌∷◌, [], ℕ, IsErr, List, OnOk, Option, Some, length, string_bytes, take, true}
 use Rattle.std.specs.declared.io.traits.Read.{Ghosts as ReadGhosts}
 use Rattle.std.specs.declared.io.traits.Seek.{Ghosts as SeekGhosts}
@@ -18,10 +18,11 @@ use Rattle.image_log.specs.life.HostLogs.{FolderHistories, LogHistories}
 use Rattle.image_log.specs.life.LiveLogs.{of_live}
 use Rattle.image_log.specs.life.Shops.{Gives, GivesOneOf}
 use Rattle.line_server.specs.Read.{AreWhole, LacksLf}
+use Rattle.line_server.specs.Scripts.{crlf_text}
 use Rattle.line_server.specs.logged.Serves.{IsSafe, shop_behind}
 use Rattle.line_text.specs.scripts.Lines.{lines}
 use Rattle.opened_files.specs.Ends.{JobEnd}
-use Rattle.opened_files.specs.HostFiles.{OfWritten}
+use Rattle.opened_files.specs.HostFiles.{OfText, OfWritten}
 use Rattle.request_cards.specs.Ledgers.{replies, report}
 use Rattle.request_cards.specs.declared.reply.Reply.{Reply}
 use Rattle.shop_jobs.specs.LandedRuns.{HasLanded}
@@ -79,10 +80,17 @@ IsServedAt {F} {D} G h IsAt Of given Told end = (image : List ℕ) × Of image �
 module _ {H F W : Type 0} (g : HostGhosts H F) (r : ReadGhosts F) (s : SeekGhosts F) (logs : LogHistories H F)
     (folders : FolderHistories H F) (stands : H → List ℕ → Stands) (rights : Rights H) (traces : Traces H F)
     (contents : W → Option (List ℕ)) where
-  -- The shop of the image at a path of a host was served the lines of an input with these bytes; or it wasn't, and nothing was
-  -- printed.
-  abbrev pub IsServiceKept : Option (List ℕ) → H → (path : List ℕ) → W → W → JobEnd → Type 0
-  IsServiceKept given host path old new end = (IsErr end × (new ≡ old))
-      ⊎ IsServedAt (record { history = logs g r s }) (folders g r s) (λ d. IsFolderAt rights traces host path d)
-      (λ image. OfWritten stands host path (λ all. image ≡ take 174849 all)) given
+  -- the shop of the image at a path of a host was served the lines of an input with these bytes
+  abbrev pub IsServiceAt : Option (List ℕ) → H → (path : List ℕ) → W → W → JobEnd → Type 0
+  IsServiceAt given host path old new end = IsServedAt (record { history = logs g r s }) (folders g r s)
+      (λ d. IsFolderAt rights traces host path d) (λ image. OfWritten stands host path (λ all. image ≡ take 174849 all)) given
       (λ rs. Appends (contents old) (contents new) (report rs)) end
+
+  -- so it was; or it wasn't, and nothing was printed
+  abbrev pub IsServiceKept : Option (List ℕ) → H → (path : List ℕ) → W → W → JobEnd → Type 0
+  IsServiceKept given host path old new end = (IsErr end × (new ≡ old)) ⊎ IsServiceAt given host path old new end
+
+  -- the same of a play, whose input has the lines of the script at a path, each with CR and LF
+  abbrev pub IsPlayKept : H → (path script : List ℕ) → W → W → JobEnd → Type 0
+  IsPlayKept host path script old new end = (IsErr end × (new ≡ old)) ⊎ ((text : List ℕ)
+      × OfText stands host script (λ all. text ≡ all) × IsServiceAt (Some (crlf_text (lines text))) host path old new end)

@@ -4,6 +4,7 @@
 mod durable_runs;
 mod formatting;
 mod guarding;
+mod landing_logs;
 mod logged_plays;
 mod logged_runs;
 mod new_shops;

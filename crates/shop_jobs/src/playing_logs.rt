@@ -2,6 +2,10 @@
 ghost use Rattle.std.specs.Prelude.{◌≡◌, ℕ, Bool, IfErr, IfOk, IsOk, None, OnOk, Some, vec_items};
 ghost use Rattle.d64_image.specs.Memory.{sectors_in};
 ghost use Rattle.host_session.specs.shop.Shop.{IsShop, Shop};
+ghost use Rattle.std.specs.Io.KnownBytes.{Appends};
+ghost use Rattle.line_server.specs.Scripts.{crlf_text};
+ghost use Rattle.request_cards.specs.Ledgers.{report};
+ghost use Rattle.shop_jobs.specs.KeptServices.{IsPlayKept, IsServedOrNot, IsServiceKept};
 ghost use Rattle.shop_jobs.specs.ServiceEnds.{IsLoggedEnd, IsRefusedAt};
 ghost use Rattle.shop_jobs.specs.Replies.{IsShopAt, AreAnswered, AreReplyLines, IsShopOf};
 ghost use Rattle.opened_files.specs.HostFiles.{OfText};
@@ -15,9 +19,10 @@ ghost use Rattle.line_text.specs.scripts.Lines.{first_reset, lines};
 ghost use Rattle.opened_files.specs.Rights.{MayChangeImage, MayReadText};
 ghost use Rattle.image_file.specs.paths.Standing.{AreOf};
 
+use crate::landing_logs::landed_end;
 use crate::logged_plays::play_logged;
 use crate::reply_lines::WatchedReplies;
-use crate::serving_logs::{begun_beside, cleared_end, landed_end};
+use crate::serving_logs::{begun_beside, cleared_end};
 use crate::watched_files::{name_of, served_end};
 use command_faults::CommandFault;
 use disk_layout::Fault;
@@ -77,6 +82,8 @@ where
     ensures quiet { IsLoggedEnd out.old out.new result }
     ensures lines { AreReplyLines W.contents out.old out.new }
     ensures done { OnOk result (AreAnswered W.contents (IsShopOf image.now) (lines script.now) out.old out.new) }
+    ensures kept { IsServedOrNot D.history image.now (Some (crlf_text (lines script.now))) log
+        (λ rs. Appends (W.contents out.old) (W.contents out.new) (report rs)) out.old out.new result }
 {
     let mut printer = WatchedReplies::new(out);
     let (_, ended) = play_begun(alloc, image, script, log, name, &mut printer);
@@ -126,6 +133,8 @@ where
     ensures lines { AreReplyLines W.contents out.old out.new }
     ensures done { OnOk result (AreAnswered W.contents (IsShopAt R.stands rt.now path.now) (lines script.now)
         out.old out.new) }
+    ensures kept { IsServiceKept R.HostFiles F.Read F.Seek R.logs R.folders R.stands R.rights R.traces W.contents
+        (Some (crlf_text (lines script.now))) rt.now path.now out.old out.new result }
 {
     let alloc = rt.alloc();
     let name = name_of(rt, path, &image)?;
@@ -153,7 +162,9 @@ where
     W: Write,
     requires image { MayChangeImage R.rights rt.now path.now }
     requires script { MayReadText R.rights rt.now script.now }
-    ensures { IsPlayedOverLog R.rights R.stands W.contents rt.now path.now script.now out.old out.new result }
+    ensures told { IsPlayedOverLog R.rights R.stands W.contents rt.now path.now script.now out.old out.new result }
+    ensures kept { IsPlayKept R.HostFiles F.Read F.Seek R.logs R.folders R.stands R.rights R.traces W.contents rt.now
+        path.now script.now out.old out.new result }
 {
     let image = opened_alone(rt, path)?;
     let script = plain_script(rt, script, &image)?;

@@ -10,7 +10,7 @@ ghost use Rattle.image_log.specs.life.Folders.{AllLeft, Folder};
 ghost use Rattle.image_log.specs.life.Shops.{Gives, GivesOneOf};
 ghost use Rattle.request_cards.specs.Ledgers.{report};
 ghost use Rattle.shop_jobs.specs.KeptServices.{IsBegunIn, IsFolderAt, IsServedOrNot, IsServiceKept};
-ghost use Rattle.shop_jobs.specs.LandedRuns.{landing_fault, unlanded as unlanded_end, IsDoneAndLanded, IsLandedEnd};
+ghost use Rattle.shop_jobs.specs.LandedRuns.{IsDoneAndLanded};
 ghost use Rattle.shop_jobs.specs.Replies.{IsShopAt, IsLoggedService, IsShopOf, IsToldAll, IsToldSome};
 ghost use Rattle.opened_files.specs.HostFiles.{OfWritten};
 ghost use Rattle.shop_jobs.specs.LoggedRuns.{IsLoggedRun, IsUnlogged};
@@ -25,6 +25,7 @@ ghost use Rattle.image_file.specs.paths.Standing.{AreOf};
 ghost use Rattle.image_log.specs.life.LogRights.{MayForget, MayKeepLogOf};
 
 use crate::guarding::serve_logged_guarded;
+use crate::landing_logs::landed_end;
 use crate::reply_lines::WatchedReplies;
 use crate::watched_files::{RepliesWhileNamed, name_of, served_end};
 use command_faults::CommandFault;
@@ -33,8 +34,8 @@ use disk_layout::Fault;
 use host_session::Replies;
 use image_file::{EndedFile, HostFiles, HostInput, Locks, NameStays, opened_to_change};
 use image_log::{
-    HostLogs, ImageFolder, LiveLog, LogFault, LogFile, LogFolder, LogNames, LogRoom, SystemLog,
-    TouchedDisk, forget_making, land_in,
+    HostLogs, ImageFolder, LiveLog, LogFile, LogFolder, LogNames, LogRoom, SystemLog, TouchedDisk,
+    forget_making, land_in,
 };
 use line_server::BatchSource;
 use opened_files::{
@@ -78,47 +79,6 @@ fn shop_of<L: LogFile, D: LogFolder<L>, R: AllocGlobal>(
     match land_in(rt.alloc(), folder) {
         Ok(shop) => Ok(shop),
         Err(fault) => Err(log_refusal(&fault)),
-    }
-}
-
-/// What is reported of a log that can't be landed for this reason: `NoMemory` if memory was refused, otherwise `Device`.
-fn landing_refusal(refusal: CommandFault) -> CommandFault
-    ensures { result ≡ landing_fault refusal }
-{
-    match refusal {
-        CommandFault::NoMemory => CommandFault::NoMemory,
-        _ => CommandFault::Device,
-    }
-}
-
-/// How a service ends that ended so, and whose log can't be landed for this fault: a refusal stays what it is.
-fn unlanded(
-    ended: Result<Option<Fault>, CommandFault>,
-    fault: &LogFault,
-) -> Result<Option<Fault>, CommandFault>
-    ensures { result ≡ unlanded_end ended fault.now }
-{
-    match ended {
-        Ok(_) | Err(CommandFault::File) => Err(landing_refusal(log_refusal(fault))),
-        Err(refusal) => Err(refusal),
-    }
-}
-
-/// Lands the log of a service that ended so. If a commit of it failed or the image's file has gone, the log stays where
-/// it is, and the next service or change lands it. `NoMemory` or `Device` if it couldn't be landed.
-pub(crate) fn landed_end<L: LogFile, D: LogFolder<L> + Drop>(
-    log: LiveLog<L, D>,
-    ended: Result<Option<Fault>, CommandFault>,
-) -> (Option<D>, Result<Option<Fault>, CommandFault>)
-    ensures { IsLandedEnd D.history log ended result.0 result.1 }
-{
-    if let Err(CommandFault::Device) = ended {
-        return (None, ended);
-    }
-    let (folder, landed) = log.end();
-    match landed {
-        Ok(()) => (Some(folder), ended),
-        Err(fault) => (Some(folder), unlanded(ended, &fault)),
     }
 }
 

@@ -18,7 +18,8 @@ returns-in-Play g c =
     rw c.in-Play.is (c.do_playing.ensures.near, c.do_playing.ensures.played, c.do_playing.ensures.left)
 
 pub returns-in-PlayLogged : goal.returns-in-PlayLogged
-returns-in-PlayLogged g c = rw c.in-PlayLogged.is c.do_logged_playing.ensures
+returns-in-PlayLogged g c =
+    rw c.in-PlayLogged.is (c.do_logged_playing.ensures.told, c.do_logged_playing.ensures.kept)
 
 pub returns-in-Copy : goal.returns-in-Copy
 returns-in-Copy g c = rw c.in-Copy.is c.do_copying.ensures

@@ -1,5 +1,6 @@
 -- What was printed, by how the play ended and its log was landed.
 use Rattle.std.proofs.Common.{rules}
+use Rattle.shop_jobs.proofs.LogPlayKept.{played-kept}
 use Rattle.shop_jobs.proofs.ReplyTold.{played-answered, played-lines}
 use Rattle.shop_jobs.proofs.playing_logs.play_printed.Goals as goal
 
@@ -15,4 +16,11 @@ returns-clause-done g c =
     let x = c.play_begun-ended.ensures.played in
     played-answered g.D.LogFolder.history g.W.Write.contents c.args.image.now c.args.script.now c.args.log
     c.new-printer.result c.play_begun-ended.new.out c.args.out.now _ c.new-printer.ensures.out (λ same. search rules) x.0
+    c.play_begun-ended.result.0 c.play_begun-ended.result.1 x.1
+
+pub returns-clause-kept : goal.returns-clause-kept
+returns-clause-kept g c =
+    let x = c.play_begun-ended.ensures.played in
+    played-kept g.D.LogFolder.history g.W.Write.contents c.args.image.now c.args.script.now c.args.log c.new-printer.result
+    c.play_begun-ended.new.out c.args.out.now _ c.new-printer.ensures.out (λ same. search rules) x.0
     c.play_begun-ended.result.0 c.play_begun-ended.result.1 x.1

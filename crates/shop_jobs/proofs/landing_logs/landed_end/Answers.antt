@@ -2,7 +2,7 @@
 use Rattle.std.proofs.Common.{refl, rules, subst, sym}
 use Rattle.opened_files.specs.Ends.{JobEnd}
 use Rattle.shop_jobs.proofs.Unlanded.{IsUnlanded, unlanded_is}
-use Rattle.shop_jobs.proofs.serving_logs.landed_end.Goals as goal
+use Rattle.shop_jobs.proofs.landing_logs.landed_end.Goals as goal
 
 pub returns-in-Err : goal.returns-in-Err
 returns-in-Err g c =

@@ -1,0 +1,163 @@
+-- What was left of a log and of its folder, from how lines were served over it and how it was landed.
+use Rattle.std.proofs.Common.{◌≡◌, ◌∙◌, ◌++◌, [], ℕ, Bool, true, false, List, Option, None, Some, Result, Ok, Err, ap, append-nil, inl, inr, length, refl, subst, sym}
+use Rattle.std.specs.Prelude.{IsErr, OnSome, option_to_list}
+use Rattle.std.specs.Io.KnownBytes.{Consumes, IsAtEnd}
+use Rattle.std.proofs.lemmas.Bool.{false≢true}
+use Rattle.std.proofs.lemmas.Option.{none-some, same_Some}
+use Rattle.d64_image.specs.Images.{Image}
+use Rattle.d64_image.specs.Memory.{disk_image, sectors_in}
+use Rattle.d64_image.specs.declared.mem_disk.MemDisk.{MemDisk}
+use Rattle.host_session.specs.declared.runs.event_loop.LoopFault.{LoopFault}
+use Rattle.host_session.specs.runs.Chains.{told_in}
+use Rattle.host_session.specs.shop.Shop.{IsSettled, IsShop, Shop, start_of}
+use Rattle.line_server.specs.Batches.{BatchInput}
+use Rattle.image_log.specs.life.Folders.{FolderHistory}
+use Rattle.image_log.specs.life.LiveLogs.{of_live}
+use Rattle.image_log.specs.declared.life.live_log.LiveLog.{LiveLog}
+use Rattle.image_log.specs.declared.log_file.LogFile.{Ghosts}
+use Rattle.line_server.proofs.lemmas.logged.UnderWay.{as_many_replies}
+use Rattle.line_server.specs.logged.Reporting.{IsToldTo, LogOutput}
+use Rattle.line_server.specs.logged.Serves.{IsSafe, shop_behind}
+use Rattle.line_text.specs.scripts.Lines.{lines}
+use Rattle.request_cards.specs.Ledgers.{replies}
+use Rattle.request_cards.specs.declared.reply.Reply.{Reply}
+use Rattle.command_faults.specs.declared.faults.CommandFault.{CommandFault}
+use Rattle.command_faults.specs.declared.faults.CommandFault.TheVariants as faults
+use Rattle.disk_layout.specs.declared.faults.Fault.{Fault}
+use Rattle.opened_files.specs.Ends.{JobEnd, as_run}
+use Rattle.shop_jobs.proofs.PlayedOver.{all_told}
+use Rattle.shop_jobs.proofs.ReplyTold.{landed-ok}
+use Rattle.shop_jobs.specs.KeptServices.{IsServedOrNot}
+use Rattle.shop_jobs.specs.LandedRuns.{HasLanded, IsLandedEnd, watched_end}
+use Rattle.shop_jobs.specs.LoggedRuns.{IsLoggedRun, IsLoggedTo}
+use Rattle.shop_jobs.specs.Replies.{IsShopOf}
+
+-- bytes that were consumed stand at the front
+front_of : (old new : Option (List ℕ)) (bs : List ℕ) → Consumes old new bs → (all : List ℕ) → old ≡ Some all
+    → (later : List ℕ) × (all ≡ bs ++ later)
+front_of None new bs x all is = absurd (none-some all is)
+front_of (Some xs) None bs x all is = absurd x
+front_of (Some xs) (Some ys) bs x all is = (ys, sym (same_Some xs all is) ∙ x)
+
+-- and if none is left, they are all
+all_of : (old new : Option (List ℕ)) (bs : List ℕ) → Consumes old new bs → OnSome old (IsAtEnd new) → (all : List ℕ)
+    → old ≡ Some all → all ≡ bs
+all_of None new bs x end all is = absurd (none-some all is)
+all_of (Some xs) None bs x end all is = absurd x
+all_of (Some xs) (Some ys) bs x end all is =
+    sym (same_Some xs all is) ∙ x ∙ ap (λ (rest : List ℕ). bs ++ rest) end ∙ append-nil bs
+
+-- how a job ends whose run didn't end well
+pub ended-err : {F D : Type 0} {G : Ghosts F} (h : FolderHistory D) (left : LiveLog F D G) (gone : Bool) (ended : JobEnd)
+    (folder : Option D) (end : JobEnd) → IsLandedEnd h left (watched_end gone ended) folder end → IsErr ended → IsErr end
+ended-err h left gone ended folder (Err refusal) landed bad = refl
+ended-err h left gone (Ok found) folder (Ok printed) landed bad = absurd (false≢true bad)
+ended-err h left gone (Err refusal) folder (Ok printed) landed bad =
+    absurd (false≢true (landed-ok h left gone (Err refusal) folder (Ok printed) landed refl))
+
+-- `Told` says of replies what the caller's output was passed, which was `first` and is `final`
+module _ {F D R T W : Type 0} {G : Ghosts F} (h : FolderHistory D) (i : BatchInput R) (o : LogOutput (LiveLog F D G) T)
+    (image : List ℕ) (log : LiveLog F D G) (old_in new_in : R) (old new : T) (first final : W) (Told : List Reply → Type 0)
+    (back : new ≡ old → final ≡ first)
+    (passed : (turns : List (Reply × LiveLog F D G)) → o.told old new turns → Told (told_in turns)) where
+  abbrev Served : JobEnd → Type 0
+  Served end = IsServedOrNot h image (i.remaining old_in) log Told first final end
+
+  abbrev Run : LiveLog F D G → Result Unit CommandFault → Type 0
+  Run left ended = IsLoggedRun (of_live h) i o image log left old_in new_in old new ended
+
+  abbrev To : LiveLog F D G → (MemDisk → Result MemDisk (LoopFault × MemDisk)) → Type 0
+  To left end = IsLoggedTo (of_live h) i o image log left old_in new_in old new end
+
+  module _ (left : LiveLog F D G) (folder : Option D) (end : MemDisk → Result MemDisk (LoopFault × MemDisk)) (x : To left end)
+    where
+      safe_of : (s : Shop) → IsShopOf image s → (of_live h).stands_for log (sectors_in image)
+          → IsSafe (of_live h) s (sectors_in image) (lines x.served.handled)
+          (x.served.turns ++ option_to_list x.served.last) log left
+      safe_of s shop stands =
+          subst (λ (c : Image). IsSafe (of_live h) s c (lines x.served.handled)
+          (x.served.turns ++ option_to_list x.served.last) log left) x.holds
+          (x.served.safe s (subst (λ (c : Image). IsShop c s) (sym x.holds) shop.1)
+          (subst (λ (c : Image). (of_live h).stands_for log c) (sym x.holds) stands))
+
+      -- of a job that isn't done
+      part : (fault : CommandFault) → Served (Err fault)
+      part fault = inr (record {
+        left = left;
+        folder = folder;
+        handled = x.served.handled;
+        rest = x.served.rest;
+        whole = x.served.whole;
+        lacks = x.served.lacks;
+        read = front_of _ _ _ x.served.read;
+        turns = x.served.turns ++ option_to_list x.served.last;
+        safe = safe_of;
+        all = tt;
+        done = tt;
+      })
+
+  -- a log that was landed after a run that ended well
+  rests_in : (left : LiveLog F D G) (gone : Bool) (folder : Option D) (found : Option Fault)
+      → IsLandedEnd h left (watched_end gone (Ok None)) folder (Ok found) → (s : Shop) (c : Image) → IsSettled c s
+      → (of_live h).stands_for left c → HasLanded h s folder
+  rests_in left true folder found landed s c settled stands = let bad = (landed.left refl).0 in cc
+  rests_in left false None found landed s c settled stands = false≢true (landed.tried (λ e. cc))
+  rests_in left false (Some folder) found landed s c settled stands = (c, settled, landed.landed c stands (inl refl))
+
+  module _ (left : LiveLog F D G) (gone : Bool) (folder : Option D) (found : Option Fault) (x : To left (λ d. Ok d))
+      (landed : IsLandedEnd h left (watched_end gone (Ok None)) folder (Ok found)) where
+    told_of : (s : Shop) → IsShopOf image s → Told (replies (start_of s) [] (lines x.served.handled))
+    told_of s shop =
+        let y = x.served in
+        let over = y.all tt in
+        let here : IsShop (disk_image x.disk) s = subst (λ (c : Image). IsShop c s) (sym x.holds) shop.1 in
+        subst Told (all_told y.turns y.last (replies (start_of s) [] (lines y.handled)) over.0 (y.replies_are s here)
+        (over.1 ∙ sym (as_many_replies s (lines y.handled))))
+        (passed y.turns (subst (λ (l : Option (Reply × LiveLog F D G)). IsToldTo o old new y.turns l) over.0 y.told))
+
+    count_of : length (x.served.turns ++ option_to_list x.served.last) ≡ length (lines x.served.handled)
+    count_of =
+        let over = x.served.all tt in
+        ap (λ (l : Option (Reply × LiveLog F D G)). length (x.served.turns ++ option_to_list l)) over.0
+        ∙ ap length (append-nil x.served.turns) ∙ over.1
+
+    landed_of : (s : Shop) → IsShopOf image s → (of_live h).stands_for log (sectors_in image)
+        → HasLanded h (shop_behind s (lines x.served.handled)) folder
+    landed_of s shop stands =
+        let here : IsShop (disk_image x.disk) s = subst (λ (c : Image). IsShop c s) (sym x.holds) shop.1 in
+        let rests = x.served.rests s here in
+        rests_in left gone folder found landed (shop_behind s (lines x.served.handled)) (disk_image x.left) rests.0
+        (rests.1 (subst (λ (c : Image). (of_live h).stands_for log c) (sym x.holds) stands))
+
+    whole_of : Served (Ok found)
+    whole_of = inr (record {
+      left = left;
+      folder = folder;
+      handled = x.served.handled;
+      rest = x.served.rest;
+      whole = x.served.whole;
+      lacks = x.served.lacks;
+      read = front_of _ _ _ x.served.read;
+      turns = x.served.turns ++ option_to_list x.served.last;
+      safe = safe_of left folder (λ d. Ok d) x;
+      all = all_of _ _ _ x.served.read x.served.end;
+      done = λ s shop. (told_of s shop, count_of, landed_of s shop);
+    })
+
+  untold : (fault : CommandFault) → new ≡ old → Served (Err fault)
+  untold fault same = inl (refl, back same)
+
+  part_of : (left : LiveLog F D G) (folder : Option D) (ran fault : CommandFault) → Run left (Err ran) → Served (Err fault)
+  part_of left folder faults.File fault (inl x) = part left folder _ x fault
+  part_of left folder faults.File fault (inr x) = part left folder _ x fault
+  part_of left folder faults.Device fault x = part left folder _ x fault
+  part_of left folder (faults.ScriptLine line) fault x = absurd x
+  part_of left folder _ fault x = untold fault x.1.2
+
+  pub of_run : (left : LiveLog F D G) (gone : Bool) (folder : Option D) (run : Result Unit CommandFault) (end : JobEnd)
+      → Run left run → IsLandedEnd h left (watched_end gone (as_run run)) folder end → Served end
+  of_run left gone folder (Ok u) (Ok found) x landed = whole_of left gone folder found x landed
+  of_run left gone folder (Ok u) (Err fault) x landed = part left folder _ x fault
+  of_run left gone folder (Err ran) (Ok found) x landed =
+      absurd (false≢true (landed-ok h left gone (Err ran) folder (Ok found) landed refl))
+  of_run left gone folder (Err ran) (Err fault) x landed = part_of left folder ran fault x
