@@ -1,5 +1,6 @@
 -- What comes of a change to an image, or why it isn't made. Our own.
 use Rattle.std.specs.Prelude.{◌≤◌, List, length, ℕ}
+use Rattle.disk_changes.specs.Copies.{IsCopied, IsCopyRefusal}
 use Rattle.disk_changes.specs.Deletes.{IsDeleteRefusal, IsDeleted}
 use Rattle.disk_changes.specs.Locks.{IsLockRefusal, IsLockSet}
 use Rattle.disk_changes.specs.Makes.{IsMade, IsMakeRefusal}
@@ -27,6 +28,7 @@ IsFit (changes.Delete name) = Unit {0}
 IsFit (changes.Undelete kind name) = Unit {0}
 IsFit changes.Sort = Unit {0}
 IsFit (changes.Put name kind content) = length name.now ≤ 16
+IsFit (changes.CopyFile source name to) = length to.now ≤ 16
 IsFit (changes.Make name L cut) = (length name.now ≤ 16) × IsLength L
 IsFit (changes.Store name text cut) = Unit {0}
 IsFit (changes.Repair free cut) = Unit {0}
@@ -41,6 +43,7 @@ IsChanged (changes.Delete name) image made = IsDeleted image name.now made
 IsChanged (changes.Undelete kind name) image made = IsUndeleted image name.now kind made
 IsChanged changes.Sort image made = IsSorted image made
 IsChanged (changes.Put name kind content) image made = IsPut image name.now kind content.now made
+IsChanged (changes.CopyFile source name to) image made = IsCopied source.now name.now to.now image made
 IsChanged (changes.Make name L cut) image made = IsMade image name.now L cut made
 IsChanged (changes.Store name text cut) image made = IsStored image name.now text.now cut made
 IsChanged (changes.Repair free cut) image made = IsRepaired image free cut made
@@ -55,6 +58,7 @@ IsRefused (changes.Delete name) image why = IsDeleteRefusal image name.now why
 IsRefused (changes.Undelete kind name) image why = IsUndeleteRefusal image name.now kind why
 IsRefused changes.Sort image why = IsSortRefusal image why
 IsRefused (changes.Put name kind content) image why = IsPutRefusal image name.now kind content.now why
+IsRefused (changes.CopyFile source name to) image why = IsCopyRefusal source.now name.now to.now image why
 IsRefused (changes.Make name L cut) image why = IsMakeRefusal image name.now cut why
 IsRefused (changes.Store name text cut) image why = IsStoreRefusal image name.now text.now cut why
 IsRefused (changes.Repair free cut) image why = IsRepairRefusal image why

@@ -1,6 +1,7 @@
 pub mod lines
 pub mod mended
 pub mod Changes
+pub mod Copies
 pub mod Deletes
 pub mod Judged
 pub mod Locks

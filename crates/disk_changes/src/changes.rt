@@ -40,6 +40,12 @@ pub enum Change<'a> {
         kind: FileType,
         content: &'a [u8],
     },
+    /// A copy of the first closed file with this name of another image, PRG, SEQ or USR, which gets the name `to`.
+    CopyFile {
+        source: &'a [u8],
+        name: &'a [u8],
+        to: &'a [u8],
+    },
     /// A new relative file of this name, whose records have `length` bytes, 1 to 254.
     Make {
         name: &'a [u8],

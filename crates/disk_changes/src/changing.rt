@@ -3,6 +3,7 @@ ghost use Rattle.std.specs.Prelude.{IfErr, IfOk};
 ghost use Rattle.disk_changes.specs.Changes.{IsChanged, IsFit, IsRefused};
 
 use crate::changes::{Change, Changed};
+use crate::copying::copied;
 use crate::deleting::deleted;
 use crate::locking::relocked;
 use crate::making::made;
@@ -36,6 +37,7 @@ pub fn change(alloc: Global, what: &Change<'_>, image: &[u8]) -> Result<Changed,
             kind,
             content,
         } => put(alloc, image, name, kind, content),
+        Change::CopyFile { source, name, to } => copied(alloc, image, source, name, to),
         Change::Make { name, length, cut } => made(alloc, image, name, length, cut),
         Change::Store { name, text, cut } => stored(alloc, image, name, text, cut),
         Change::Repair { free, cut } => repaired(alloc, image, free, cut),

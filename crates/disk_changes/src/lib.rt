@@ -4,6 +4,7 @@
 
 mod changes;
 mod changing;
+mod copying;
 mod deleting;
 mod judging;
 mod laws;

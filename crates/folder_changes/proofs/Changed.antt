@@ -5,6 +5,7 @@ use Rattle.std.specs.Io.KnownBytes.{Appends}
 use Rattle.command_faults.specs.Outputs.{HandsPart}
 use Rattle.d64_image.specs.Images.{Image}
 use Rattle.d64_image.specs.Memory.{disk_image, sectors_in}
+use Rattle.disk_changes.proofs.Copied.{copied-in-memory}
 use Rattle.disk_changes.specs.Changes.{IsChanged, IsRefused}
 use Rattle.disk_changes.specs.declared.changes.Change.{Change}
 use Rattle.disk_changes.specs.declared.changes.Change.TheVariants as changes
@@ -59,6 +60,7 @@ in-memory (changes.Rebuild free cut) image =
     (λ why. ⊎_elim (λ w. w) (λ w. w.2) why, λ why. ⊎_elim (λ w. w) (λ w. w.2) why)
 in-memory (changes.Undelete kind name) image =
     (λ why. ⊎_elim (λ w. w) (λ w. w.2) why, λ why. ⊎_elim (λ w. w) (λ w. w.2) why)
+in-memory (changes.CopyFile source name to) image = copied-in-memory source.now name.now to.now image
 in-memory changes.Sort image = (λ why. ⊎_elim (λ w. w) (λ w. w.3) why, λ why. ⊎_elim (λ w. w) (λ w. w.3) why)
 in-memory _ image = (λ why. why, λ why. why)
 
@@ -69,6 +71,7 @@ sized (changes.Title id name) image made is = is.before.size
 sized (changes.Lock lock name) image made is = is.before.size
 sized (changes.Delete name) image made is = is.before.taken.0
 sized (changes.Undelete kind name) image made is = is.retyped.before.size
+sized (changes.CopyFile source name to) image made is = is.copy.put.before.taken.0
 sized changes.Sort image made is = is.before.size
 sized (changes.Put name kind content) image made is = is.before.taken.0
 sized (changes.Make name L cut) image made is = is.before.taken.0
@@ -80,6 +83,7 @@ sized (changes.Rebuild free cut) image made is = ⊎_elim (λ w. w.built.0) (λ 
 no-memory : (what : Change) (image : List ℕ) → length image ≡ 174848 → IsRefused what image faults.NoMemory
 no-memory (changes.Rebuild free cut) image size = inl size
 no-memory (changes.Undelete kind name) image size = inl size
+no-memory (changes.CopyFile source name to) image size = inr size
 no-memory changes.Sort image size = inl size
 no-memory _ image size = size
 

@@ -1,0 +1,37 @@
+-- The file was put on the disk, and is locked if the other one is.
+use Rattle.std.proofs.Common.{Err, ap, inl, inr, subst, sym, ◌∙◌}
+use Rattle.std.proofs.lemmas.Result.{IfErr-weaker, IfOk-weaker, err_from_is_err_and}
+use Rattle.command_faults.specs.declared.faults.CommandFault.{CommandFault}
+use Rattle.d64_image.specs.declared.mem_disk.MemDisk.{MemDisk}
+use Rattle.disk_changes.specs.Copies.{HasLockOf, IsNoCopyOf}
+use Rattle.disk_changes.proofs.copying.copy_of.Goals as goal
+
+pub returns-in_err-disk-clause-err : goal.returns-in_err-disk-clause-err
+returns-in_err-disk-clause-err c =
+    let p = err_from_is_err_and c.from_residual-in_err-disk.result c.from_residual-in_err-disk.ensures.1 in
+    rw (p.1 ∙ ap Err p.2) (inr (
+      c.in-Some.kind,
+      sym c.plain_type.ensures ∙ c.in-Some.is,
+      inr (c.in_ok-first.first, c.in_ok-first.ensures.ok, c.in_err-disk.ensures.err),
+    ))
+
+pub returns-clause-ok : goal.returns-clause-ok
+returns-clause-ok c = IfOk-weaker c.changed.result _ _
+    (λ made is. record {
+      kind = c.in-Some.kind;
+      kind_is = sym c.plain_type.ensures ∙ c.in-Some.is;
+      first = c.in_ok-first.first;
+      put = c.in_ok-first.ensures.ok;
+      lock = subst (λ (d : MemDisk). HasLockOf c.args.entry.now c.args.to.now c.in_ok-first.first d) (sym is.0)
+          c.in_ok-disk.ensures.ok;
+      text = is.1;
+    }) c.changed.ensures.ok
+
+pub returns-clause-err : goal.returns-clause-err
+returns-clause-err c = IfErr-weaker c.changed.result _ _
+    (λ why is. subst (λ (w : CommandFault). IsNoCopyOf c.args.entry.now c.args.content.now c.args.to.now c.args.image.now w)
+    (sym is) (inr (
+      c.in-Some.kind,
+      sym c.plain_type.ensures ∙ c.in-Some.is,
+      inl c.in_ok-first.ensures.ok.before.taken.0,
+    ))) c.changed.ensures.err

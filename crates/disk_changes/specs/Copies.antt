@@ -1,0 +1,67 @@
+-- What comes of copying a file of another image into an image (1541 User's Guide, directory format). Our own.
+use Rattle.std.specs.Prelude.{◌≡◌, ◌⊎◌, ◌%◌, List, None, Option, Some, codes, if◌then◌else◌, length, nat_eq, ℕ}
+use Rattle.command_faults.specs.declared.faults.CommandFault.{CommandFault}
+use Rattle.command_faults.specs.declared.faults.CommandFault.TheVariants as faults
+use Rattle.d64_image.specs.Memory.{disk_image, sectors_in}
+use Rattle.d64_image.specs.declared.mem_disk.MemDisk.{MemDisk}
+use Rattle.disk_changes.specs.Locks.{IsLockRefusal, IsLockSet}
+use Rattle.disk_changes.specs.Puts.{IsPut, IsPutRefusal}
+use Rattle.disk_changes.specs.declared.changes.Changed.{Changed}
+use Rattle.disk_changes.specs.declared.changes.Lock.TheVariants.{Set}
+use Rattle.disk_layout.specs.Directory.{type_byte}
+use Rattle.disk_layout.specs.declared.slot.Slot.{Slot}
+use Rattle.file_changes.specs.Deletes.{IsLocked}
+use Rattle.file_changes.specs.declared.file_type.FileType.{FileType}
+use Rattle.file_changes.specs.declared.file_type.FileType.TheVariants.{Prg, Seq, Usr}
+use Rattle.file_rescues.specs.Whole.{IsNoWholeFile, IsWholeFile}
+
+-- the type of a file that isn't relative, by the low half of its type byte
+abbrev pub plain_type : Slot → Option FileType
+plain_type s =
+    if nat_eq (type_byte s % 16) 1 then Some Seq else
+    (if nat_eq (type_byte s % 16) 2 then Some Prg else
+    (if nat_eq (type_byte s % 16) 3 then Some Usr else None))
+
+-- the disk is that of the bytes with the first file of that name locked
+abbrev pub IsLockedOn : (bytes name : List ℕ) → MemDisk → Type 0
+IsLockedOn bytes name disk = (second : Changed) × IsLockSet bytes name Set second × (disk ≡ second.disk)
+
+-- the disk is that of `first`; but if the entry is locked, its file of that name is, too
+abbrev pub HasLockOf : Slot → (name : List ℕ) → Changed → MemDisk → Type 0
+HasLockOf entry name first disk = (¬ (IsLocked entry) × (disk ≡ first.disk))
+    ⊎ (IsLocked entry × (bytes : List ℕ) × (sectors_in bytes ≡ disk_image first.disk) × IsLockedOn bytes name disk)
+
+-- A file with these bytes and the entry's type is put on the disk that comes of it, and it is locked if the entry is; and what
+-- is printed.
+pub record IsCopyOf (entry : Slot) (content to image : List ℕ) (made : Changed) : Type 0 where
+  pub kind : FileType
+  pub kind_is : plain_type entry ≡ Some kind
+  pub first : Changed
+  pub put : IsPut image to kind content first
+  pub lock : HasLockOf entry to first made.disk
+  pub text : made.text.items ≡ codes "COPIED\n"
+
+-- The first closed file of that name of the other image is copied so.
+pub record IsCopied (source name to image : List ℕ) (made : Changed) : Type 0 where
+  pub entry : Slot
+  pub content : List ℕ
+  pub file : IsWholeFile source name entry content
+  pub copy : IsCopyOf entry content to image made
+
+-- the file that was put there isn't locked, for this reason
+abbrev pub IsUnlockedFor : Slot → (to : List ℕ) → Changed → CommandFault → Type 0
+IsUnlockedFor entry to first why =
+    IsLocked entry × (bytes : List ℕ) × (sectors_in bytes ≡ disk_image first.disk) × IsLockRefusal bytes to why
+
+-- why the file with this entry isn't copied: it is relative, or has no type; or it isn't put on the disk, or not locked there
+abbrev pub IsNoCopyOf : Slot → (content to image : List ℕ) → CommandFault → Type 0
+IsNoCopyOf entry content to image why = ((why ≡ faults.NoFile) × (plain_type entry ≡ None))
+    ⊎ ((kind : FileType) × (plain_type entry ≡ Some kind) × (IsPutRefusal image to kind content why
+    ⊎ ((first : Changed) × IsPut image to kind content first × IsUnlockedFor entry to first why)))
+
+-- why no file is copied: the other image has none of that name that is whole, or it isn't copied
+abbrev pub IsCopyRefusal : (source name to image : List ℕ) → CommandFault → Type 0
+IsCopyRefusal source name to image faults.NoMemory = (length source ≡ 174848) ⊎ (length image ≡ 174848)
+IsCopyRefusal source name to image why = IsNoWholeFile source name why
+    ⊎ ((entry : Slot) × (content : List ℕ) × IsWholeFile source name entry content
+    × IsNoCopyOf entry content to image why)

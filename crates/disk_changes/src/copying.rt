@@ -1,0 +1,95 @@
+//! A file of another image copied into an image.
+ghost use Rattle.std.specs.Prelude.{◌≡◌, ◌≤◌, ◌↔◌, ℕ, IfErr, IfOk, IsTrue, List, length};
+ghost use Rattle.d64_image.specs.Memory.{disk_image, sectors_in};
+ghost use Rattle.disk_changes.specs.Copies.{HasLockOf, IsCopied, IsCopyOf, IsCopyRefusal, IsNoCopyOf, IsUnlockedFor};
+ghost use Rattle.disk_changes.specs.Copies.{plain_type as plain_type_of};
+ghost use Rattle.file_changes.specs.Deletes.{IsLocked};
+
+use crate::changes::{Changed, Lock};
+use crate::locking::relocked;
+use crate::outcomes::changed;
+use crate::putting::put;
+use command_faults::CommandFault;
+use d64_image::MemDisk;
+use disk_layout::{EntryView, Slot};
+use file_changes::FileType;
+use file_rescues::whole_file;
+use std::alloc::Global;
+
+/// The least type byte of a closed entry that is locked.
+const LEAST_LOCKED: u8 = 0xC0;
+
+/// The type of a file that isn't relative.
+fn plain_type(entry: &Slot) -> Option<FileType>
+    ensures { result ≡ plain_type_of entry.now }
+{
+    match EntryView::new(&entry.bytes).type_byte() % 16 {
+        1 => Some(FileType::Seq),
+        2 => Some(FileType::Prg),
+        3 => Some(FileType::Usr),
+        _ => None,
+    }
+}
+
+/// Whether the file of a closed entry is locked.
+fn is_locked(entry: &Slot) -> bool
+    ensures { IsTrue result ↔ IsLocked entry.now }
+{
+    LEAST_LOCKED <= EntryView::new(&entry.bytes).type_byte()
+}
+
+/// The disk on which a file of this name was put, with the lock of an entry.
+fn with_lock_of(
+    alloc: Global,
+    entry: &Slot,
+    name: &[u8],
+    first: Changed,
+) -> Result<MemDisk, CommandFault>
+    ensures ok { IfOk result (HasLockOf entry.now name.now first) }
+    ensures err { IfErr result (IsUnlockedFor entry.now name.now first) }
+{
+    if !is_locked(entry) {
+        return Ok(first.disk);
+    }
+    match relocked(alloc, first.disk.bytes(), name, Lock::Set) {
+        Ok(second) => Ok(second.disk),
+        Err(fault) => Err(fault),
+    }
+}
+
+/// The image with a new file of this name, which has these bytes, and the type and the lock of an entry. `NoFile` if that is of no
+/// PRG, SEQ or USR file.
+fn copy_of(
+    alloc: Global,
+    entry: &Slot,
+    content: &[u8],
+    to: &[u8],
+    image: &[u8],
+) -> Result<Changed, CommandFault>
+    requires to { length to.now ≤ 16 }
+    ensures ok { IfOk result (IsCopyOf entry.now content.now to.now image.now) }
+    ensures err { IfErr result (IsNoCopyOf entry.now content.now to.now image.now) }
+{
+    let Some(kind) = plain_type(entry) else {
+        return Err(CommandFault::NoFile);
+    };
+    let first = put(alloc, image, to, kind, content)?;
+    let disk = with_lock_of(alloc, entry, to, first)?;
+    changed(alloc, disk, b"COPIED\n")
+}
+
+/// The image with a copy of the first closed file of that name of another image, which gets the name `to`.
+pub(crate) fn copied(
+    alloc: Global,
+    image: &[u8],
+    source: &[u8],
+    name: &[u8],
+    to: &[u8],
+) -> Result<Changed, CommandFault>
+    requires to { length to.now ≤ 16 }
+    ensures ok { IfOk result (IsCopied source.now name.now to.now image.now) }
+    ensures err { IfErr result (IsCopyRefusal source.now name.now to.now image.now) }
+{
+    let (entry, content) = whole_file(alloc, source, name)?;
+    copy_of(alloc, &entry, content.as_slice(), to, image)
+}
