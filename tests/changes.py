@@ -76,7 +76,7 @@ class Draw:
             "lock": ("lock", draw.choice(["FILE0", "PROGRAM"])),
             "unlock": ("unlock", draw.choice(["FILE0", "PROGRAM"])),
             "delete": ("delete", draw.choice(["FILE0", "PROGRAM"])),
-            "undelete": ("undelete", "PROGRAM", "--type", draw.choice(["prg", "seq", "usr"])),
+            "undelete": ("undelete", *draw.choice([("PROGRAM", "--type", "usr"), ("FILE0", "--type", "rel")])),
             "sort": ("sort",),
             "format": ("format", "--tills", "4"),
         }[word]

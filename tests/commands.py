@@ -1,17 +1,18 @@
 """Every command of the program with words that it can do, for the scripts that try each command in some way.
 
 A new command gets its line in COMMANDS; the scripts have no lists of their own. The words name files of one folder, which
-`scene` makes: an image of a shop with a file NOTES and a deleted file GONE, a script of requests and lines of records."""
+`scene` makes: an image of a shop with a file NOTES and a deleted file GONE, a script of requests and lines of records, and another
+image with a file GAME."""
 
 import shutil
 import subprocess
 from dataclasses import dataclass
 from pathlib import Path
 
-IMAGE, SCRIPT, RECORDS = "shop.d64", "script.txt", "records.csv"
+IMAGE, SCRIPT, RECORDS, OTHER = "shop.d64", "script.txt", "records.csv", "other.d64"
 # what isn't there until a command makes it
 NEW, COPY, FOLDER = "new.d64", "copy.d64", "files"
-FILES = {IMAGE, SCRIPT, RECORDS, NEW, COPY, FOLDER}
+FILES = {IMAGE, SCRIPT, RECORDS, OTHER, NEW, COPY, FOLDER}
 REQUEST = b"1,1,S,5,7\n"
 
 # What a command does with the image. It only reads it:
@@ -98,6 +99,7 @@ COMMANDS = [
     command(CHANGES, f"store {IMAGE} NOTES {RECORDS} --at 1,9"),
     command(CHANGES, f"store {IMAGE} NOTES /dev/stdin", "store -", b"1,A\n"),
     command(CHANGES, f"put {IMAGE} LINES {RECORDS} --type seq"),
+    command(CHANGES, f"copy-file {OTHER} GAME {IMAGE}"),
     command(CHANGES, f"play {IMAGE} {SCRIPT}"),
     command(CHANGES, f"play {IMAGE} {SCRIPT} --sync"),
     command(CHANGES, f"play {IMAGE} /dev/stdin", "play -", REQUEST),
@@ -132,5 +134,6 @@ def scene(program, folder, tills=2, script=REQUEST, records=b"1,A\n"):
     (folder / SCRIPT).write_bytes(script)
     (folder / RECORDS).write_bytes(records)
     put, delete = ["put", IMAGE, "GONE", RECORDS, "--type", "seq"], ["delete", IMAGE, "GONE"]
-    for words in (["format", IMAGE, "--tills", str(tills)], ["make", IMAGE, "NOTES", "--length", "30"], put, delete):
+    other = ["new", OTHER, "--name", "OTHER", "--id", "02"], ["put", OTHER, "GAME", RECORDS, "--type", "prg"]
+    for words in (["format", IMAGE, "--tills", str(tills)], ["make", IMAGE, "NOTES", "--length", "30"], put, delete, *other):
         subprocess.run([program, *words], cwd=folder, check=True, stdout=subprocess.DEVNULL)

@@ -5,8 +5,9 @@
 
 PROGRAM is what `tools/program` prints. A disk gets up to 40 programs. Some are deleted, and `cc1541 -R 1` and `undelete` of each bring
 them back: both disks have the very bytes of the one before. `title` makes the disk that `cc1541 -n -i` makes. After `sort` cc1541 lists
-the names in order, and `check` prints OK; after `lock` it shows the lock, after `unlock` the disk is as it was. The first difference
-ends the script with status 1."""
+the names in order, and `check` prints OK; after `lock` it shows the lock, after `unlock` the disk is as it was. Last some are locked, and
+`copy-file` copies all to an empty disk: to the bytes that `put` and `lock` of what `bytes` prints make, and cc1541 lists them with their
+locks. The first difference ends the script with status 1."""
 
 import random
 import re
@@ -37,6 +38,7 @@ class Disk:
 
     def __init__(self, program, folder, draw):
         self.program, self.draw = program, draw
+        self.folder = folder
         self.image, self.other, source = folder / "disk.d64", folder / "other.d64", folder / "source"
         sure(program, "new", self.image, "--name", "ENTRIES", "--id", "26")
         self.names = sorted({name_of(draw) for _ in range(draw.randint(1, 40))}, key=lambda _: draw.random())
@@ -67,8 +69,8 @@ class Disk:
         cc1541("-n", name.lower(), "-i", f"{number}#a02a", self.other)
         want(self.image.read_bytes() == self.other.read_bytes(), f"title {name} {number}: not the disk of cc1541")
 
-    def listed(self):
-        return [(name.upper(), lock == "<") for name, lock in LISTED.findall(cc1541(self.image))]
+    def listed(self, image=None):
+        return [(name.upper(), lock == "<") for name, lock in LISTED.findall(cc1541(image or self.image))]
 
     def see_sorted(self):
         self.change("sort")
@@ -82,9 +84,27 @@ class Disk:
         self.change("unlock", name)
         want(self.image.read_bytes() == before, f"unlock {name}: not the disk of before")
 
+    def see_copied(self):
+        copy, put, taken = self.folder / "copy.d64", self.folder / "put.d64", self.folder / "taken"
+        for image in (copy, put):
+            sure(self.program, "new", image, "--name", "COPIES", "--id", "26")
+        locked = set(self.draw.sample(self.names, self.draw.randint(0, len(self.names))))
+        for name in locked:
+            self.change("lock", name)
+        order = self.draw.sample(self.names, len(self.names))
+        for name in order:
+            sure(self.program, "copy-file", self.image, name, copy)
+            taken.write_bytes(subprocess.run([self.program, "bytes", self.image, name], check=True, stdout=subprocess.PIPE).stdout)
+            sure(self.program, "put", put, name, taken, "--type", "prg")
+            if name in locked:
+                sure(self.program, "lock", put, name)
+        want(copy.read_bytes() == put.read_bytes(), f"copies of {order}: not the disk of put and lock")
+        want(self.listed(copy) == [(name, name in locked) for name in order], f"copies of {order}: {self.listed(copy)}")
+        return len(order)
+
 
 def main(program, disks=20, seed=1):
-    draw, undeleted = random.Random(seed), 0
+    draw, undeleted, copied = random.Random(seed), 0, 0
     for _ in range(disks):
         with tempfile.TemporaryDirectory() as folder:
             disk = Disk(program, Path(folder), draw)
@@ -92,7 +112,8 @@ def main(program, disks=20, seed=1):
             disk.see_title()
             disk.see_sorted()
             disk.see_locked()
-    print(f"entries: {disks} disks, {undeleted} files undeleted, {disks} titles, orders and locks, as cc1541 has them: no difference")
+            copied += disk.see_copied()
+    print(f"entries: {disks} disks, {undeleted} files undeleted, {copied} copied, {disks} titles, orders and locks, as cc1541 has them: no difference")
 
 
 if __name__ == "__main__":

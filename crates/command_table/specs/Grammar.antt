@@ -122,6 +122,11 @@ abbrev pub put : App
 put = may_run_dry (may_accept_loss (with_rule (with_rule (with_rule (over_image (codes "put")) (required (codes "NAME")))
     (required (codes "FILE"))) (required_behind (codes "type") (codes "TYPE"))))
 
+-- copy-file FROM NAME IMAGE [--accept-loss] [--dry-run] [--as NEW]
+abbrev pub copy_file : App
+copy_file = with_rule (may_run_dry (may_accept_loss (with_rule (with_rule (with_rule (new_app (codes "copy-file"))
+    (required (codes "FROM"))) (required (codes "NAME"))) (required (codes "IMAGE"))))) (optional_behind (codes "as") (codes "NEW"))
+
 -- a subcommand that gives a disk its name and its ID
 abbrev pub titling : Text → App
 titling word = with_rule (with_rule (over_image word) (required_behind (codes "name") (codes "NAME")))
@@ -222,8 +227,8 @@ with_rescue a = with_command (with_command (with_command (with_command (with_com
 
 -- a program that has those that make disks and files too
 abbrev pub with_changes : App → App
-with_changes a = with_command (with_command (with_command (with_command (with_command (with_command
-    a new) make) store) put) rename) title
+with_changes a = with_command (with_command (with_command (with_command (with_command (with_command (with_command
+    a new) make) store) put) copy_file) rename) title
 
 -- a program that has those that change the entries of a directory too
 abbrev pub with_entries : App → App

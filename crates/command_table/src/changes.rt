@@ -5,10 +5,7 @@ use crate::values::{
 };
 
 /// The subcommands that make disks and files, in the order in which help lists them.
-pub(crate) const CHANGES: &[Subcommand] = &[NEW, MAKE, STORE, PUT, RENAME, TITLE];
-
-/// Those that change the entries of a directory, which help lists next.
-pub(crate) const ENTRIES: &[Subcommand] = &[LOCK, UNLOCK, DELETE, UNDELETE, SORT];
+pub(crate) const CHANGES: &[Subcommand] = &[NEW, MAKE, STORE, PUT, COPY_FILE, RENAME, TITLE];
 
 /// The name that a disk gets.
 const DISK_NAME: Value = Value {
@@ -147,6 +144,44 @@ Example: ledger put new.d64 GAME game.prg --type prg",
     values: &[IMAGE, NAME, FILE, FILE_TYPE, ACCEPT_AWAY, DRY_RUN],
 };
 
+/// The image whose file is copied.
+const FROM: Value = Value {
+    name: "FROM",
+    word: None,
+    count: Count::One,
+    help: "The image that has the file, or /dev/stdin",
+};
+
+/// The name of the copy.
+const COPY_NAME: Value = Value {
+    name: "NEW",
+    word: Some("as"),
+    count: Count::Optional,
+    help: "The name of the copy, if it gets another",
+};
+
+/// `copy-file FROM NAME IMAGE [--accept-loss] [--dry-run] [--as NEW]`
+pub(crate) const COPY_FILE: Subcommand = Subcommand {
+    name: "copy-file",
+    about: "Copy a file of another image to the disk",
+    more: "\
+It puts the first closed file of FROM that has this name on the disk of IMAGE,
+with its type and its lock, and prints COPIED. FROM is only read. A relative
+file isn't copied (NO FILE): use records, make and store.
+
+Exit status:
+  0  the copy is on the disk
+  1  FROM has no such file (NO FILE), or not whole (LAYOUT and a fault, SHORT).
+     The disk isn't clean (LAYOUT: repair mends MAPWRONG and COUNTWRONG,
+     repair --sides also BADSIDE, nothing else), SHORT, IMAGE SIZE, LOG,
+     LOG AWAY, FILE EXISTS, DISK FULL: nothing was done
+  2  NAME
+  3  FILE, NO MEMORY, IN USE, DEVICE
+
+Example: ledger copy-file old.d64 GAME new.d64",
+    values: &[FROM, NAME, IMAGE, ACCEPT_AWAY, DRY_RUN, COPY_NAME],
+};
+
 /// The name of a file that gets another.
 const OLD_NAME: Value = Value {
     name: "OLD",
@@ -199,107 +234,4 @@ Exit status:
 
 Example: ledger title old.d64 --name LETTERS --id 84",
     values: &[IMAGE, DISK_NAME, DISK_ID, ACCEPT_AWAY, DRY_RUN],
-};
-
-/// The values of a subcommand that changes the entry of a file.
-const ENTRY: &[Value] = &[IMAGE, NAME, ACCEPT_AWAY, DRY_RUN];
-
-/// `lock IMAGE NAME [--accept-loss] [--dry-run]`
-const LOCK: Subcommand = Subcommand {
-    name: "lock",
-    about: "Lock a file, which can't be deleted then",
-    more: "\
-It locks the first file that has this name, shown by < in list, and prints
-LOCKED. unlock takes the lock off.
-
-Exit status:
-  0  the file is locked
-  1  a file or the directory is damaged (LAYOUT and a fault: repair --sides
-     mends BADSIDE, nothing else), SHORT, IMAGE SIZE, LOG, LOG AWAY, NO FILE,
-     SHOP FILE: nothing was done
-  2  NAME
-  3  FILE, NO MEMORY, IN USE, DEVICE
-
-Example: ledger lock old.d64 LETTER",
-    values: ENTRY,
-};
-
-/// `unlock IMAGE NAME [--accept-loss] [--dry-run]`
-const UNLOCK: Subcommand = Subcommand {
-    name: "unlock",
-    about: "Unlock a file, which can be deleted then",
-    more: "\
-It takes the lock off the first file that has this name, and prints UNLOCKED.
-
-Exit status:
-  0  the file isn't locked
-  1  a file or the directory is damaged (LAYOUT and a fault: repair --sides
-     mends BADSIDE, nothing else), SHORT, IMAGE SIZE, LOG, LOG AWAY, NO FILE,
-     SHOP FILE: nothing was done
-  2  NAME
-  3  FILE, NO MEMORY, IN USE, DEVICE
-
-Example: ledger unlock old.d64 LETTER",
-    values: ENTRY,
-};
-
-/// `delete IMAGE NAME [--accept-loss] [--dry-run]`
-const DELETE: Subcommand = Subcommand {
-    name: "delete",
-    about: "Delete a file, and free its sectors",
-    more: "\
-It deletes the first file that has this name, and prints DELETED.
-
-Exit status:
-  0  the file was deleted
-  1  the disk isn't clean (LAYOUT and a fault: repair mends MAPWRONG and
-     COUNTWRONG, repair --sides also BADSIDE, nothing else), SHORT,
-     IMAGE SIZE, LOG, LOG AWAY, NO FILE, LOCKED, SHOP FILE: nothing was done
-  2  NAME
-  3  FILE, NO MEMORY, IN USE, DEVICE
-
-Example: ledger delete old.d64 LETTER",
-    values: ENTRY,
-};
-
-/// `undelete IMAGE NAME --type TYPE [--accept-loss] [--dry-run]`
-const UNDELETE: Subcommand = Subcommand {
-    name: "undelete",
-    about: "Make a deleted file a file again",
-    more: "\
-It gives the first deleted entry that has this name its type back, takes the
-blocks of the file, and prints UNDELETED. The file isn't locked. A deleted entry
-has no type: give the one that the file had. A relative file can't come back;
-extract --deleted takes its bytes.
-
-Exit status:
-  0  the file is there
-  1  a file or the directory is damaged or would be (LAYOUT: OWNEDTWICE if
-     another file has a block), SHORT, IMAGE SIZE, GEOS, FORMAT, LOG, LOG AWAY,
-     NO FILE, FILE EXISTS: nothing was done
-  2  NAME, TYPE
-  3  FILE, NO MEMORY, IN USE, DEVICE
-
-Example: ledger undelete old.d64 LETTER --type seq",
-    values: &[IMAGE, NAME, FILE_TYPE, ACCEPT_AWAY, DRY_RUN],
-};
-
-/// `sort IMAGE [--accept-loss] [--dry-run]`
-const SORT: Subcommand = Subcommand {
-    name: "sort",
-    about: "Sort the directory by the names of the files",
-    more: "\
-It puts the entries into the ascending order of the bytes of their names, and
-prints SORTED. Entries of one name keep their order. Deleted ones come after all
-others. Files and blocks stay where they are.
-
-Exit status:
-  0  the directory is sorted
-  1  a file or the directory is damaged (LAYOUT and a fault: repair --sides
-     mends BADSIDE, nothing else), SHORT, IMAGE SIZE, LOG, LOG AWAY: nothing
-     was done
-  3  FILE, NO MEMORY, IN USE, DEVICE
-
-Example: ledger sort old.d64",
-    values: &[IMAGE, ACCEPT_AWAY, DRY_RUN],
 };

@@ -5,7 +5,8 @@ ghost use Rattle.clap.specs.declared.builder.command.Command.TheViews.{out-Comma
 ghost use Rattle.command_table.specs.Grammar as grammar;
 ghost use Rattle.command_table.specs.Rows as rows;
 
-use crate::changes::{CHANGES, ENTRIES};
+use crate::changes::CHANGES;
+use crate::entries::ENTRIES;
 use crate::help_texts::MORE;
 use crate::looks::LOOKS;
 use crate::rescues::RESCUES;

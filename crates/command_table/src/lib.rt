@@ -2,6 +2,7 @@
 #![tactic(auto)]
 
 mod changes;
+mod entries;
 mod grammar;
 mod help_texts;
 mod looks;

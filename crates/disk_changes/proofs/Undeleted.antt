@@ -9,12 +9,12 @@ use Rattle.d64_image.specs.declared.place.Place.{Place}
 use Rattle.disk_changes.specs.Judged.{IsSoundWhole}
 use Rattle.disk_changes.specs.Undeletes.{IsNoUndeletion, IsRetyped, IsUndeletable, IsUnfound, with_type}
 use Rattle.disk_changes.proofs.Slots.{deleted-low}
+use Rattle.disk_changes.specs.declared.entry_types.EntryType.{EntryType}
 use Rattle.disk_layout.proofs.lemmas.layouts.Layouts.{get-contains}
 use Rattle.disk_layout.specs.Layout.{IsLayout, Layout}
 use Rattle.disk_layout.specs.Rest.{slot_name}
 use Rattle.disk_layout.specs.declared.faults.Fault.{Fault}
 use Rattle.disk_layout.specs.declared.slot.Slot.{Slot}
-use Rattle.file_changes.specs.declared.file_type.FileType.{FileType}
 use Rattle.file_changes.specs.Entries.{HasName, IsFirstNamed, IsFreeName, entries_of}
 use Rattle.file_rescues.proofs.SoundDirectory.{read-sectors, read-whole}
 use Rattle.file_rescues.specs.rescue.Deleted.{deleted_slots}
@@ -73,7 +73,7 @@ module _ (image name : List ℕ) (img : Image) (whole : IsSoundWhole image) (is 
   }
   none-found _ un = absurd (un whole.layout sound)
 
-  pub retyped : (kind : FileType) (s : Slot) (new : Image) (bytes : List ℕ) → ((l : Layout) → IsLayout img l → IsUndeletable img l name s)
+  pub retyped : (kind : EntryType) (s : Slot) (new : Image) (bytes : List ℕ) → ((l : Layout) → IsLayout img l → IsUndeletable img l name s)
       → new ≡ with_type img s kind → sectors_in bytes ≡ new → IsRetyped image name kind bytes
   retyped kind s new bytes un put same = record {
     before = whole;

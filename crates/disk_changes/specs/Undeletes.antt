@@ -8,13 +8,14 @@ use Rattle.damaged_files.specs.declared.sides.planning.Loss.TheVariants.{Refused
 use Rattle.disk_changes.specs.Judged.{IsSoundBut, IsSoundWhole, IsUnsoundOrShort}
 use Rattle.disk_changes.specs.Repairs.{IsRepairRefusal, IsRepaired}
 use Rattle.disk_changes.specs.declared.changes.Changed.{Changed}
+use Rattle.disk_changes.specs.declared.entry_types.EntryType.{EntryType}
+use Rattle.disk_changes.specs.declared.entry_types.EntryType.TheVariants.{Plain, Relative}
 use Rattle.disk_layout.specs.Layout.{Layout}
 use Rattle.disk_layout.specs.Rest.{slot_name}
 use Rattle.disk_layout.specs.declared.slot.Slot.{Slot}
 use Rattle.file_changes.specs.Entries.{IsFirstNamed, IsFreeName, entries_of}
 use Rattle.file_changes.specs.Patches.{patched}
 use Rattle.file_changes.specs.Puts.{type_number}
-use Rattle.file_changes.specs.declared.file_type.FileType.{FileType}
 use Rattle.file_rescues.specs.rescue.Deleted.{deleted_slots}
 
 -- s is the first deleted entry of that name, and no other entry has it
@@ -30,19 +31,24 @@ IsUnfound img l name faults.NoFile = IsFreeName (entries_of l) (slot_name name)
     × IsFreeName (deleted_slots img l.directory) (slot_name name)
 IsUnfound img l name _ = ⊥
 
+-- the type byte of a closed entry that isn't locked
+abbrev pub entry_number : EntryType → ℕ
+entry_number (Plain kind) = type_number kind
+entry_number Relative = 132
+
 -- the disk with that type in the entry: of a closed file that isn't locked
-abbrev pub with_type : Image → Slot → FileType → Image
-with_type img s kind = patched img s.sector (32 * s.number + 2) (type_number kind ∷ [])
+abbrev pub with_type : Image → Slot → EntryType → Image
+with_type img s kind = patched img s.sector (32 * s.number + 2) (entry_number kind ∷ [])
 
 -- the bytes are the image in which the first deleted entry of that name has that type
-pub record IsRetyped (image name : List ℕ) (kind : FileType) (bytes : List ℕ) : Type 0 where
+pub record IsRetyped (image name : List ℕ) (kind : EntryType) (bytes : List ℕ) : Type 0 where
   pub before : IsSoundWhole image
   pub entry : Slot
   pub of : IsUndeletable (sectors_in image) before.layout name entry
   pub is : sectors_in bytes ≡ with_type (sectors_in image) entry kind
 
 -- The disk that comes of it is that image's, repaired so that no sector becomes free; and what is printed.
-pub record IsUndeleted (image name : List ℕ) (kind : FileType) (made : Changed) : Type 0 where
+pub record IsUndeleted (image name : List ℕ) (kind : EntryType) (made : Changed) : Type 0 where
   pub bytes : List ℕ
   pub retyped : IsRetyped image name kind bytes
   pub second : Changed
@@ -59,6 +65,6 @@ IsNoUndeletion image name faults.NoFile =
 IsNoUndeletion image name why = IsUnsoundOrShort image why
 
 -- why it isn't undeleted: there is none, or the disk with it can't be repaired
-abbrev pub IsUndeleteRefusal : (image name : List ℕ) → FileType → CommandFault → Type 0
+abbrev pub IsUndeleteRefusal : (image name : List ℕ) → EntryType → CommandFault → Type 0
 IsUndeleteRefusal image name kind why = IsNoUndeletion image name why
     ⊎ ((bytes : List ℕ) × IsRetyped image name kind bytes × IsRepairRefusal bytes why)

@@ -1,5 +1,6 @@
 //! A change, and what comes of it.
 
+use crate::entry_types::EntryType;
 use d64_image::MemDisk;
 use damaged_files::Loss;
 use file_changes::FileType;
@@ -27,9 +28,9 @@ pub enum Change<'a> {
     Delete {
         name: &'a [u8],
     },
-    /// The first deleted file with the name, which isn't relative, is there again with this type.
+    /// The first deleted file with the name is there again with this type.
     Undelete {
-        kind: FileType,
+        kind: EntryType,
         name: &'a [u8],
     },
     /// The entries of the directory stand in the order of their names.

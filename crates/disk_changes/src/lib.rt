@@ -6,6 +6,7 @@ mod changes;
 mod changing;
 mod copying;
 mod deleting;
+mod entry_types;
 mod judging;
 mod laws;
 mod lines;
@@ -25,6 +26,7 @@ mod undeleting;
 
 pub use changes::{Change, Changed, Lock};
 pub use changing::change;
+pub use entry_types::EntryType;
 pub use laws::{
     columns_come_back, last_lines_count, printed_records_are_stored, records_come_back,
     repairs_print_the_same, stored_again_is_quiet, stored_records_are_so,

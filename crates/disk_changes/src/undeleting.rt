@@ -5,6 +5,7 @@ ghost use Rattle.disk_layout.specs.Layout.{IsLayout, IsSound, Layout};
 ghost use Rattle.disk_changes.specs.Undeletes.{IsUndeletable, IsUndeleted, IsUndeleteRefusal, IsUnfound, with_type};
 
 use crate::changes::Changed;
+use crate::entry_types::EntryType;
 use crate::judging::sound_disk;
 use crate::outcomes::changed;
 use crate::repairing::repaired;
@@ -13,7 +14,7 @@ use command_faults::CommandFault;
 use d64_image::{MemDisk, Sectors};
 use damaged_files::Loss;
 use disk_layout::{Slot, padded_name};
-use file_changes::{FileType, choose_named, overwrite};
+use file_changes::{choose_named, overwrite};
 use file_rescues::deleted_of;
 use reached_disk::read_so_far;
 use std::alloc::Global;
@@ -44,7 +45,7 @@ fn find_deleted(disk: &MemDisk, name: &[u8]) -> Result<Slot, CommandFault>
 }
 
 /// Writes the type of a closed file that isn't locked over that of an entry.
-fn put_type(disk: &mut MemDisk, entry: &Slot, kind: FileType)
+fn put_type(disk: &mut MemDisk, entry: &Slot, kind: EntryType)
     requires { entry.now.number < 8 }
     ensures { disk_image disk.new ≡ with_type (disk_image disk.old) entry.now kind }
 {
@@ -63,7 +64,7 @@ pub(crate) fn undeleted(
     alloc: Global,
     image: &[u8],
     name: &[u8],
-    kind: FileType,
+    kind: EntryType,
 ) -> Result<Changed, CommandFault>
     ensures ok { IfOk result (IsUndeleted image.now name.now kind) }
     ensures err { IfErr result (IsUndeleteRefusal image.now name.now kind) }

@@ -13,8 +13,9 @@ module _ {H : Type 0} (rights : Rights H) (host : H) where
   MayEdit Written path = MayChangeImage rights host path
   MayEdit Printed path = MayReadImage rights host path
 
-  -- the file whose bytes a change takes may be read
+  -- the file whose bytes a change takes, or the image, may be read
   abbrev pub MayReadSource : Edit → Type 0
   MayReadSource (edits.Put file kind loss name) = MayReadText rights host file.now
   MayReadSource (edits.Store records columns loss name) = MayReadText rights host records.now
+  MayReadSource (edits.CopyFile from loss name to) = MayReadImage rights host from.now
   MayReadSource _ = ⊤

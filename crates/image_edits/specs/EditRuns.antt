@@ -38,10 +38,10 @@ module _ {H W : Type 0} (rights : Rights H) (stands : H → List ℕ → Stands)
   IsEditOver Written path edit old new end = NearRunEnds (loss_of edit)
       (OfWritten stands host path (λ all. SaysLogAway (take 174849 all))) old new end ((image text : List ℕ)
       × OfWritten stands host path (λ all. image ≡ take 174849 all) × (¬ (SaysLogAway image))
-      × IsTextFor stands host edit text × IsChangeEnd contents
+      × IsTextFor rights stands host edit text × IsChangeEnd contents
       (λ made. IsEdited edit text image made × IsChangedAt rights changed host path image made)
       (IsUnedited edit text image) old new end)
   IsEditOver Printed path edit old new end = NearRunEnds (loss_of edit)
       (OfImage rights stands host path (λ all. SaysLogAway (take 174849 all))) old new end ((image text : List ℕ)
       × OfImage rights stands host path (λ all. image ≡ take 174849 all) × IsNear (loss_of edit) image
-      × IsTextFor stands host edit text × IsShownEnd contents (IsEdited edit text image) (IsUnedited edit text image) old new end)
+      × IsTextFor rights stands host edit text × IsShownEnd contents (IsEdited edit text image) (IsUnedited edit text image) old new end)

@@ -1,5 +1,6 @@
 -- What comes of a change of an image's files, as the words ask for it. Our own.
-use Rattle.std.specs.Prelude.{◌≡◌, ◌≤◌, ⊤, ℕ, Bool, List, Some, false, length, true}
+use Rattle.std.specs.Prelude.{◌≡◌, ◌≤◌, ⊤, ℕ, Bool, List, Some, false, length, take, true}
+use Rattle.disk_changes.specs.Copies.{IsCopied, IsCopyRefusal}
 use Rattle.disk_changes.specs.Deletes.{IsDeleteRefusal, IsDeleted}
 use Rattle.disk_changes.specs.Locks.{IsLockRefusal, IsLockSet}
 use Rattle.disk_changes.specs.Makes.{IsMade, IsMakeRefusal}
@@ -18,7 +19,8 @@ use Rattle.image_file.specs.paths.Standing.{Stands}
 use Rattle.file_changes.specs.NewNames.{IsNewName}
 use Rattle.image_edits.specs.Columns.{text_in}
 use Rattle.image_edits.specs.Containers.{file_in}
-use Rattle.opened_files.specs.HostFiles.{OfText}
+use Rattle.image_file.specs.paths.Rights.{Rights}
+use Rattle.opened_files.specs.HostFiles.{OfImage, OfText}
 use Rattle.opened_files.specs.Names.{name_bytes}
 use Rattle.image_edits.specs.declared.edit.Edit.{Edit}
 use Rattle.image_edits.specs.declared.edit.Edit.TheVariants as edits
@@ -45,22 +47,26 @@ loss_of (edits.Delete loss name) = loss
 loss_of (edits.Undelete kind loss name) = loss
 loss_of (edits.Sort loss) = loss
 loss_of (edits.Put file kind loss name) = loss
+loss_of (edits.CopyFile from loss name to) = loss
 
 -- a new file can have the name that a file gets, and a record the bytes of one that is made
 abbrev pub IsFitEdit : Edit → Type 0
 IsFitEdit (edits.Make size loss name) = IsNewName (name_bytes name) × IsLength size
 IsFitEdit (edits.Rename loss from to) = IsNewName (name_bytes to)
 IsFitEdit (edits.Put file kind loss name) = IsNewName (name_bytes name)
+IsFitEdit (edits.CopyFile from loss name to) = IsNewName (name_bytes to)
 IsFitEdit (edits.Title id loss name) = length (name_bytes name) ≤ 16
 IsFitEdit _ = ⊤
 
--- the text that a change takes is that of the file that it names, if the host says its bytes: the file that it holds, or records
--- in one column each
-abbrev pub IsTextFor : {H : Type 0} → (H → List ℕ → Stands) → H → Edit → (text : List ℕ) → Type 0
-IsTextFor stands host (edits.Put file kind loss name) text = OfText stands host file.now (λ all. file_in all ≡ Some text)
-IsTextFor stands host (edits.Store records columns loss name) text =
+-- the text that a change takes is that of the file that it names, if the host says its bytes: the file that it holds, records
+-- in one column each, or the image
+abbrev pub IsTextFor : {H : Type 0} → Rights H → (H → List ℕ → Stands) → H → Edit → (text : List ℕ) → Type 0
+IsTextFor rights stands host (edits.Put file kind loss name) text = OfText stands host file.now (λ all. file_in all ≡ Some text)
+IsTextFor rights stands host (edits.Store records columns loss name) text =
     OfText stands host records.now (λ all. text ≡ text_in columns all)
-IsTextFor stands host _ text = ⊤
+IsTextFor rights stands host (edits.CopyFile from loss name to) text =
+    OfImage rights stands host from.now (λ all. text ≡ take 174849 all)
+IsTextFor rights stands host _ text = ⊤
 
 -- the change was made
 abbrev pub IsEdited : Edit → (text image : List ℕ) → Changed → Type 0
@@ -74,6 +80,7 @@ IsEdited (edits.Delete loss name) text image made = IsDeleted image (name_bytes 
 IsEdited (edits.Undelete kind loss name) text image made = IsUndeleted image (name_bytes name) kind made
 IsEdited (edits.Sort loss) text image made = IsSorted image made
 IsEdited (edits.Put file kind loss name) text image made = IsPut image (name_bytes name) kind text made
+IsEdited (edits.CopyFile from loss name to) text image made = IsCopied text (name_bytes name) (name_bytes to) image made
 IsEdited (edits.Store records columns loss name) text image made =
     IsStored image (name_bytes name) text loss made
 
@@ -89,5 +96,6 @@ IsUnedited (edits.Delete loss name) text image why = IsDeleteRefusal image (name
 IsUnedited (edits.Undelete kind loss name) text image why = IsUndeleteRefusal image (name_bytes name) kind why
 IsUnedited (edits.Sort loss) text image why = IsSortRefusal image why
 IsUnedited (edits.Put file kind loss name) text image why = IsPutRefusal image (name_bytes name) kind text why
+IsUnedited (edits.CopyFile from loss name to) text image why = IsCopyRefusal text (name_bytes name) (name_bytes to) image why
 IsUnedited (edits.Store records columns loss name) text image why =
     IsStoreRefusal image (name_bytes name) text loss why

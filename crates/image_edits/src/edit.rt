@@ -2,7 +2,7 @@
 ghost use Rattle.std.specs.Prelude.{◌≡◌};
 ghost use Rattle.image_edits.specs.Edits.{frees};
 
-use disk_changes::Lock;
+use disk_changes::{EntryType, Lock};
 use file_changes::FileType;
 use file_rescues::ColumnForm;
 use opened_files::{Loss, Name};
@@ -110,7 +110,7 @@ pub enum Edit<'a> {
     /// The first deleted file of a name is there again.
     Undelete {
         /// Its type.
-        kind: FileType,
+        kind: EntryType,
         /// What is done if the image has lost its log.
         loss: Loss,
         /// The name of the file.
@@ -131,6 +131,17 @@ pub enum Edit<'a> {
         loss: Loss,
         /// The name of the new file.
         name: Name,
+    },
+    /// A file of another image is copied.
+    CopyFile {
+        /// The path of the other image.
+        from: &'a str,
+        /// What is done if the image has lost its log.
+        loss: Loss,
+        /// The name that the file has there.
+        name: Name,
+        /// The name that its copy gets.
+        to: Name,
     },
     /// Records from the lines of a text are stored in a relative file.
     Store {

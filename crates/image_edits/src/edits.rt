@@ -37,12 +37,12 @@ impl Edit<'_> {
             Edit::Make { loss, .. } | Edit::Store { loss, .. } | Edit::Put { loss, .. } => loss,
             Edit::Rename { loss, .. } | Edit::Title { loss, .. } => loss,
             Edit::Lock { loss, .. } | Edit::Delete { loss, .. } => loss,
-            Edit::Undelete { loss, .. } | Edit::Sort { loss } => loss,
+            Edit::Undelete { loss, .. } | Edit::Sort { loss } | Edit::CopyFile { loss, .. } => loss,
         }
     }
 
-    /// The change that it asks for. `text` has the bytes of its FILE, or the lines of its RECORDS, in one column each; otherwise
-    /// it isn't read.
+    /// The change that it asks for. `text` has the bytes of its FILE, or of the image FROM, or the lines of its RECORDS, in one
+    /// column each; otherwise it isn't read.
     pub fn change<'n>(&'n self, text: &'n [u8]) -> Change<'n>
         requires fit { IsFitEdit self.now }
         ensures fit { IsFit result }
@@ -96,6 +96,15 @@ impl Edit<'_> {
                 kind,
                 content: text,
             },
+            Edit::CopyFile {
+                ref name,
+                ref to,
+                ..
+            } => Change::CopyFile {
+                source: text,
+                name: name.as_bytes(),
+                to: to.as_bytes(),
+            },
             Edit::Store { loss, ref name, .. } => Change::Store {
                 name: name.as_bytes(),
                 text,
@@ -132,15 +141,17 @@ where
 }
 
 /// The bytes that a change takes of a file of the host; none if it takes none.
-fn text_for<R>(rt: &R, edit: &Edit<'_>) -> Result<Vec<u8>, CommandFault>
+fn text_for<F, R>(rt: &R, edit: &Edit<'_>) -> Result<Vec<u8>, CommandFault>
 where
-    R: HostFiles + Input + AllocGlobal,
+    F: Locks + OpenFile + Drop,
+    R: HostFiles<File = F> + Input + AllocGlobal,
     requires { MayReadSource R.rights rt.now edit.now }
-    ensures read { IfOk result (λ text. IsTextFor R.stands rt.now edit.now (vec_items text)) }
-    ensures err { IfErr result IsUnread }
+    ensures read { IfOk result (λ text. IsTextFor R.rights R.stands rt.now edit.now (vec_items text)) }
+    ensures err { IfErr result IsUnbegun }
 {
     match *edit {
         Edit::Put { file, .. } => file_at(rt, file),
+        Edit::CopyFile { from, .. } => image_at(rt, from),
         Edit::Store {
             records,
             columns,

@@ -15,7 +15,7 @@ use Rattle.ledger_cli.specs.Numbers.{tills_in, length_in, place_in}
 use Rattle.ledger_cli.specs.Forms.{AreColumns, choice_in, effect_in, loss_in, unowned_in}
 use Rattle.ledger_cli.specs.Images.{AreCompared, AreDescribed, AreImages, AreOnSheet, IsNoPicture}
 use Rattle.ledger_cli.specs.Looks.{IsAlone, IsAskedBy, word_of}
-use Rattle.ledger_cli.specs.Names.{HasNoName, HasNoNewName, HasName, HasNewName, IsIdOf, HasNoId, HasNoRenaming, type_in}
+use Rattle.ledger_cli.specs.Names.{HasNoName, HasNoNewName, HasName, HasNewName, IsIdOf, HasNoId, HasNoFileCopying, HasNoRenaming, copy_name, entry_type_in, type_in}
 use Rattle.ledger_cli.specs.Flags.{is_given}
 use Rattle.ledger_cli.specs.Positions.{HasNoColumns}
 use Rattle.ledger_jobs.specs.declared.jobs.Job.TheVariants as jobs
@@ -48,6 +48,7 @@ word_of_edit (edits.Delete loss name) = codes "delete"
 word_of_edit (edits.Undelete kind loss name) = codes "undelete"
 word_of_edit (edits.Sort loss) = codes "sort"
 word_of_edit (edits.Put file kind loss name) = codes "put"
+word_of_edit (edits.CopyFile from loss name to) = codes "copy-file"
 word_of_edit (edits.Store records columns loss name) = codes "store"
 
 -- the values and the flags ask for this change
@@ -65,10 +66,12 @@ IsEditIn (edits.Title id loss name) rows = IsNameOf (value (codes "NAME") rows) 
 IsEditIn (edits.Lock lock loss name) rows = IsNameOf (value (codes "NAME") rows) (name_bytes name) × (loss ≡ loss_in rows)
 IsEditIn (edits.Delete loss name) rows = IsNameOf (value (codes "NAME") rows) (name_bytes name) × (loss ≡ loss_in rows)
 IsEditIn (edits.Undelete kind loss name) rows = IsNameOf (value (codes "NAME") rows) (name_bytes name)
-    × (type_in rows ≡ Some kind) × (loss ≡ loss_in rows)
+    × (entry_type_in rows ≡ Some kind) × (loss ≡ loss_in rows)
 IsEditIn (edits.Sort loss) rows = loss ≡ loss_in rows
 IsEditIn (edits.Put file kind loss name) rows = IsNameOf (value (codes "NAME") rows) (name_bytes name)
     × (file.now ≡ value (codes "FILE") rows) × (type_in rows ≡ Some kind) × (loss ≡ loss_in rows)
+IsEditIn (edits.CopyFile from loss name to) rows = IsNameOf (value (codes "NAME") rows) (name_bytes name)
+    × IsNameOf (copy_name rows) (name_bytes to) × (from.now ≡ value (codes "FROM") rows) × (loss ≡ loss_in rows)
 IsEditIn (edits.Store records columns loss name) rows = IsNameOf (value (codes "NAME") rows) (name_bytes name)
     × (records.now ≡ value (codes "RECORDS") rows) × AreColumns rows columns × (loss ≡ loss_in rows)
 
@@ -126,7 +129,7 @@ IsJob found (jobs.New image name id) = Has found (codes "new")
 abbrev pub IsRefusedName : Option (Text × List Row) → Type 0
 IsRefusedName found =
     (Has found (codes "records") (HasNoName (codes "NAME")) ⊎ (Has found (codes "bytes") (HasNoName (codes "NAME"))
-    ⊎ Has found (codes "basic") (HasNoName (codes "NAME"))))
+    ⊎ (Has found (codes "basic") (HasNoName (codes "NAME")) ⊎ Has found (codes "copy-file") HasNoFileCopying)))
     ⊎ (Has found (codes "store") (HasNoName (codes "NAME")) ⊎ (Has found (codes "make") (HasNoNewName (codes "NAME"))
     ⊎ (Has found (codes "delete") (HasNoName (codes "NAME")) ⊎ (Has found (codes "rename") HasNoRenaming
     ⊎ (Has found (codes "new") (HasNoName (codes "NAME")) ⊎ (Has found (codes "put") (HasNoNewName (codes "NAME"))
@@ -154,6 +157,6 @@ IsNoJob kinds found faults.Id = (kinds ≡ []) × (Has found (codes "new") (λ r
     ⊎ Has found (codes "title") (λ rows. HasName (codes "NAME") rows × HasNoId rows))
 IsNoJob kinds found faults.Kind =
     (kinds ≡ []) × (Has found (codes "put") (λ rows. HasNewName (codes "NAME") rows × (type_in rows ≡ None))
-    ⊎ Has found (codes "undelete") (λ rows. type_in rows ≡ None))
+    ⊎ Has found (codes "undelete") (λ rows. entry_type_in rows ≡ None))
 IsNoJob kinds found faults.Flags = (kinds ≡ []) × AreRefusedColumns found faults.Flags
 IsNoJob kinds found faults.Positions = (kinds ≡ []) × AreRefusedColumns found faults.Positions

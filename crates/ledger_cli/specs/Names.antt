@@ -1,9 +1,11 @@
 -- The names that the words give, and the jobs of files with them. Our own.
-use Rattle.std.specs.Prelude.{◌≡◌, ◌⊎◌, ℕ, List, Option, Some, None, Result, Ok, Err, codes, if◌then◌else◌, length}
+use Rattle.std.specs.Prelude.{◌≡◌, ◌⊎◌, ℕ, List, Option, Some, None, Result, Ok, Err, codes, if◌then◌else◌, length, option_map, unwrap_or}
 use Rattle.std.specs.Str.{bytes_eq}
 use Rattle.std.specs.Borrow.{Bor}
-use Rattle.clap.specs.Words.{Row, Text}
+use Rattle.clap.specs.Words.{Row, Text, first_of}
 use Rattle.line_text.specs.bytes.Texts.{AreBytes, text_of}
+use Rattle.disk_changes.specs.declared.entry_types.EntryType.{EntryType}
+use Rattle.disk_changes.specs.declared.entry_types.EntryType.TheVariants.{Plain, Relative}
 use Rattle.file_changes.specs.declared.file_type.FileType.{FileType}
 use Rattle.file_changes.specs.declared.file_type.FileType.TheVariants.{Prg, Seq, Usr}
 use Rattle.file_changes.specs.NewNames.{IsNewName}
@@ -91,6 +93,24 @@ IsRenamingJob rows image result =
     × IsNewName (name_bytes to))
     ⊎ ((result ≡ Err faults.Name) × HasNoRenaming rows)
 
+-- the name that the words give a copy: that of NEW, otherwise of NAME
+abbrev pub copy_name : List Row → Text
+copy_name rows = unwrap_or (first_of (codes "NEW") rows) (value (codes "NAME") rows)
+
+-- the name of the file is no name, or a new file can't have that of the copy
+abbrev pub HasNoFileCopying : List Row → Type 0
+HasNoFileCopying rows = HasNoName (codes "NAME") rows
+    ⊎ ((bytes : List ℕ) → AreBytes bytes → IsNameOf (copy_name rows) bytes → ¬ (IsNewName bytes))
+
+-- the job that copies a file of another image; or one of the two names is none
+abbrev pub IsFileCopyingJob : List Row → Bor Text → Result Job JobFault → Type 0
+IsFileCopyingJob rows image result =
+    ((from : Bor Text) × (name : Name) × (to : Name)
+    × (result ≡ Ok (jobs.Change image (effect_in rows) (edits.CopyFile from (loss_in rows) name to)))
+    × (from.now ≡ value (codes "FROM") rows) × IsNameOf (value (codes "NAME") rows) (name_bytes name)
+    × IsNameOf (copy_name rows) (name_bytes to) × IsNewName (name_bytes to))
+    ⊎ ((result ≡ Err faults.Name) × HasNoFileCopying rows)
+
 -- the job that is made of the name and the ID of a disk; or there is no name for it, or no ID
 abbrev pub IsTitlingJob : List Row → (Name → List ℕ → Job) → Result Job JobFault → Type 0
 IsTitlingJob rows make result =
@@ -103,6 +123,14 @@ IsTitlingJob rows make result =
 abbrev pub type_named : Text → Option FileType
 type_named word = if bytes_eq word (codes "prg") then Some Prg else (if bytes_eq word (codes "seq") then Some Seq
     else (if bytes_eq word (codes "usr") then Some Usr else None))
+
+-- the type of a deleted file that has this word
+abbrev pub entry_type_named : Text → Option EntryType
+entry_type_named word = if bytes_eq word (codes "rel") then Some Relative else option_map Plain (type_named word)
+
+-- the type that the words give a deleted file as TYPE
+abbrev pub entry_type_in : List Row → Option EntryType
+entry_type_in rows = entry_type_named (value (codes "TYPE") rows)
 
 -- the type that the words give as TYPE
 abbrev pub type_in : List Row → Option FileType

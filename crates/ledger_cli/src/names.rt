@@ -9,18 +9,18 @@ ghost use Rattle.line_text.specs.bytes.Texts.{AreBytes};
 ghost use Rattle.file_changes.specs.NewNames.{IsNewName};
 ghost use Rattle.opened_files.specs.Names.{IsNameOf, name_bytes};
 ghost use Rattle.ledger_cli.specs.Names.{IsMakingJob, IsStoringJob, IsNamedJob, IsRecordsJob, IsRenamingJob, IsTitlingJob, IsIdOf};
-ghost use Rattle.ledger_cli.specs.Names.{IsPuttingJob, type_named as named_type};
+ghost use Rattle.ledger_cli.specs.Names.{IsPuttingJob};
 ghost use Rattle.image_edits.specs.declared.edit.Edit.TheVariants as edits;
 ghost use Rattle.ledger_jobs.specs.declared.jobs.Job.TheVariants as jobs;
 ghost use Rattle.image_looks.specs.declared.kinds.Look.TheVariants as looks;
 
 use crate::faults::JobFault;
+use crate::file_types::type_named;
 use crate::forms::{candidates, columns, effect, loss, record_form};
 use crate::numbers::length_of;
 use crate::values::value_of;
 use clap::ArgMatches;
-use disk_changes::Lock;
-use file_changes::FileType;
+use disk_changes::{EntryType, Lock};
 use file_rescues::{FileForm, RecordForm};
 use image_edits::{Columns, Edit};
 use image_looks::Look;
@@ -82,7 +82,7 @@ pub(crate) fn taking_records<'a>(
 }
 
 /// The job that changes an image so, or only prints what that would print.
-fn edited<'a>(matches: &ArgMatches<'a>, image: &'a str, edit: Edit<'a>) -> Job<'a>
+pub(crate) fn edited<'a>(matches: &ArgMatches<'a>, image: &'a str, edit: Edit<'a>) -> Job<'a>
     ensures { result ≡ jobs.Change image.entry (effect_in (rows_of (found_of matches.now))) edit.entry }
 {
     Job::Change {
@@ -93,7 +93,7 @@ fn edited<'a>(matches: &ArgMatches<'a>, image: &'a str, edit: Edit<'a>) -> Job<'
 }
 
 /// The name of a new file that has this text.
-fn new_name(text: &str) -> Option<Name>
+pub(crate) fn new_name(text: &str) -> Option<Name>
     ensures found { IfSome result (λ name. IsNameOf text.now (name_bytes name) × IsNewName (name_bytes name)) }
     ensures none { IsNone result → (bytes : List ℕ) → AreBytes bytes → IsNameOf text.now bytes → ¬ (IsNewName bytes) }
 {
@@ -174,7 +174,7 @@ pub(crate) fn deleting<'a>(matches: &ArgMatches<'a>, image: &'a str) -> Result<J
 pub(crate) fn undeleting<'a>(
     matches: &ArgMatches<'a>,
     image: &'a str,
-    kind: FileType,
+    kind: EntryType,
 ) -> Result<Job<'a>, JobFault>
     ensures { let rows = rows_of (found_of matches.now) in
         IsNamedJob rows (λ name. jobs.Change image.entry (effect_in rows) (edits.Undelete kind (loss_in rows) name)) result }
@@ -229,22 +229,6 @@ pub(crate) fn renaming<'a>(matches: &ArgMatches<'a>, image: &'a str) -> Result<J
         }
         None => Err(JobFault::Name),
     }
-}
-
-/// The type of a file that has this word.
-pub(crate) fn type_named(word: &str) -> Option<FileType>
-    ensures { result ≡ named_type word.now }
-{
-    if word == "prg" {
-        return Some(FileType::Prg);
-    }
-    if word == "seq" {
-        return Some(FileType::Seq);
-    }
-    if word == "usr" {
-        return Some(FileType::Usr);
-    }
-    None
 }
 
 /// The job that puts a file of the host on the disk of an image.

@@ -6,11 +6,13 @@ ghost use Rattle.ledger_jobs.specs.Jobs.{IsFit};
 ghost use Rattle.ledger_cli.specs.Jobs.{IsHeard, IsJob, IsNoJob, IsParse, is_explained as explained};
 
 use crate::faults::JobFault;
+use crate::file_copies::copying_file;
+use crate::file_types::entry_type_named;
 use crate::forms::{byte_form, choice, loss, name_form, repairing};
 use crate::images::{checking, picturing, viewing};
 use crate::names::{
     deleting, empty_disk, locking, making, putting, renaming, sorting, storing, taking_file,
-    taking_records, titling, type_named, undeleting,
+    taking_records, titling, undeleting,
 };
 use crate::numbers::{place_of, tills_of};
 use crate::shops::{copying, formatting, playing};
@@ -64,12 +66,13 @@ fn job_of<'a>(alloc: Global, matches: &ArgMatches<'a>) -> Result<Job<'a>, JobFau
         "make" => making(found, image),
         "store" => storing(found, image),
         "put" => putting(found, image),
+        "copy-file" => copying_file(found, image),
         "rename" => renaming(found, image),
         "title" => titling(found, image),
         "lock" => locking(found, image, Lock::Set),
         "unlock" => locking(found, image, Lock::Cleared),
         "delete" => deleting(found, image),
-        "undelete" => match type_named(value_of(found, "TYPE")) {
+        "undelete" => match entry_type_named(value_of(found, "TYPE")) {
             Some(kind) => undeleting(found, image, kind),
             None => Err(JobFault::Kind),
         },

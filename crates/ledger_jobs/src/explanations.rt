@@ -3,7 +3,7 @@
 ghost use Rattle.ledger_jobs.specs.JobRights.{MayExplain};
 ghost use Rattle.opened_files.specs.Rights.{MayLook};
 
-use crate::failure_lines::{tell_device, tell_files, tell_of, tell_of_image};
+use crate::failure_lines::{tell_device, tell_files, tell_of, tell_of_either, tell_of_image};
 use crate::job_files::{first_file, image_of, text_of};
 use crate::jobs::Job;
 use crate::near_names::tell_name;
@@ -86,6 +86,7 @@ where
                 tell_name(rt, job, image, err);
             }
         }
+        Advice::Either(said) => tell_of_either(err, image, text_of(job).unwrap_or(image), said),
         Advice::Text(said) => tell_of(err, text_of(job).unwrap_or(image), said),
         Advice::Made => tell_made(rt, job, err),
         Advice::Nothing => {}

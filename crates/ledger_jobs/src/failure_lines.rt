@@ -4,6 +4,7 @@ ghost use Rattle.opened_files.specs.Rights.{MayLook};
 
 use crate::job_files::{first_file, image_of};
 use crate::jobs::Job;
+use image_edits::Edit;
 use image_file::{Failure, HostFiles, ShownPath, regular_at};
 use opened_files::STANDARD_INPUT;
 use std::fmt::Display;
@@ -21,6 +22,8 @@ const LOGGED: &str = "; all replies are in its log, which goes with it (docs/KEE
 
 const UNWAITED: &str = "; it is set not to wait (O_NONBLOCK): hand over one that waits";
 
+const TAPE: &str = "it is a tape (T64) of several programs, or of none; cbmconvert takes them out";
+
 const UNREAD: &str = "ledger: a file couldn't be read to its end, or the output not be written";
 
 /// Prints this of the file at a path. If it can't be printed, there is nobody left to read it.
@@ -28,13 +31,16 @@ pub(crate) fn tell_of<E: Write, T: Display + Drop>(err: &mut E, path: &str, said
     let _ = writeln!(err, "ledger: {}: {said}", ShownPath(path));
 }
 
-/// Prints this of a job's image, or of the two that it compares, since it isn't known which one it is.
+/// Prints this of one of two images, since it isn't known which one it is.
+pub(crate) fn tell_of_either<E: Write>(err: &mut E, one: &str, other: &str, said: &str) {
+    let (one, other) = (ShownPath(one), ShownPath(other));
+    let _ = writeln!(err, "ledger: {one} or {other}: {said}");
+}
+
+/// Prints this of a job's image, or of the two that it compares.
 pub(crate) fn tell_of_image<E: Write>(err: &mut E, job: &Job<'_>, said: &str) {
     match job {
-        Job::Compare { before, after } => {
-            let (before, after) = (ShownPath(before), ShownPath(after));
-            let _ = writeln!(err, "ledger: {before} or {after}: {said}");
-        }
+        Job::Compare { before, after } => tell_of_either(err, before, after, said),
         _ => tell_of(err, image_of(job), said),
     }
 }
@@ -86,6 +92,19 @@ fn image_at_fault<'a, R: HostFiles>(rt: &R, job: &Job<'a>) -> Option<(&'a str, i
     }
 }
 
+/// Prints that a file wasn't read to its end; or that a tape has no program, or several, since the system said nothing of FILE.
+fn tell_unread<E: Write>(job: &Job<'_>, err: &mut E) {
+    match job {
+        Job::Change {
+            edit: Edit::Put { file, .. },
+            ..
+        } => tell_of(err, file, TAPE),
+        _ => {
+            let _ = writeln!(err, "{UNREAD}");
+        }
+    }
+}
+
 /// Prints why a file couldn't be opened, read or written: what the system said of it. If it said nothing, something else
 /// than a regular file stands where an image is wanted.
 pub(crate) fn tell_files<R: HostFiles, E: Write>(
@@ -105,9 +124,7 @@ pub(crate) fn tell_files<R: HostFiles, E: Write>(
     }
     match image_at_fault(rt, job) {
         Some((image, error)) => tell_of(err, image, error),
-        None => {
-            let _ = writeln!(err, "{UNREAD}");
-        }
+        None => tell_unread(job, err),
     }
 }
 

@@ -32,7 +32,7 @@ pub(crate) fn image_of<'a>(job: &Job<'a>) -> &'a str {
     first_file(job).unwrap_or("")
 }
 
-/// The script or the records that a job reads after its first file.
+/// The script, the records or the other image that a job reads after its first file.
 pub(crate) fn text_of<'a>(job: &Job<'a>) -> Option<&'a str> {
     match job {
         Job::Play { script, .. } | Job::PlayLogged { script, .. } | Job::Dry { script } => Some(
@@ -42,6 +42,10 @@ pub(crate) fn text_of<'a>(job: &Job<'a>) -> Option<&'a str> {
             edit: Edit::Store { records, .. },
             ..
         } => Some(records),
+        Job::Change {
+            edit: Edit::CopyFile { from, .. },
+            ..
+        } => Some(from),
         _ => None,
     }
 }

@@ -1,9 +1,11 @@
 //! What a refusal is about, and what is said of it to a person.
 
 use crate::jobs::Job;
+use crate::size_lines::SIZE;
 use command_faults::CommandFault;
 use d64_image::Place;
 use disk_layout::{Fault, map_place};
+use image_edits::Edit;
 
 /// What a line for a person is about.
 pub(crate) enum Advice {
@@ -17,8 +19,10 @@ pub(crate) enum Advice {
     Image(&'static str),
     /// A name that no file of the image has.
     Name,
-    /// The script or the records, of which this is printed.
+    /// The script, the records or the other image, of which this is printed.
     Text(&'static str),
+    /// The image or the other image, of which this is printed.
+    Either(&'static str),
     /// A file that is to be made.
     Made,
     /// Nothing that the refusal's own line leaves open.
@@ -147,10 +151,37 @@ fn about_fault(fault: CommandFault) -> Advice {
     }
 }
 
+const ONE_IMAGE: &str = "FROM and IMAGE have to be two files; `bytes` and `put` copy a file on one disk";
+
+const NO_SOURCE: &str = "it has no closed PRG, SEQ or USR file of this name; `records`, `make` and `store` copy a relative one";
+
+/// What a refusal of a file's copy between these two images is about: of many it isn't known which of them it is.
+fn about_copy(from: &str, image: &str, fault: CommandFault) -> Advice {
+    match fault {
+        CommandFault::NoFile => Advice::Text(NO_SOURCE),
+        CommandFault::ImageSize => Advice::Either(SIZE),
+        CommandFault::Layout(fault) => Advice::Either(said_of_fault(fault)),
+        CommandFault::Short(_) => Advice::Either(CUT_SHORT),
+        CommandFault::InUse if from == image => Advice::Image(ONE_IMAGE),
+        CommandFault::InUse => Advice::Either(TAKEN),
+        CommandFault::Log => Advice::Either(FOREIGN_LOG),
+        CommandFault::TwoNames => Advice::Either(SECOND_NAME),
+        fault => about_fault(fault),
+    }
+}
+
 /// What a refusal of this job is about.
 pub(crate) fn subject_of(job: &Job<'_>, refusal: CommandFault) -> Advice {
     match (job, refusal) {
         (Job::Salvage { .. }, CommandFault::Log) => Advice::Image(NO_BASE),
+        (
+            Job::Change {
+                image,
+                edit: Edit::CopyFile { from, .. },
+                ..
+            },
+            fault,
+        ) => about_copy(from, image, fault),
         (_, fault) => about_fault(fault),
     }
 }

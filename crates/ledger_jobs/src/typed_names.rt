@@ -9,7 +9,10 @@ use std::io::Write;
 fn given_name<'j>(job: &'j Job<'_>) -> Option<&'j Name> {
     match job {
         Job::Change {
-            edit: Edit::Put { name, .. } | Edit::Make { name, .. } | Edit::Rename { to: name, .. },
+            edit: Edit::Put { name, .. }
+            | Edit::Make { name, .. }
+            | Edit::Rename { to: name, .. }
+            | Edit::CopyFile { to: name, .. },
             ..
         } => Some(name),
         _ => None,

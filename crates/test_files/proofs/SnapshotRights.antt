@@ -43,6 +43,7 @@ module _ (host : Snapshot) where
   source : (what : Edit) → MayReadSource snapshot_rights host what
   source (edits.Put file kind loss name) = λ other. refl
   source (edits.Store records columns loss name) = λ other. refl
+  source (edits.CopyFile from loss name to) = read from.now
   source what = tt
 
   pub may-do : (job : Job) → MayDo snapshot_rights host job

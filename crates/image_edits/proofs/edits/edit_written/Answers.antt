@@ -20,7 +20,7 @@ returns-in_err-image g c =
 pub returns-in_err-text : goal.returns-in_err-text
 returns-in_err-text g c =
     let p = err_from_is_err_and c.from_residual-in_err-text.result c.from_residual-in_err-text.ensures.1 in
-    not-near c.args.out.now c.from_residual-in_err-text.result _ _ _ _ (p.1 ∙ ap Err p.2) (inl (inl (inl c.in_err-text.ensures.err)))
+    not-near c.args.out.now c.from_residual-in_err-text.result _ _ _ _ (p.1 ∙ ap Err p.2) (inl c.in_err-text.ensures.err)
 
 pub returns : goal.returns
 returns g c =
@@ -33,7 +33,7 @@ returns g c =
       c.as_slice.result.now,
       (λ all is. c.as_slice-2.ensures.value ∙ c.in_ok-image.ensures.read all is),
       subst (λ (bytes : List ℕ). ¬ (SaysLogAway bytes)) (sym c.as_slice-2.ensures.value) c.in_ok-image.ensures.whole,
-      subst (IsTextFor g.R.HostFiles.stands c.args.rt.now c.args.edit.now) (sym c.as_slice.ensures.value)
+      subst (IsTextFor g.R.HostFiles.rights g.R.HostFiles.stands c.args.rt.now c.args.edit.now) (sym c.as_slice.ensures.value)
           c.in_ok-text.ensures.read,
       (
         run.0,

@@ -12,10 +12,10 @@ use Rattle.ledger_jobs.specs.Jobs.{IsFit}
 use Rattle.ledger_cli.specs.Jobs.{IsJob}
 use Rattle.ledger_cli.specs.Flags.{is_given}
 use Rattle.ledger_cli.specs.Forms.{candidates_in, effect_in, loss_in}
-use Rattle.ledger_cli.specs.Names.{type_named}
+use Rattle.ledger_cli.specs.Names.{entry_type_named}
 use Rattle.ledger_cli.specs.Numbers.{spelled_place}
 use Rattle.ledger_cli.proofs.Pictures.{picturing-met}
-use Rattle.ledger_cli.proofs.Named.{making-met, named-met, putting-met, records-met, renaming-met}
+use Rattle.ledger_cli.proofs.Named.{file-copying-met, making-met, named-met, putting-met, records-met, renaming-met}
 use Rattle.ledger_cli.proofs.Named.{storing-met, titling-met}
 use Rattle.ledger_cli.proofs.Parses.{copy-fit, copy-met, format-fit, format-met, met-has, met-is, play-fit, play-met}
 use Rattle.ledger_cli.proofs.Parses.{repair-fit, repair-met}
@@ -153,7 +153,7 @@ returns-in-basic c =
     let met = named-met _ rows (λ name. jobs.Look c.value_of-image.result (looks.Bytes files.Listing (candidates_in rows) name))
     c.taking_file-in-basic.result
     (λ name at. record { rows = rows; is = is; holds = (c.value_of-image.ensures, tt, (at, refl)) }) (λ name. tt)
-    (λ missing. inl (inr (inr (record { rows = rows; is = is; holds = missing })))) c.taking_file-in-basic.ensures in
+    (λ missing. inl (inr (inr (inl (record { rows = rows; is = is; holds = missing }))))) c.taking_file-in-basic.ensures in
     record { job = met.0; fit = met.1 }
 
 pub returns-in-make : goal.returns-in-make
@@ -175,6 +175,13 @@ returns-in-put c =
     let is = met-is c.parsed_subcommand.result _ c.in-Some.name c.in-Some.found _ c.parsed_subcommand.ensures c.in-Some.is c.in-put.is in
     let met = putting-met _ (rows_of (found_of c.in-Some.found.now)) c.value_of-image.result c.putting.result is c.value_of-image.ensures
     c.putting.ensures in
+    record { job = met.0; fit = met.1 }
+
+pub returns-in-copy-file : goal.returns-in-copy-file
+returns-in-copy-file c =
+    let is = met-is c.parsed_subcommand.result _ c.in-Some.name c.in-Some.found _ c.parsed_subcommand.ensures c.in-Some.is c.in-copy-file.is in
+    let met = file-copying-met _ (rows_of (found_of c.in-Some.found.now)) c.value_of-image.result c.copying_file.result is
+    c.value_of-image.ensures c.copying_file.ensures in
     record { job = met.0; fit = met.1 }
 
 pub returns-in-rename : goal.returns-in-rename
@@ -211,22 +218,22 @@ returns-in-unlock c =
     (λ missing. inr (inr (inr (inr (inr (inr (inr (inr (inr (inl (record { rows = rows; is = is; holds = missing }))))))))))) c.locking-in-unlock.ensures in
     record { job = met.0; fit = met.1 }
 
-pub returns-in-Some-type_named : goal.returns-in-Some-type_named
-returns-in-Some-type_named c =
+pub returns-in-Some-entry_type_named : goal.returns-in-Some-entry_type_named
+returns-in-Some-entry_type_named c =
     let rows = rows_of (found_of c.in-Some.found.now) in
     let is = met-is c.parsed_subcommand.result _ c.in-Some.name c.in-Some.found _ c.parsed_subcommand.ensures c.in-Some.is c.in-undelete.is in
-    let typed = ap type_named (sym c.value_of-in-undelete.ensures) ∙ sym c.in-Some-type_named.ensures in
-    let met = named-met _ rows (λ name. jobs.Change c.value_of-image.result (effect_in rows) (edits.Undelete c.in-Some-type_named.kind (loss_in rows) name)) c.undeleting.result
+    let typed = ap entry_type_named (sym c.value_of-in-undelete.ensures) ∙ sym c.in-Some-entry_type_named.ensures in
+    let met = named-met _ rows (λ name. jobs.Change c.value_of-image.result (effect_in rows) (edits.Undelete c.in-Some-entry_type_named.kind (loss_in rows) name)) c.undeleting.result
     (λ name at. record { rows = rows; is = is; holds = (c.value_of-image.ensures, (at, typed, refl), refl) }) (λ name. tt)
     (λ missing. inr (inr (inr (inr (inr (inr (inr (inr (inr (inr (record { rows = rows; is = is; holds = missing }))))))))))) c.undeleting.ensures in
     record { job = met.0; fit = met.1 }
 
-pub returns-in-None-type_named : goal.returns-in-None-type_named
-returns-in-None-type_named c = record {
+pub returns-in-None-entry_type_named : goal.returns-in-None-entry_type_named
+returns-in-None-entry_type_named c = record {
   job = (
     refl,
     inr (met-has c.parsed_subcommand.result _ c.in-Some.name c.in-Some.found _ _ c.parsed_subcommand.ensures c.in-Some.is c.in-undelete.is
-        (ap type_named (sym c.value_of-in-undelete.ensures) ∙ sym c.in-None-type_named.ensures)),
+        (ap entry_type_named (sym c.value_of-in-undelete.ensures) ∙ sym c.in-None-entry_type_named.ensures)),
   );
   fit = tt;
 }
