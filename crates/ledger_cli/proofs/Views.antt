@@ -1,5 +1,5 @@
 -- The job that prints this of one image, or of several, where its words are parsed.
-use Rattle.std.proofs.Common.{◌≡◌, ◌∙◌, Bool, Bor, List, Option, Some, false, inl, inr, refl, subst, sym, true, []}
+use Rattle.std.proofs.Common.{◌≡◌, ◌∙◌, Bool, Bor, List, None, Option, Some, false, inl, inr, refl, subst, sym, true, []}
 use Rattle.std.specs.Prelude.{IfOk, MatchResult, Result, codes, option_map, ⊤}
 use Rattle.clap.specs.Words.{Row, Text, found_of, rows_of}
 use Rattle.clap.specs.declared.parser.matches.ArgMatches.{ArgMatches}

@@ -26,17 +26,16 @@ described-met rows form images r given told (inl (all, same, items)) =
     inr (inl (form, all, same, subst (AreDescribed rows form) (sym items) (given, told)))
 described-met rows form images r given told (inr none) = inr (inr none)
 
-pub returns-else-let-Some : goal.returns-else-let-Some
-returns-else-let-Some c =
-    let rows = rows_of (found_of c.args.matches.now) in
-    inl (
-      sym c.description_of.ensures ∙ c.in-None.is,
-      subst (λ (what : Look). IsLookJob rows what c.viewing.result) c.checked.ensures c.viewing.ensures,
-    )
+pub returns-in_default : goal.returns-in_default
+returns-in_default c = inl (
+  sym c.in_default.ensures,
+  subst (λ (what : Look). IsLookJob (rows_of (found_of c.args.matches.now)) what c.viewing.result) c.checked.ensures
+  c.viewing.ensures,
+)
 
 pub returns : goal.returns
 returns c =
     let rows = rows_of (found_of c.args.matches.now) in
-    described-met rows c.in-Some.form c.in-Some-2.images.now c.described.result (sym c.description_of.ensures ∙ c.in-Some.is)
-    (given-values c.values_of.result c.in-Some-2.images (all_of (codes "IMAGE") rows) c.in-Some-2.is c.values_of.ensures)
-    c.described.ensures
+    described-met rows c.in-Some.form c.in-Some-values_of.images.now c.described.result (sym c.in-Some.ensures)
+    (given-values c.values_of.result c.in-Some-values_of.images (all_of (codes "IMAGE") rows) c.in-Some-values_of.is
+    c.values_of.ensures) c.described.ensures

@@ -15,7 +15,7 @@ use Rattle.ledger_cli.specs.Forms.{candidates_in, effect_in, loss_in}
 use Rattle.ledger_cli.specs.Names.{entry_type_named}
 use Rattle.ledger_cli.specs.Numbers.{spelled_place}
 use Rattle.ledger_cli.proofs.Pictures.{picturing-met}
-use Rattle.ledger_cli.proofs.Named.{file-copying-met, making-met, named-met, putting-met, records-met, renaming-met}
+use Rattle.ledger_cli.proofs.Named.{making-met, named-met, putting-met, records-met, renaming-met}
 use Rattle.ledger_cli.proofs.Named.{storing-met, titling-met}
 use Rattle.ledger_cli.proofs.Parses.{copy-fit, copy-met, format-fit, format-met, met-has, met-is, play-fit, play-met}
 use Rattle.ledger_cli.proofs.Parses.{repair-fit, repair-met}
@@ -175,13 +175,6 @@ returns-in-put c =
     let is = met-is c.parsed_subcommand.result _ c.in-Some.name c.in-Some.found _ c.parsed_subcommand.ensures c.in-Some.is c.in-put.is in
     let met = putting-met _ (rows_of (found_of c.in-Some.found.now)) c.value_of-image.result c.putting.result is c.value_of-image.ensures
     c.putting.ensures in
-    record { job = met.0; fit = met.1 }
-
-pub returns-in-copy-file : goal.returns-in-copy-file
-returns-in-copy-file c =
-    let is = met-is c.parsed_subcommand.result _ c.in-Some.name c.in-Some.found _ c.parsed_subcommand.ensures c.in-Some.is c.in-copy-file.is in
-    let met = file-copying-met _ (rows_of (found_of c.in-Some.found.now)) c.value_of-image.result c.copying_file.result is
-    c.value_of-image.ensures c.copying_file.ensures in
     record { job = met.0; fit = met.1 }
 
 pub returns-in-rename : goal.returns-in-rename
