@@ -89,7 +89,10 @@ fn explain_words<E: Write>(fault: &JobFault, err: &mut E) {
             "ledger: ID has two bytes; one that isn't plain text is a backslash and two digits, such as \\c1"
         ),
         JobFault::Flags => writeln!(err, "ledger: give --fields or --at, not both"),
-        JobFault::Kind => writeln!(err, "ledger: TYPE is prg, seq or usr; of a deleted file, rel too"),
+        JobFault::Kind => writeln!(
+            err,
+            "ledger: TYPE is prg, seq or usr; of a deleted file, rel too"
+        ),
         JobFault::Positions => writeln!(
             err,
             "ledger: POSITIONS are up to 32 numbers of 1 to 254, which rise from 1, such as 1,25,49"
