@@ -30,7 +30,7 @@ pub returns-in_default : goal.returns-in_default
 returns-in_default c = inl (
   sym c.in_default.ensures,
   subst (λ (what : Look). IsLookJob (rows_of (found_of c.args.matches.now)) what c.viewing.result) c.checked.ensures
-  c.viewing.ensures,
+      c.viewing.ensures,
 )
 
 pub returns : goal.returns
