@@ -214,7 +214,7 @@ class Logs:
     def alone(self):
         """A log that stands alone."""
         self.killed()
-        other, kept = self.folder / "other.d64", self.folder / "other.d64-log"
+        other, kept = self.folder / "second.d64", self.folder / "second.d64-log"
         shutil.copy(self.log, kept)
         held = self.files()
         for word, *rest in (["format", "--new", other, "--tills", 4], ["copy", self.image, other]):
@@ -225,7 +225,7 @@ class Logs:
     def two_names(self):
         """An image with a second name: TWO NAMES, and nothing is changed; by the name without a log, LOG AWAY."""
         self.killed()
-        other = self.folder / "other.d64"
+        other = self.folder / "second.d64"
         os.link(self.image, other)
         held = self.files()
         for command in [*LOOKING, *CHANGING]:
