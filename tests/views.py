@@ -86,13 +86,21 @@ def beyond(disk, entry, raw, at, places):
     return f'BEYOND {place[0]}/{place[1]} "{entry.name}"\n'
 
 
+def owner_name(disk, place):
+    """The name of the entry that has the sector, in quotation marks after a space; nothing if it is no entry's."""
+    owner = disk.owner.get(place) if disk.has_directory else None
+    if owner is None or owner[0] in ("map", "directory"):
+        return ""
+    return f' "{disk.entries[owner[0]].name}"'
+
+
 def trim_text(image, errors, fault):
     """What `trim` reports of the tracks of an image with these error bytes."""
     disk = Disk(image)
     lines = []
     for place, error in zip(PLACES, errors):
         if error != 1:
-            lines.append(f"ERROR {ERRORS.get(error, f'BYTE {error}')} {place[0]}/{place[1]}\n")
+            lines.append(f"ERROR {ERRORS.get(error, f'BYTE {error}')} {place[0]}/{place[1]}{owner_name(disk, place)}\n")
     if not disk.has_directory:
         return "".join(lines) + fault + "\n"
     slots = [(place, disk.sector(place)[at:at + 32]) for place in disk.directory for at in range(0, 256, 32)]

@@ -177,9 +177,9 @@ const TRIM: Subcommand = Subcommand {
     more: "\
 It prints an image of 174848 bytes, as every other command takes it, from one of
 35 or 40 tracks with or without error bytes. On standard error it prints a line
-for each sector that the drive couldn't read, for example ERROR 23 17/4. A file
-that goes on past track 35 has a line too: BEYOND, the sector whose link leads
-there, and the file's name.
+for each sector that the drive couldn't read, with the file that has it, such as
+ERROR 23 17/4 \"MENU\". A file that goes on past track 35 has a line too: BEYOND,
+the sector whose link leads there, and the file's name.
 
 Exit status:
   0  all of the image is there

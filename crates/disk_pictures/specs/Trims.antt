@@ -1,7 +1,7 @@
 -- What is printed of an image that may have more tracks, or error bytes. Our own, except the error bytes (the D64
 -- layout).
 use Rattle.std.specs.Prelude.{◌≡◌, ◌⊎◌, ◌↔◌, ℕ, ◌+◌, ◌-◌, ◌*◌, ◌&&◌, Bool, false, IsTrue, List, [], ◌++◌, None, Option, Some}
-use Rattle.std.specs.Prelude.{codes, decimal, flat_map, if◌then◌else◌, length, nat_eq, nat_le, slice_get, slice_index, take}
+use Rattle.std.specs.Prelude.{codes, decimal, flat_map, if◌then◌else◌, length, nat_eq, nat_le, option_map, slice_get, slice_index, take}
 use Rattle.std.specs.Io.KnownBytes.{Appends}
 use Rattle.d64_image.specs.Memory.{sectors_in}
 use Rattle.d64_image.specs.Places.{index_of}
@@ -13,9 +13,11 @@ use Rattle.disk_layout.specs.declared.faults.Fault.{Fault}
 use Rattle.disk_layout.specs.declared.slot.Slot.{Slot}
 use Rattle.line_text.specs.bytes.Texts.{text_of}
 use Rattle.reached_disk.specs.Sizes.{IsImageSize, error_of}
-use Rattle.disk_pictures.specs.Drawings.{IsDrawn}
+use Rattle.disk_pictures.specs.Drawings.{IsDrawn, owner_of}
 use Rattle.reached_disk.specs.Names.{name_of}
 use Rattle.disk_pictures.specs.Pictures.{each_place}
+use Rattle.disk_pictures.specs.declared.owners.Owner.{Owner}
+use Rattle.disk_pictures.specs.declared.owners.Owner.TheVariants as owners
 use Rattle.command_faults.specs.declared.faults.CommandFault.{CommandFault}
 use Rattle.command_faults.specs.declared.faults.CommandFault.TheVariants as faults
 
@@ -25,14 +27,30 @@ error_number e =
     if nat_le 2 e && nat_le e 11 then decimal (e + 18)
     else (if nat_eq e 15 then codes "74" else codes "BYTE " ++ decimal e)
 
--- the line of a sector that wasn't read: ERROR 23 17/4
-abbrev pub error_line : Place → Option ℕ → List ℕ
-error_line p None = []
-error_line p (Some e) = codes "ERROR " ++ (error_number e ++ (codes " " ++ (place_text p ++ codes "\n")))
+-- the entry that has the sector, if this is drawn
+abbrev pub entry_of : Layout → Owner → Option Slot
+entry_of l (owners.Blocks k) = option_map (λ f. f.slot) (slice_get l.files k)
+entry_of l (owners.Sides k) = option_map (λ f. f.slot) (slice_get l.files k)
+entry_of l _ = None
+
+abbrev pub entry_at : Option Layout → Place → Option Slot
+entry_at None p = None
+entry_at (Some l) p = entry_of l (owner_of l p)
+
+-- its name, in quotation marks after a space
+abbrev pub name_text : Option Slot → List ℕ
+name_text None = []
+name_text (Some s) = codes " \"" ++ (text_of (name_of s) ++ codes "\"")
+
+-- the line of a sector that wasn't read, with the entry that has it: ERROR 23 17/4 "NAME"
+abbrev pub error_line : Place → Option Slot → Option ℕ → List ℕ
+error_line p entry None = []
+error_line p entry (Some e) =
+    codes "ERROR " ++ (error_number e ++ (codes " " ++ (place_text p ++ (name_text entry ++ codes "\n"))))
 
 -- those of all sectors of tracks 1 to 35
-abbrev pub errors_text : List ℕ → List ℕ
-errors_text image = each_place (λ p. error_line p (error_of image p))
+abbrev pub errors_text : List ℕ → Option Layout → List ℕ
+errors_text image drawn = each_place (λ p. error_line p (entry_at drawn p) (error_of image p))
 
 -- a track from 36 to 40
 abbrev pub is_past : ℕ → Bool
@@ -67,7 +85,7 @@ file_text image f = past_line f.slot (blocks_past image f) ++ past_line f.slot (
 
 -- what is printed of an image with this drawn: its sectors that weren't read, and its files that go on past track 35
 unfoldable pub trim_text : List ℕ → Layout → List ℕ
-trim_text image l = errors_text image ++ flat_map (file_text image) l.files
+trim_text image l = errors_text image (Some l) ++ flat_map (file_text image) l.files
 
 -- the line of a directory that can't be read
 abbrev pub layout_line : Fault → List ℕ
@@ -92,7 +110,7 @@ IsTrimTold told image err new_err whole =
     ((l : Layout) × IsDrawn (sectors_in (take 174848 image)) l
     × Appends (told err) (told new_err) (trim_text image l) × (IsTrue whole ↔ IsAllThere image l))
     ⊎ ((fault : Fault) × HoldsOfDirectory nowhere (sectors_in (take 174848 image)) fault
-    × Appends (told err) (told new_err) (errors_text image ++ layout_line fault) × (whole ≡ false))
+    × Appends (told err) (told new_err) (errors_text image None ++ layout_line fault) × (whole ≡ false))
 
 -- tracks 1 to 35 of the image were printed, and what isn't there was listed
 pub record IsTrimmed {W E : Type 0} (contents : W → Option (List ℕ)) (told : E → Option (List ℕ)) (image : List ℕ)

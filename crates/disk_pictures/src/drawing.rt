@@ -7,6 +7,7 @@ ghost use Rattle.disk_pictures.specs.Owners.{owner_in};
 use crate::drawn_file::DrawnFile;
 use crate::owners::{Owner, Owners};
 use d64_image::Place;
+use disk_layout::Slot;
 
 /// What is drawn of a disk.
 #[derive(Drop)]
@@ -26,7 +27,9 @@ pub(crate) struct Drawing {
 }
 
 impl Drawing {
+    ghost use Rattle.std.specs.Prelude.{option_map, slice_get};
     ghost use Rattle.disk_pictures.specs.Held.{drawn_in};
+    ghost use Rattle.disk_pictures.specs.Trims.{entry_of};
 
     /// The drawing of these, with a table of whose each sector is.
     pub(crate) fn new(map: [u8; 256], directory: Vec<Place>, files: Vec<DrawnFile>) -> Drawing
@@ -48,5 +51,27 @@ impl Drawing {
         ensures { result ≡ owner_of (drawn_in self.now) place }
     {
         self.owners.owner(place)
+    }
+
+    /// The entry with this number, if there is one.
+    fn entry(&self, number: usize) -> Option<&Slot>
+        ensures { option_map (λ slot. slot.now) result
+            ≡ option_map (λ f. f.slot) (slice_get (drawn_in self.now).files number) }
+    {
+        match self.files.as_slice().get(number) {
+            Some(file) => Some(&file.slot),
+            None => None,
+        }
+    }
+
+    /// The entry that has the sector, if one has.
+    pub(crate) fn entry_with(&self, place: Place) -> Option<&Slot>
+        ensures { option_map (λ slot. slot.now) result
+            ≡ entry_of (drawn_in self.now) (owner_of (drawn_in self.now) place) }
+    {
+        match self.owner(place) {
+            Owner::Blocks(number) | Owner::Sides(number) => self.entry(number),
+            _ => None,
+        }
     }
 }

@@ -1,5 +1,5 @@
 //! Tracks 1 to 35 of an image that may have more, or error bytes, and what isn't there.
-ghost use Rattle.std.specs.Prelude.{◌≡◌, ◌↔◌, ◌≤◌, ◌++◌, false, IfErr, IfOk, IsTrue, MatchResult, OnOk, Some, length};
+ghost use Rattle.std.specs.Prelude.{◌≡◌, ◌↔◌, ◌≤◌, ◌++◌, false, IfErr, IfOk, IsTrue, MatchResult, None, OnOk, Some, length};
 ghost use Rattle.std.specs.Io.KnownBytes.{Appends};
 ghost use Rattle.d64_image.specs.Memory.{sectors_in};
 ghost use Rattle.disk_layout.specs.Fault.{HoldsOfDirectory, nowhere};
@@ -63,7 +63,7 @@ fn report<E: Write>(err: &mut E, image: &[u8], drawing: &Drawing) -> Result<bool
     ensures err { IfErr result (λ fault. fault ≡ faults.File) }
 {
     let files = drawing.files.as_slice();
-    print_errors(err, image)?;
+    print_errors(err, image, Some(drawing))?;
     print_files(err, image, files)?;
     flush(err)?;
     let read = is_read(image);
@@ -74,18 +74,18 @@ fn report<E: Write>(err: &mut E, image: &[u8], drawing: &Drawing) -> Result<bool
 /// Reports the sectors that weren't read, and why the directory can't be.
 fn report_unread<E: Write>(err: &mut E, image: &[u8], fault: Fault) -> Result<bool, CommandFault>
     ensures ok { IfOk result (λ whole. Appends (E.contents err.old) (E.contents err.new)
-        (errors_text image.now ++ layout_line fault) × (whole ≡ false)) }
+        (errors_text image.now None ++ layout_line fault) × (whole ≡ false)) }
     ensures err { IfErr result (λ fault. fault ≡ faults.File) }
 {
-    print_errors(err, image)?;
+    print_errors(err, image, None)?;
     print_text(err, LayoutLine(fault))?;
     flush(err)?;
     Ok(false)
 }
 
 /// Prints, on `out`, the 174,848 bytes of tracks 1 to 35 of an image of 35 tracks or 40, with or without error bytes. On
-/// `err` it prints a line for each of their sectors that wasn't read when the image was made, and for each file that goes
-/// on past track 35. Returns whether there is no such line.
+/// `err` it prints a line for each of their sectors that wasn't read when the image was made, with the first entry that has
+/// it, and for each file that goes on past track 35. Returns whether there is no such line.
 ///
 /// If the directory's sectors aren't a chain on track 18, a line says why, and nothing is known of the files. `ImageSize`
 /// and `NoMemory`: nothing was printed. `File` if an output failed; both may then have a part.

@@ -1,7 +1,7 @@
 -- What is told of an image that is trimmed, part by part.
 use Rattle.std.proofs.Common.{◌≡◌, ◌<◌, ◌+◌, ◌++◌, ℕ, Bool, false, List, [], ◌∷◌, take, get_or, length, map, ap}
 use Rattle.std.proofs.Common.{subst, sym, ◌∙◌, inl, inr, arith}
-use Rattle.std.specs.Prelude.{◌↔◌, IsTrue, Option, Some, flat_map, option_map, slice_get}
+use Rattle.std.specs.Prelude.{◌↔◌, IsTrue, None, Option, Some, flat_map, option_map, slice_get}
 use Rattle.std.specs.Io.KnownBytes.{Appends, Keeps}
 use Rattle.std.proofs.KnownBytes.{Appends-kept, Appends-trans}
 use Rattle.std.proofs.lemmas.Bool.{cases_lt}
@@ -45,7 +45,7 @@ whole-all image fs i all before k f at =
     before k (omega (arith, inside, all, length-map fs file_in)) f at
 
 -- what is told of both is told
-pub trim-told : (a b c d : Option (List ℕ)) (image : List ℕ) (l : Layout) → Appends a b (errors_text image)
+pub trim-told : (a b c d : Option (List ℕ)) (image : List ℕ) (l : Layout) → Appends a b (errors_text image (Some l))
     → Appends b c (flat_map (file_text image) l.files) → Keeps c d → Appends a d (trim_text image l)
 unfolding trim_text
 trim-told a b c d image l errors files kept =
@@ -82,7 +82,7 @@ module _ {W E : Type 0} (contents : W → Option (List ℕ)) (told : E → Optio
   }
 
   pub trimmed-unread : (fault : Fault) (whole : Bool) → HoldsOfDirectory nowhere (sectors_in tracks) fault
-      → Appends (told err) (told new_err) (errors_text image ++ layout_line fault) → whole ≡ false
+      → Appends (told err) (told new_err) (errors_text image None ++ layout_line fault) → whole ≡ false
       → IsTrimmed contents told image old new err new_err whole
   trimmed-unread fault whole holds text is = record {
     size = size;
