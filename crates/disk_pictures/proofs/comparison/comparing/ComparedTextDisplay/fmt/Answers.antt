@@ -1,4 +1,4 @@
--- The first disk's name, what a check of it reports, and how many sectors differ.
+-- The paths, the first disk's name, what a check of it reports, and how many sectors differ.
 use Rattle.std.proofs.Common.{refl}
 use Rattle.std.proofs.Output.{has_written_of_eq}
 use Rattle.disk_pictures.specs.ComparedPages.{compared_head, compared_legend, compared_text}
