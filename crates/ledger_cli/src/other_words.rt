@@ -1,12 +1,12 @@
 //! Words of other programs for disks, and the commands that do what they do there.
 
 /// The commands that do what this word asks another program for. None if no other program's word is known so.
-fn command_for(word: &str) -> Option<&'static str> {
+fn commands_for(word: &str) -> Option<&'static str> {
     match word {
         "dir" | "directory" | "ls" => Some("`list`"),
-        "validate" => Some("`check`, and `repair` where it finds a fault"),
+        "validate" => Some("`check` and `repair`"),
         "scratch" | "rm" => Some("`delete`"),
-        "hexdump" => Some("`sector`, or `bytes` for a file"),
+        "hexdump" => Some("`sector` and `bytes`"),
         "read" => Some("`bytes`"),
         "write" => Some("`put`"),
         _ => None,
@@ -20,5 +20,5 @@ pub(crate) fn other_word<'a>(texts: &[&'a str]) -> Option<(&'a str, &'static str
         &"help" => texts.get(2)?,
         word => word,
     };
-    Some((word, command_for(word)?))
+    Some((word, commands_for(word)?))
 }

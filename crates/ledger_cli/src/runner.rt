@@ -71,7 +71,7 @@ fn refuse<E: Write>(err: &mut E, error: &io::Error) -> u8 {
 /// Prints which command does what a word of another program asks for, if one of these texts is such a word.
 fn explain_other_word<E: Write>(texts: &[&str], err: &mut E) -> io::Result<()> {
     match other_word(texts) {
-        Some((word, command)) => writeln!(err, "ledger: {word} of other programs is {command} here"),
+        Some((word, commands)) => writeln!(err, "ledger: {word} is {commands} here"),
         None => Ok(()),
     }
 }
@@ -79,7 +79,8 @@ fn explain_other_word<E: Write>(texts: &[&str], err: &mut E) -> io::Result<()> {
 /// Prints what the words may be. What `clap` refuses it explains itself, but no word of another program.
 fn explain_words<E: Write>(fault: &JobFault, texts: &[&str], err: &mut E) {
     let _ = match fault {
-        JobFault::Words(error) if error.kind() == WordsKind::InvalidSubcommand => explain_other_word(texts, err),
+        JobFault::Words(error) if error.kind() == WordsKind::InvalidSubcommand =>
+            explain_other_word(texts, err),
         JobFault::Words(_) => Ok(()),
         JobFault::Tills => writeln!(err, "ledger: TILLS is 1 to 64"),
         JobFault::Length => writeln!(err, "ledger: BYTES is 1 to 254"),

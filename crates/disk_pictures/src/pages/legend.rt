@@ -39,7 +39,7 @@ fn room(needed: bool, width: usize) -> usize
     if needed { width } else { 0 }
 }
 
-/// A row of the legend: whether it is needed, where it begins, and what it tells.
+/// A row of the legend: whether it is needed, where it begins, and its sample and text.
 #[derive(Clone, Copy)]
 struct Row(bool, usize, &'static str);
 

@@ -14,8 +14,8 @@ ghost use Rattle.command_faults.specs.declared.faults.CommandFault.TheVariants a
 
 use crate::drawing::Drawing;
 use crate::drawn_file::DrawnFile;
-use crate::pages::picture_printing::print_drawing;
 use crate::pages::legend::Legend;
+use crate::pages::picture_printing::print_drawing;
 use crate::pages::poster::{END, Head, Heading, Line};
 use crate::verdicts::{Verdict, judged};
 use command_faults::{CommandFault, flush, print_text};
