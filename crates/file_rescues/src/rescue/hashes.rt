@@ -17,15 +17,15 @@ impl Display for HexByte {
     }
 }
 
-/// Bytes in hexadecimal digits.
+/// A hash in hexadecimal digits.
 #[derive(Clone, Copy)]
-struct Hex<'a>(&'a [u8]);
+struct Hex([u8; 32]);
 
-impl Display for Hex<'_> {
-    ghost output = { λ digits. Some (flat_map hex digits.0.now) };
+impl Display for Hex {
+    ghost output = { λ digits. Some (flat_map hex digits.0) };
 
     fn fmt<W: fmt::Write>(&self, f: &mut Formatter<W>) -> fmt::Result {
-        for &byte in self.0 {
+        for &byte in &self.0 {
             write!(f, "{}", HexByte(byte))?;
         }
         Ok(())
@@ -42,7 +42,7 @@ impl Display for Hash {
     fn fmt<W: fmt::Write>(&self, f: &mut Formatter<W>) -> fmt::Result {
         match self.0 {
             None => Ok(()),
-            Some(hash) => write!(f, "{}", Hex(&hash)),
+            Some(hash) => write!(f, "{}", Hex(hash)),
         }
     }
 }

@@ -1,5 +1,5 @@
 -- One file after the other.
-use Rattle.std.proofs.Common.{ap, arith, inr, length, sym, ◌∙◌}
+use Rattle.std.proofs.Common.{ap, arith, inr, length, ◌∙◌}
 use Rattle.std.proofs.lemmas.Result.{err_from_is_err_and}
 use Rattle.d64_image.specs.Memory.{disk_image}
 use Rattle.file_rescues.proofs.lemmas.rescue.Made.{both-made, data-part, lines-part}
