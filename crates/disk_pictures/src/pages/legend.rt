@@ -48,13 +48,14 @@ impl Display for Row {
 
     fn fmt<W: fmt::Write>(&self, f: &mut Formatter<W>) -> fmt::Result {
         let Row(needed, left, told) = *self;
-        if !needed {
-            return Ok(());
+        if needed {
+            writeln!(
+                f,
+                "<svg x=\"{left}\" y=\"298\" width=\"50\" height=\"4\">{told}</text></svg>"
+            )
+        } else {
+            Ok(())
         }
-        writeln!(
-            f,
-            "<svg x=\"{left}\" y=\"298\" width=\"50\" height=\"4\">{told}</text></svg>"
-        )
     }
 }
 
@@ -92,18 +93,18 @@ impl Display for Legend {
     ghost output = { λ legend. Some (poster_legend legend) };
 
     fn fmt<W: fmt::Write>(&self, f: &mut Formatter<W>) -> fmt::Result {
-        let lost = 84 + room(self.free, 20);
-        let side = lost + room(self.lost, 34);
-        let used = side + room(self.side, 40);
-        let fault = used + room(self.used, 46);
+        let free = room(self.free, 20);
+        let lost = room(self.lost, 34);
+        let side = room(self.side, 40);
+        let used = room(self.used, 46);
         write!(
             f,
             "{START}{}{}{}{}{}",
             Row(self.free, 84, FREE),
-            Row(self.lost, lost, LOST),
-            Row(self.side, side, SIDE),
-            Row(self.used, used, USED),
-            Row(self.fault, fault, FAULT)
+            Row(self.lost, 84 + free, LOST),
+            Row(self.side, 84 + free + lost, SIDE),
+            Row(self.used, 84 + free + lost + side, USED),
+            Row(self.fault, 84 + free + lost + side + used, FAULT)
         )
     }
 }

@@ -7,4 +7,4 @@ use Rattle.disk_pictures.proofs.comparison.comparing.ComparedTextDisplay.fmt.Goa
 pub returns-clause-writes : goal.returns-clause-writes
 unfolding compared_head compared_legend compared_text
 returns-clause-writes g c = λ plain done. has_written_of_eq _ _ _ _ _
-    (rw (c.disk_name.ensures, c.count.ensures) refl) (c.write.ensures.writes plain done)
+    (rw (c.as_bytes.ensures.value, c.as_bytes-2.ensures.value, c.disk_name.ensures, c.count.ensures) refl) (c.write.ensures.writes plain done)

@@ -6,4 +6,6 @@ use Rattle.disk_pictures.proofs.pages.legend.LegendDisplay.fmt.Goals as goal
 
 pub returns-clause-writes : goal.returns-clause-writes
 unfolding poster_legend legend_start free_told lost_told side_told used_told fault_told
-returns-clause-writes g c = λ plain done. has_written_of_eq _ _ _ _ _ refl (c.write.ensures.writes plain done)
+returns-clause-writes g c = λ plain done. has_written_of_eq _ _ _ _ _
+    (rw (c.room-free.ensures.is, c.room-lost.ensures.is, c.room-side.ensures.is, c.room-used.ensures.is) refl)
+    (c.write.ensures.writes plain done)
