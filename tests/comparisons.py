@@ -27,7 +27,7 @@ def see_comparison(program, browser, name, first, second, folder, looks):
     """Compares the page of two disks, each a path and its Page, with that of pages.py to the byte, and its marks as they are
     shown. `looks` gives the colours of sectors in the browser and by librsvg, and those of the marks. The page fits a phone, and one
     sheet of paper with the colours of the files that changed. Gives how many sectors differ."""
-    pair = Comparison(first[1], second[1])
+    pair = Comparison(first[1], second[1], (first[0], second[0]))
     done = subprocess.run([program, "picture", "--compare", first[0], second[0]], capture_output=True, timeout=60)
     page, wanted = done.stdout, pair.text()
     want(page.decode() == wanted, f"{name}: the page differs from that of pages.py")

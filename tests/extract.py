@@ -18,6 +18,7 @@ Each image is taken out again with `--deleted`, and with `--scan --deleted`.
 It ends at the first difference with status 1, and keeps the image."""
 
 import csv
+import hashlib
 import io
 import random
 import subprocess
@@ -31,7 +32,7 @@ from disks import FAULTS, Image, need
 from drawn import DIRECTORY, INDEX, MAP, PLACES, SIZE, name_text, sign, start
 
 KINDS = ("DEL", "SEQ", "PRG", "USR", "REL")
-HEADING = "number,file,name,text,type,closed,locked,blocks,found,length,bytes,fault,shared".split(",")
+HEADING = "number,file,name,text,type,closed,locked,blocks,found,length,bytes,fault,shared,sha256".split(",")
 
 
 class Differs(Exception):
@@ -132,7 +133,8 @@ class Wanted:
             shared = next((block for block in blocks if owned[block] > 1), None)
             data = self.data(image, blocks, last)
             art = is_art(slot)
-            rows.append(self.row(number, slot, 0, 0, "", None) if art else self.row(number, slot, len(blocks), len(data), ended, shared))
+            rows.append(self.row(number, slot, 0, 0, "", None, "") if art else
+                        self.row(number, slot, len(blocks), len(data), ended, shared, hashlib.sha256(data).hexdigest()))
             if art:
                 rows[-1][1] = ""
             else:
@@ -182,14 +184,14 @@ class Wanted:
         return "".join(f'{number},"{name_text(record.rstrip(bytes(1)))}"\n' for number, record in enumerate(records, 1)).encode()
 
     @staticmethod
-    def row(number, slot, blocks, count, ended, shared):
+    def row(number, slot, blocks, count, ended, shared, digest):
         name, kind = slot[5:21].rstrip(b"\xa0"), slot[2]
         low = kind % 16
         ending = "." + KINDS[low].lower() if low < 5 else ".bin"
         return [str(number), file_name(number, name, ending), name_text(name), "".join(map(shown, name)),
                 KINDS[low] if low < 5 else "???", "yes" if kind >= 128 else "no", "yes" if kind >> 6 & 1 else "no",
                 str(slot[30] + 256 * slot[31]), str(blocks), str(slot[23]) if low == 4 else "", str(count), ended,
-                f"{shared[0]}/{shared[1]}" if shared else ""]
+                f"{shared[0]}/{shared[1]}" if shared else "", digest]
 
 
 def extracted(program, folder, image, *flags):

@@ -5,8 +5,8 @@
     tests/pages.py --compare IMAGE VERDICT IMAGE VERDICT
 
 VERDICT is what `verdict_of` makes of what `check` prints. It isn't judged here. The parts that are the same on each page and
-poster (style, dashes, legend, end) are taken from specs/Pictures.antt, specs/Posters.antt, specs/Sheets.antt and
-specs/ComparedPages.antt, where the contracts have them."""
+poster (style, dashes, legend, end) are taken from specs/Pictures.antt, specs/Posters.antt, specs/Legends.antt, specs/Sheets.antt
+and specs/ComparedPages.antt, where the contracts have them."""
 
 import re
 import sys
@@ -30,7 +30,8 @@ CUT = ("A file is cut short at sector ", "; ")
 
 def fixed(name):
     """A text that the definition of this name gives."""
-    text = "".join((SPECS / f"{it}.antt").read_text(encoding="utf-8") for it in ("Pictures", "Posters", "Sheets", "ComparedPages"))
+    text = "".join((SPECS / f"{it}.antt").read_text(encoding="utf-8") for it in
+                   ("Pictures", "Posters", "Legends", "Sheets", "ComparedPages"))
     found = re.search(rf'^{name} = codes\s+"((?:[^"\\]|\\.)*)"', text, re.M)
     return re.sub(r"\\(.)", lambda one: {"n": "\n"}.get(one[1], one[1]), found[1])
 
@@ -177,6 +178,19 @@ class Page:
                 f'<g transform="translate(19)" clip-path="url(#n)"><text y="2.3">{html(entry.shown)}</text></g>'
                 f'<text x="41.5" y="2.3">{html(entry.signs)}</text></svg>\n')
 
+    def legend(self):
+        """The rows of the poster's legend beside those that each disk has: of the kinds of sectors that it has, side by side."""
+        nobodys = [place for place in PLACES if place not in self.disk.owner]
+        rows = [("free", 20, any(map(self.disk.is_free, nobodys))), ("lost", 34, not all(map(self.disk.is_free, nobodys))),
+                ("side", 40, any(owner[1:2] == ("side",) for owner in self.disk.owner.values())),
+                ("used", 46, any(map(self.is_open, PLACES))), ("fault", 0, self.fault)]
+        parts, left = [], 84
+        for name, width, needed in rows:
+            if needed:
+                parts.append(f'<svg x="{left}" y="298" width="50" height="4">{fixed(f"{name}_told")}</text></svg>\n')
+                left += width
+        return "".join(parts)
+
     def poster(self):
         name = html(self.disk.disk_name())
         head = ('<svg xmlns="http://www.w3.org/2000/svg" width="297mm" height="420mm" viewBox="0 0 297 420">\n'
@@ -188,8 +202,7 @@ class Page:
                 f'width="13800" height="2400" viewBox="-6900 -1200 13800 2400"><text class="hub" y="400">{name}</text></svg>\n'
                 '<g transform="rotate(-90)">\n')
         lines = "".join(self.line(number) for number in range(len(self.disk.entries)))
-        return head + self.drawing() + fixed("poster_legend") + lines + "</svg>\n"
-
+        return head + self.drawing() + fixed("legend_start") + self.legend() + lines + "</svg>\n"
 
     def shade(self, place):
         """Which of the 29 shades of a contact sheet a sector has."""
@@ -243,10 +256,10 @@ def runs(numbers):
 
 
 class Comparison:
-    """The pages of two disks, before and after, as one."""
+    """The pages of two disks, before and after, as one; `paths` are those of their images."""
 
-    def __init__(self, before, after):
-        self.before, self.after = before, after
+    def __init__(self, before, after, paths):
+        self.before, self.after, self.paths = before, after, paths
 
     def differs(self, place):
         return self.before.disk.sector(place) != self.after.disk.sector(place)
@@ -305,13 +318,14 @@ class Comparison:
         places = self.differences()
         marks = "".join(f"{ring(place)}/>\n" for place in places)
         return (self.after.head() + self.after.drawing() + fixed("marks_head") + marks + "</g>\n" + fixed("compared_head")
+                + f"{path_text(self.paths[1])}</b> compared with <b>{path_text(self.paths[0])}</b>, "
                 + f"{html(self.before.disk.disk_name())} ({self.before.verdict}). Sectors that differ: {len(places)}"
                 + fixed("compared_legend") + self.rows() + fixed("end_text"))
 
 
 def compare(before, verdict, after, later):
     """The comparison of the images at two paths, of which `check` prints this."""
-    return Comparison(Page(Path(before).read_bytes(), verdict), Page(Path(after).read_bytes(), later)).text()
+    return Comparison(Page(Path(before).read_bytes(), verdict), Page(Path(after).read_bytes(), later), (before, after)).text()
 
 
 def main(image, verdict, how=None, *more):

@@ -33,6 +33,7 @@ pub use laws::{
 };
 pub use lines::column_lines::plain_lines;
 pub use lines::record_storing::store_image;
+pub use mended::kinds::has_geos_sign;
 pub use mended::mending::repair_image;
 pub use mended::rebuilding::rebuild_image;
 pub use shop_files::has_shop_file;

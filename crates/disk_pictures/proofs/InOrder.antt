@@ -2,14 +2,16 @@
 use mir.Val.{bool_byte}
 use Rattle.std.proofs.Common.{◌≡◌, ◌≤◌, ◌+◌, ◌-◌, ◌++◌, ◌∷◌, [], Bool, List, Option, Some, None, ℕ, zero, suc, false, true}
 use Rattle.std.proofs.Common.{ap, ap₂, append_assoc, arith, length, length-append, refl, subst, sym, take, ◌∙◌}
-use Rattle.std.specs.Prelude.{flat_map, if◌then◌else◌}
+use Rattle.std.specs.Prelude.{◌||◌, flat_map, if◌then◌else◌}
 use Rattle.std.specs.Io.KnownBytes.{Appends}
-use Rattle.std.specs.List.{cons_option, filter_map, range_with_len}
+use Rattle.std.specs.List.{cons_option, filter_map, list_any, range_with_len}
 use Rattle.std.proofs.KnownBytes.{Appends-trans}
 use Rattle.std.proofs.lemmas.Grind.{flat_map-append}
 use Rattle.std.proofs.lemmas.List.{append-nil}
 use Rattle.std.proofs.lemmas.List.Elements.{filter_map-append}
-use Rattle.d64_image.proofs.Order.{all-taken, text-more}
+use Rattle.std.proofs.lemmas.List.Folds.{list_any-append}
+use Rattle.std.proofs.Math.Bool.{or-false}
+use Rattle.d64_image.proofs.Order.{all-taken, place-taken, text-more}
 use Rattle.d64_image.proofs.Places.{few_sectors, place_at-none}
 use Rattle.d64_image.specs.Geometry.{sectors_on}
 use Rattle.d64_image.specs.Images.{Image}
@@ -96,6 +98,18 @@ module _ (line : Place → List ℕ) where
       → Appends a c (head ++ (each_place line ++ end))
   places-ended a b c head end i past before last = subst (λ (t : List ℕ). Appends a c (head ++ (t ++ end))) (all i past)
       (subst (Appends a c) (append_assoc head (flat_map line (take i places)) end) (Appends-trans a b c _ end before last))
+
+-- one place more that may be so, and all of them
+pub any-taken : (test : Place → Bool) (i : ℕ) (p : Place) (found here next : Bool) → index_of p ≡ i
+    → found ≡ list_any test (take i places) → here ≡ test p → next ≡ (found || here)
+    → next ≡ list_any test (take (i + 1) places)
+any-taken test i p found here next at before now is =
+    is ∙ ap (λ (b : Bool). b || here) before ∙ ap (λ (b : Bool). list_any test (take i places) || b) (now ∙ sym (or-false (test p)))
+    ∙ sym (list_any-append test (take i places) (p ∷ [])) ∙ ap (list_any test) (sym (place-taken i p at))
+
+pub any-places : (test : Place → Bool) (i : ℕ) (found : Bool) → 683 ≤ i → found ≡ list_any test (take i places)
+    → found ≡ list_any test places
+any-places test i found past is = is ∙ ap (list_any test) (all-taken i past)
 
 -- what is written for a sector, if it differs
 abbrev pub differing : (Place → List ℕ) → Image → Image → Place → List ℕ

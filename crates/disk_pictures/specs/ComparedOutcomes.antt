@@ -10,24 +10,31 @@ use Rattle.disk_pictures.specs.Outcomes.{IsDrawnAndJudged, IsPictureFault, map_i
 use Rattle.disk_pictures.specs.declared.comparison.compared.Compared.{Compared}
 use Rattle.command_faults.specs.declared.faults.CommandFault.{CommandFault}
 
--- the disk is that of an image: with its sectors, what is drawn of it and what is reported of it
-pub record IsDiskOf (image : List ℕ) (d : Disk) : Type 0 where
+-- the disk is that of the image at a path: with its sectors, what is drawn of it and what is reported of it
+pub record IsDiskOf (path image : List ℕ) (d : Disk) : Type 0 where
+  pub path_is : d.path ≡ path
   pub image_is : d.image ≡ sectors_in image
   pub map_is : d.map ≡ map_in image
   pub judged : IsDrawnAndJudged image d.layout d.verdict
 
 -- a disk as the code holds it
 abbrev pub disk_in : Compared → Disk
-disk_in d = record { image = d.sectors.now; map = d.drawing.map; layout = drawn_in d.drawing; verdict = d.verdict }
+disk_in d = record {
+  path = d.path.now;
+  image = d.sectors.now;
+  map = d.drawing.map;
+  layout = drawn_in d.drawing;
+  verdict = d.verdict;
+}
 
--- the comparison of two images, and nothing else, was passed to an output that held `old` and holds `new`; a check of the
--- second one reports this
-pub record IsComparisonPrinted {W : Type 0} (contents : W → Option (List ℕ)) (before after : List ℕ) (old new : W)
-    (found : Option Fault) : Type 0 where
+-- the comparison of the images at two paths, and nothing else, was passed to an output that held `old` and holds `new`; a
+-- check of the second one reports this
+pub record IsComparisonPrinted {W : Type 0} (contents : W → Option (List ℕ)) (before_path before after_path after : List ℕ)
+    (old new : W) (found : Option Fault) : Type 0 where
   pub first : Disk
-  pub is_first : IsDiskOf before first
+  pub is_first : IsDiskOf before_path before first
   pub second : Disk
-  pub is_second : IsDiskOf after second
+  pub is_second : IsDiskOf after_path after second
   pub printed : Appends (contents old) (contents new) (comparison_page first second)
   pub found_is : found ≡ second.verdict.found
 

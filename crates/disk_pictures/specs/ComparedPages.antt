@@ -1,6 +1,6 @@
 -- The comparison of two disks, before and after. It is an HTML page with the drawing of the second one, in which sectors
--- that differ are marked, and a list of the files that changed. All of it is our own. Bytes of the disks stand in it as
--- `show` shows them, and names also as `signs` does, and in no other way.
+-- that differ are marked, and a list of the files that changed. All of it is our own. Bytes of the disks and of the images'
+-- paths stand in it as `show` shows them, and names also as `signs` does, and in no other way.
 use Rattle.std.specs.Prelude.{ℕ, ◌+◌, ◌||◌, Bool, List, [], ◌++◌, Option, Some, None, if◌then◌else◌, codes, decimal, length}
 use Rattle.d64_image.specs.Images.{Image}
 use Rattle.d64_image.specs.declared.place.Place.{Place}
@@ -34,18 +34,20 @@ differences a b = length (each_difference number_of a b)
 -- the end of the drawing, with the numbers of tracks and an arrow from sector 0 to 1
 unfoldable pub compared_head : List ℕ
 compared_head = codes
-    "</g>\n<g class=\"n\">\n<text y=\"-34220\">1</text>\n<text y=\"-31020\">5</text>\n<text y=\"-27020\">10</text>\n<text y=\"-23020\">15</text>\n<text y=\"-20620\">18</text>\n<text y=\"-19020\">20</text>\n<text y=\"-15020\">25</text>\n<text y=\"-11020\">30</text>\n<text y=\"-7020\">35</text>\n<path d=\"M300-36250h3000l-600-250m600 250l-600 250\"/>\n</g>\n</svg>\n<div>\n<p>Compared with "
+    "</g>\n<g class=\"n\">\n<text y=\"-34220\">1</text>\n<text y=\"-31020\">5</text>\n<text y=\"-27020\">10</text>\n<text y=\"-23020\">15</text>\n<text y=\"-20620\">18</text>\n<text y=\"-19020\">20</text>\n<text y=\"-15020\">25</text>\n<text y=\"-11020\">30</text>\n<text y=\"-7020\">35</text>\n<path d=\"M300-36250h3000l-600-250m600 250l-600 250\"/>\n</g>\n</svg>\n<div>\n<p><b>"
 
 -- the meaning of the marks and colours, and the head of the table
 unfoldable pub compared_legend : List ℕ
 compared_legend = codes
     ".</p>\n<ul>\n<li class=\"differs\"><i></i>a sector that differs has a line along it</li>\n<li class=\"map\"><i></i>map of free sectors</li>\n<li class=\"dir\"><i></i>directory</li>\n<li class=\"free\"><i></i>free</li>\n<li class=\"lost\"><i></i>taken in the map, in no file</li>\n<li class=\"open\"><i></i>in use, but free in the map</li>\n<li class=\"fault\"><i></i>the fault, with a mark at the rim</li>\n</ul>\n<table>\n<tr><th></th><th></th><th>name</th><th>differs in</th><th>records</th></tr>\n"
 
--- with which disk it is compared: its name and what is reported of it; and how many sectors differ
+-- the image's path, and with which disk it is compared: its image's path, its name and what is reported of it; and how many
+-- sectors differ
 unfoldable pub compared_text : Show → Disk → Disk → List ℕ
 compared_text show a b =
-    compared_head ++ (show (disk_name a.map) ++ (codes " (" ++ (verdict_text a.verdict ++ (codes "). Sectors that differ: "
-    ++ (decimal (differences a.image b.image) ++ compared_legend)))))
+    compared_head ++ (show b.path ++ (codes "</b> compared with <b>" ++ (show a.path ++ (codes "</b>, "
+    ++ (show (disk_name a.map) ++ (codes " (" ++ (verdict_text a.verdict ++ (codes "). Sectors that differ: "
+    ++ (decimal (differences a.image b.image) ++ compared_legend)))))))))
 
 -- in what a file differs: its entry, its sectors, its contents
 abbrev pub parts_text : Bool → Bool → Bool → List ℕ

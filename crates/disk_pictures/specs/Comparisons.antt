@@ -12,8 +12,9 @@ use Rattle.disk_pictures.specs.Pictures.{each_place}
 use Rattle.disk_pictures.specs.Texts.{any_below, has_records, records_in}
 use Rattle.disk_pictures.specs.declared.verdicts.Verdict.{Verdict}
 
--- a disk of a comparison: its sectors, its 18/0, what is drawn of it, and what is reported of it
+-- a disk of a comparison: the path of its image, its sectors, its 18/0, what is drawn of it, and what is reported of it
 pub record Disk : Type 0 where
+  pub path : List ℕ
   pub image : Image
   pub map : Sector
   pub layout : Layout

@@ -5,6 +5,7 @@ pub mod Drawings
 pub mod Faults
 pub mod Held
 pub mod Html
+pub mod Legends
 pub mod Maps
 pub mod Markup
 pub mod Outcomes

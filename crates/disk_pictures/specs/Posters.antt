@@ -6,6 +6,7 @@ use Rattle.d64_image.specs.Images.{Sector}
 use Rattle.disk_layout.specs.Directory.{type_byte}
 use Rattle.disk_layout.specs.Layout.{File, Layout, count_field}
 use Rattle.disk_pictures.specs.Html.{Show, html_of}
+use Rattle.disk_pictures.specs.Legends.{legend_of, poster_legend}
 use Rattle.reached_disk.specs.Names.{disk_name, name_of}
 use Rattle.disk_pictures.specs.Petscii.{petscii_of}
 use Rattle.disk_pictures.specs.Pictures.{dashes, drawing_text, look}
@@ -36,11 +37,6 @@ poster_told show v map l =
     ++ (codes "</text>\n<text class=\"told\" x=\"148.5\" y=\"40\">" ++ (summary_text show v map l
     ++ (codes "</text>\n<svg x=\"23.5\" y=\"44\" width=\"250\" height=\"250\" viewBox=\"-36600 -36600 73200 73200\">\n<svg x=\"-6900\" y=\"-1200\" width=\"13800\" height=\"2400\" viewBox=\"-6900 -1200 13800 2400\"><text class=\"hub\" y=\"400\">" ++ (show (disk_name map)
     ++ codes "</text></svg>\n<g transform=\"rotate(-90)\">\n"))))))
-
--- the end of the drawing, with the numbers of tracks and an arrow from sector 0 to 1, and the meaning of the colours
-unfoldable pub poster_legend : List ℕ
-poster_legend = codes
-    "</g>\n<g class=\"n\">\n<text y=\"-34220\">1</text>\n<text y=\"-31020\">5</text>\n<text y=\"-27020\">10</text>\n<text y=\"-23020\">15</text>\n<text y=\"-20620\">18</text>\n<text y=\"-19020\">20</text>\n<text y=\"-15020\">25</text>\n<text y=\"-11020\">30</text>\n<text y=\"-7020\">35</text>\n<path d=\"M300-36250h3000l-600-250m600 250l-600 250\"/>\n</g>\n</svg>\n<svg x=\"20\" y=\"298\" width=\"50\" height=\"4\"><path class=\"map\" d=\"M0 2h3\"/><text x=\"4.5\" y=\"2.8\">map of free sectors</text></svg>\n<svg x=\"56\" y=\"298\" width=\"50\" height=\"4\"><path class=\"dir\" d=\"M0 2h3\"/><text x=\"4.5\" y=\"2.8\">directory</text></svg>\n<svg x=\"84\" y=\"298\" width=\"50\" height=\"4\"><path class=\"free\" d=\"M0 2h3\"/><text x=\"4.5\" y=\"2.8\">free</text></svg>\n<svg x=\"104\" y=\"298\" width=\"50\" height=\"4\"><path class=\"lost\" d=\"M0 2h3\"/><text x=\"4.5\" y=\"2.8\">taken, in no file</text></svg>\n<svg x=\"138\" y=\"298\" width=\"50\" height=\"4\"><path class=\"c0\" d=\"M0 2h1.5\"/><path class=\"side\" d=\"M1.5 2h1.5\"/><text x=\"4.5\" y=\"2.8\">side sectors (right)</text></svg>\n<svg x=\"178\" y=\"298\" width=\"50\" height=\"4\"><path class=\"c0\" d=\"M0 2h3\"/><path class=\"white\" d=\"M0 2h3\"/><text x=\"4.5\" y=\"2.8\">in use, free in the map</text></svg>\n<svg x=\"224\" y=\"298\" width=\"50\" height=\"4\"><path class=\"fault\" d=\"M0 2h3\"/><text x=\"4.5\" y=\"2.8\">the fault</text></svg>\n"
 
 -- where the line of entry k of n stands: up to 12 of 9 units in one column, up to 36 of 6 units in two columns of 18, or
 -- more of 3 units in four columns of 36
@@ -78,7 +74,8 @@ poster_line show signs n k f =
 -- the poster, by how bytes of the disk are shown
 unfoldable pub poster_text : Show → Show → Verdict → Sector → Layout → List ℕ
 poster_text show signs v map l =
-    poster_head show signs map ++ (poster_told show v map l ++ (drawing_text show v.found map l ++ (poster_legend
+    poster_head show signs map ++ (poster_told show v map l ++ (drawing_text show v.found map l
+    ++ (poster_legend (legend_of v.found map l)
     ++ (numbered (poster_line show signs (length l.files)) 0 l.files ++ codes "</svg>\n"))))
 
 -- the poster of a disk

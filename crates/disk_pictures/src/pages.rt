@@ -1,5 +1,7 @@
 //! A page and a poster with a drawing of the disk.
 pub(crate) mod arcs;
+pub(crate) mod kinds;
+pub(crate) mod legend;
 pub(crate) mod others;
 pub(crate) mod page;
 pub(crate) mod picture_printing;

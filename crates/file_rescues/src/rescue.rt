@@ -4,6 +4,7 @@ pub(crate) mod choices;
 pub(crate) mod deleted;
 pub(crate) mod extracting;
 pub(crate) mod folders;
+pub(crate) mod hashes;
 pub(crate) mod laws;
 pub(crate) mod making;
 pub(crate) mod mem_folder;

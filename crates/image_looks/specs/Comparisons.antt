@@ -4,6 +4,7 @@ use Rattle.disk_pictures.specs.ComparedOutcomes.{IsComparisonFault, IsComparison
 use Rattle.opened_files.specs.Ends.{JobEnd, IsPrintEnd}
 
 -- The second one was drawn, with the fault that a check reports of it, if it reports one; or a fault of one of them is why not.
-abbrev pub IsComparingRun : {W : Type 0} → (W → Option (List ℕ)) → (before after : List ℕ) → W → W → JobEnd → Type 0
-IsComparingRun contents before after old new end =
-    IsPrintEnd (IsComparisonPrinted contents before after) (IsComparisonFault before after) old new end
+abbrev pub IsComparingRun : {W : Type 0} → (W → Option (List ℕ)) → (before_path before after_path after : List ℕ) → W → W
+    → JobEnd → Type 0
+IsComparingRun contents before_path before after_path after old new end =
+    IsPrintEnd (IsComparisonPrinted contents before_path before after_path after) (IsComparisonFault before after) old new end

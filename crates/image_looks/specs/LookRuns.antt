@@ -27,7 +27,7 @@ module _ {H W : Type 0} (rights : Rights H) (stands : H → List ℕ → Stands)
   abbrev pub IsComparedOver : List ℕ → List ℕ → W → W → JobEnd → Type 0
   IsComparedOver before after old new end = OfImage rights stands host before (λ first.
       OfImage rights stands host after (λ second. RunEnds old new end
-      (IsComparingRun contents (take 174849 first) (take 174849 second) old new end)))
+      (IsComparingRun contents before (take 174849 first) after (take 174849 second) old new end)))
 
   -- its files were made in a folder that is made; nothing is said of that folder
   abbrev pub IsExtractedFrom : Choice → List ℕ → W → W → JobEnd → Type 0

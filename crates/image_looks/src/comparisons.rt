@@ -12,20 +12,22 @@ use std::alloc::Global;
 use std::fs::OpenFile;
 use std::io::{Read, Write};
 
-/// Draws the second of two images with what differs from the first one, and returns the fault that a check of the second one
+/// Draws the second of two images, each at its path, with what differs from the first one, and returns the fault that a check of the second one
 /// reports. `ImageSize`; `Layout` if the directory's sectors aren't a chain on track 18, of either image; `NoMemory`: nothing
 /// was printed then. `File` if the output failed.
 // Out of line: its frame is large, and a frame touches each page of it.
 #[inline(never)]
 pub fn comparing_run<W: Write>(
     alloc: Global,
+    before_path: &str,
     before: &[u8],
+    after_path: &str,
     after: &[u8],
     out: &mut W,
 ) -> Result<Option<Fault>, CommandFault>
-    ensures { IsComparingRun W.contents before.now after.now out.old out.new result }
+    ensures { IsComparingRun W.contents before_path.now before.now after_path.now after.now out.old out.new result }
 {
-    compare_images(alloc, before, after, out)
+    compare_images(alloc, before_path, before, after_path, after, out)
 }
 
 /// Compares the images at two paths.
@@ -45,5 +47,12 @@ where
 {
     let first = image_at(rt, before)?;
     let second = image_at(rt, after)?;
-    comparing_run(rt.alloc(), first.as_slice(), second.as_slice(), out)
+    comparing_run(
+        rt.alloc(),
+        before,
+        first.as_slice(),
+        after,
+        second.as_slice(),
+        out,
+    )
 }

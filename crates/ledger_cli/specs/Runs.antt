@@ -95,7 +95,7 @@ module _ {F : Type 0} (position : F → Option ℕ) (bytes contents : F → Opti
   IsJobRun told (jobs.Trim path) image script file after old new end =
       (after ≡ file) × (new ≡ old) × (end ≡ Err faults.File)
   IsJobRun told (jobs.Compare before later) image script file after old new end =
-      (after ≡ file) × IsComparingRun told image script old new end
+      (after ≡ file) × IsComparingRun told before.now image later.now script old new end
   IsJobRun told (jobs.Several what paths) image script file after old new end =
       (after ≡ file) × (new ≡ old) × (end ≡ Err faults.File)
   IsJobRun told (jobs.Sheet paths) image script file after old new end =

@@ -6,8 +6,10 @@ ghost use Rattle.ledger_jobs.specs.Jobs.{IsFit};
 ghost use Rattle.ledger_cli.specs.declared.runner.Audience.TheVariants.{Person, Program, Waiting};
 
 use crate::faults::JobFault;
+use crate::other_words::other_word;
 use crate::progress::{Watched, is_long};
 use crate::words::command_line;
+use clap::error::ErrorKind as WordsKind;
 use command_faults::CommandFault;
 use disk_layout::Fault;
 use image_edits::do_trim;
@@ -66,9 +68,19 @@ fn refuse<E: Write>(err: &mut E, error: &io::Error) -> u8 {
     end(Err(CommandFault::of_io(error)), err).status
 }
 
-/// Prints what the words may be. What `clap` refuses it explains itself.
-fn explain_words<E: Write>(fault: &JobFault, err: &mut E) {
+/// Prints which command does what a word of another program asks for, if one of these texts is such a word.
+fn explain_other_word<E: Write>(texts: &[&str], err: &mut E) -> io::Result<()> {
+    match other_word(texts) {
+        Some((word, commands)) => writeln!(err, "ledger: {word} is {commands} here"),
+        None => Ok(()),
+    }
+}
+
+/// Prints what the words may be. What `clap` refuses it explains itself, but no word of another program.
+fn explain_words<E: Write>(fault: &JobFault, texts: &[&str], err: &mut E) {
     let _ = match fault {
+        JobFault::Words(error) if error.kind() == WordsKind::InvalidSubcommand =>
+            explain_other_word(texts, err),
         JobFault::Words(_) => Ok(()),
         JobFault::Tills => writeln!(err, "ledger: TILLS is 1 to 64"),
         JobFault::Length => writeln!(err, "ledger: BYTES is 1 to 254"),
@@ -121,7 +133,7 @@ where
 }
 
 /// Reports why the words ask for nothing, or prints the help that they ask for, and returns the exit status.
-fn refuse_words<R, E>(rt: &R, fault: &JobFault, err: &mut E) -> u8
+fn refuse_words<R, E>(rt: &R, fault: &JobFault, texts: &[&str], err: &mut E) -> u8
 where
     R: Files + Print + AllocGlobal,
     E: Write,
@@ -135,7 +147,7 @@ where
         JobFault::Words(error) => print_words(rt, error, err),
         _ => writeln!(err, "{fault}"),
     };
-    explain_words(fault, err);
+    explain_words(fault, texts, err);
     match ended {
         // Help that can't be printed is an output that failed.
         Err(error) if status == 0 => refuse(err, &error),
@@ -308,7 +320,7 @@ where
     };
     match line.job {
         Ok(job) => obey_job(rt, &job, told, err),
-        Err(fault) => refuse_words(rt, &fault, err),
+        Err(fault) => refuse_words(rt, &fault, texts, err),
     }
 }
 

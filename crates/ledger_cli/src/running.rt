@@ -38,7 +38,10 @@ fn obey<F: Write + Seek + Drop, W: Write>(
             effect,
             ..
         } => edited(alloc, image, edit, script, effect, file, out),
-        Job::Compare { .. } => (file, comparing_run(alloc, image, script, out)),
+        Job::Compare { before, after } => (
+            file,
+            comparing_run(alloc, before, image, after, script, out),
+        ),
         // it needs the bytes of each image, or standard error too, or a folder or a log
         Job::Serve { .. }
         | Job::Salvage { .. }

@@ -6,17 +6,28 @@ use crate::failure_lines::tell_of;
 use crate::jobs::Job;
 use crate::refusal_subjects::{CUT_SHORT, said_of_fault};
 use crate::typed_names::warn_of_name;
+use command_faults::CommandFault;
 use damaged_files::Shortfall;
-use disk_layout::Fault;
+use disk_changes::has_geos_sign;
+use disk_layout::{Fault, map_place};
 use image_file::{HostFiles, Locks, ShownPath};
 use image_looks::Look;
 use opened_files::{STANDARD_INPUT, image_of_file, shortfall_in, size_of};
 use std::fs::OpenFile;
 use std::io::{Read, Write};
 
-/// What the files of the image at a path lack, as its shop is now. None also if another program has the image alone, if the
-/// image can't be read, and for standard input.
-fn shortfall_at<F, R>(rt: &R, path: &str) -> Option<Shortfall>
+/// Whether 18/0 of an image has GEOS's signature.
+fn is_of_geos(image: &[u8]) -> bool {
+    let (sectors, _) = image.as_chunks::<256>();
+    match sectors.get(map_place().index()) {
+        Some(map) => has_geos_sign(map),
+        None => false,
+    }
+}
+
+/// What the files of the image at a path lack, as its shop is now, and whether it is a disk of GEOS. None also if another
+/// program has the image alone, if the image can't be read, and for standard input.
+fn shortfall_at<F, R>(rt: &R, path: &str) -> Option<(Shortfall, bool)>
 where
     F: Read + Locks + OpenFile + Drop,
     R: HostFiles<File = F> + AllocGlobal,
@@ -26,13 +37,14 @@ where
         return None;
     }
     let image = image_of_file(rt, path).ok()?;
-    shortfall_in(rt.alloc(), image.as_slice()).unwrap_or_default()
+    let lack = shortfall_in(rt.alloc(), image.as_slice()).unwrap_or_default()?;
+    Some((lack, is_of_geos(image.as_slice())))
 }
 
 /// Prints for a person, after the verdict of a check, what the fault means that it found, and what to do. Then it prints
-/// what a file of the image lacks, if one lacks something: a line `SHORT t/s` or `FEWER t/s`. For that the image's file is
-/// opened, locked with others that read it, and read once more. If that can't be done, or a line can't be printed, it isn't
-/// printed.
+/// what a file of the image lacks, if one lacks something: a line `SHORT t/s` or `FEWER t/s`. A line `GEOS` stands before
+/// `SHORT t/s` of a disk of GEOS, as changes refuse it. For that the image's file is opened, locked with others that read
+/// it, and read once more. If that can't be done, or a line can't be printed, it isn't printed.
 pub fn tell_verdict<F, R, E>(rt: &R, job: &Job<'_>, found: Option<Fault>, err: &mut E)
 where
     F: Read + Locks + OpenFile + Drop,
@@ -50,9 +62,13 @@ where
     if let Some(fault) = found {
         tell_of(err, image, said_of_fault(fault));
     }
-    if let Some(lack) = shortfall_at(rt, image) {
-        let _ = writeln!(err, "{lack}");
+    let Some((lack, of_geos)) = shortfall_at(rt, image) else {
+        return;
+    };
+    if let (Shortfall::Short(_), true) = (lack, of_geos) {
+        let _ = writeln!(err, "{}", CommandFault::Geos);
     }
+    let _ = writeln!(err, "{lack}");
 }
 
 /// Prints for a person, before an image is played, where its first file is cut short.
@@ -63,7 +79,7 @@ where
     E: Write,
     requires { MayReadImage R.rights rt.now image.now }
 {
-    if let Some(lack @ Shortfall::Short(_)) = shortfall_at(rt, image) {
+    if let Some((lack @ Shortfall::Short(_), _)) = shortfall_at(rt, image) {
         let image = ShownPath(image);
         let _ = writeln!(err, "ledger: {image}: {lack}; {CUT_SHORT}");
     }

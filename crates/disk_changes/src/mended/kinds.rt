@@ -13,7 +13,7 @@ use disk_layout::map_place;
 const GEOS_SIGN: &[u8; 13] = b"GEOS format V";
 
 /// Whether 18/0 has GEOS's signature.
-pub(crate) fn has_geos_sign(bytes: &[u8; 256]) -> bool
+pub fn has_geos_sign(bytes: &[u8; 256]) -> bool
     ensures { IsTrue result ↔ HasGeosSign bytes.now }
 {
     &bytes[173..186] == &GEOS_SIGN[..]

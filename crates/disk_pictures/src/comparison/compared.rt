@@ -1,4 +1,4 @@
-//! A disk of a comparison: its sectors, what is drawn of it, and what is reported of it.
+//! A disk of a comparison: its image's path, its sectors, what is drawn of it, and what is reported of it.
 ghost use Rattle.std.specs.Prelude.{◌≡◌, length};
 
 use crate::drawing::Drawing;
@@ -10,6 +10,8 @@ use std::alloc::Global;
 /// A disk of a comparison.
 #[derive(Drop)]
 pub(crate) struct Compared<'a> {
+    /// The path of its image.
+    pub(crate) path: &'a str,
     /// Its sectors, in the order of their indices.
     pub(crate) sectors: &'a [[u8; 256]],
     /// What is drawn of it.
@@ -26,15 +28,20 @@ impl<'a> Compared<'a> {
     ghost use Rattle.disk_pictures.specs.Outcomes.{IsPictureFault};
     ghost use Rattle.command_faults.specs.declared.faults.CommandFault.TheVariants as faults;
 
-    /// The disk that has this image.
-    pub(crate) fn of(alloc: Global, image: &'a [u8]) -> Result<Compared<'a>, CommandFault>
-        ensures ok { IfOk result (λ disk. IsDiskOf image.now (disk_in disk)) }
+    /// The disk that has this image, which is at this path.
+    pub(crate) fn of(
+        alloc: Global,
+        path: &'a str,
+        image: &'a [u8],
+    ) -> Result<Compared<'a>, CommandFault>
+        ensures ok { IfOk result (λ disk. IsDiskOf path.now image.now (disk_in disk)) }
         ensures err { IfErr result (IsPictureFault image.now) }
         ensures not_file { IfErr result (λ fault. fault ≢ faults.File) }
     {
         let (drawing, verdict) = judged(alloc, image)?;
         let (sectors, _) = image.as_chunks::<256>();
         Ok(Compared {
+            path,
             sectors,
             drawing,
             verdict,

@@ -19,7 +19,7 @@ use std::alloc::Global;
 use std::fmt::{self, Display, Formatter};
 use std::io::Write;
 
-/// With which disk another is compared, and what marks and colours mean.
+/// Which image is compared with which, and what marks and colours mean.
 #[derive(Clone, Copy)]
 struct ComparedText<'a> {
     before: &'a Compared<'a>,
@@ -36,13 +36,15 @@ impl Display for ComparedText<'_> {
             <text y=\"-27020\">10</text>\n<text y=\"-23020\">15</text>\n<text y=\"-20620\">18</text>\n\
             <text y=\"-19020\">20</text>\n<text y=\"-15020\">25</text>\n<text y=\"-11020\">30</text>\n\
             <text y=\"-7020\">35</text>\n<path d=\"M300-36250h3000l-600-250m600 250l-600 250\"/>\n</g>\n</svg>\n<div>\n\
-            <p>Compared with {} ({}). Sectors that differ: {}.</p>\n<ul>\n\
+            <p><b>{}</b> compared with <b>{}</b>, {} ({}). Sectors that differ: {}.</p>\n<ul>\n\
             <li class=\"differs\"><i></i>a sector that differs has a line along it</li>\n\
             <li class=\"map\"><i></i>map of free sectors</li>\n<li class=\"dir\"><i></i>directory</li>\n\
             <li class=\"free\"><i></i>free</li>\n<li class=\"lost\"><i></i>taken in the map, in no file</li>\n\
             <li class=\"open\"><i></i>in use, but free in the map</li>\n\
             <li class=\"fault\"><i></i>the fault, with a mark at the rim</li>\n</ul>\n<table>\n\
             <tr><th></th><th></th><th>name</th><th>differs in</th><th>records</th></tr>\n",
+            Html(self.after.path.as_bytes()),
+            Html(self.before.path.as_bytes()),
             Html(disk_name(&self.before.drawing.map)),
             self.before.verdict,
             count(self.before, self.after)
@@ -73,9 +75,9 @@ fn print_comparison<W: Write>(
 }
 
 /// Prints two disks, before and after, as one HTML page: the drawing of the second one as `picture_image` has it, with a
-/// mark on each sector in which they differ. It says what the first one is and how many sectors differ, and has a row for
-/// each file that changed. The page has no script and loads nothing, and names of the disks stand in it only as text. The
-/// result is what a check of the second disk reports. A damaged disk is drawn and compared as far as its links go.
+/// mark on each sector in which they differ. It says at which paths their images are, what the first one is and how many
+/// sectors differ, and has a row for each file that changed. The page has no script and loads nothing. Names of the disks
+/// and the paths stand in it only as text; a path's bytes are shown as those of names (`sheet_tile`). The result is what a check of the second disk reports. A damaged disk is drawn and compared as far as its links go.
 ///
 /// An entry's counterpart is the other disk's entry of its name that has as many entries of that name before it. A file
 /// without one is `new`, or `gone`. Another file is `changed` if its entry or one of its sectors differs. If both are
@@ -85,16 +87,19 @@ fn print_comparison<W: Write>(
 /// printed then. `File` if the output failed, which may then have a part.
 pub fn compare_images<W: Write>(
     alloc: Global,
+    before_path: &str,
     before: &[u8],
+    after_path: &str,
     after: &[u8],
     out: &mut W,
 ) -> Result<Option<Fault>, CommandFault>
-    ensures ok { IfOk result (IsComparisonPrinted W.contents before.now after.now out.old out.new) }
+    ensures ok { IfOk result (IsComparisonPrinted W.contents before_path.now before.now
+        after_path.now after.now out.old out.new) }
     ensures err { IfErr result (IsComparisonFault before.now after.now) }
     ensures untouched { IfErr result (λ fault. (fault ≢ faults.File) → out.new ≡ out.old) }
 {
-    let first = Compared::of(alloc, before)?;
-    let second = Compared::of(alloc, after)?;
+    let first = Compared::of(alloc, before_path, before)?;
+    let second = Compared::of(alloc, after_path, after)?;
     print_comparison(out, &first, &second)?;
     Ok(second.verdict.found)
 }

@@ -36,24 +36,6 @@ const STYLE: &str =
     .c8 .s{stroke:#07066f}.c9{stroke:#5d0476}.c9 .s{stroke:#330241}.c10{stroke:#630a00}.c10 .s{stroke:#360600}\
     .c11{stroke:#041c33}.c11 .s{stroke:#020f1c}";
 
-/// The end of the drawing, with the numbers of tracks and an arrow from sector 0 to 1; and the meaning of the colours.
-pub(crate) const LEGEND: &str =
-    "</g>\n<g class=\"n\">\n<text y=\"-34220\">1</text>\n<text y=\"-31020\">5</text>\n<text y=\"-27020\">10</text>\n\
-    <text y=\"-23020\">15</text>\n<text y=\"-20620\">18</text>\n<text y=\"-19020\">20</text>\n<text y=\"-15020\">\
-    25</text>\n<text y=\"-11020\">30</text>\n<text y=\"-7020\">35</text>\n\
-    <path d=\"M300-36250h3000l-600-250m600 250l-600 250\"/>\n</g>\n</svg>\n\
-    <svg x=\"20\" y=\"298\" width=\"50\" height=\"4\"><path class=\"map\" d=\"M0 2h3\"/><text x=\"4.5\" y=\"2.8\">\
-    map of free sectors</text></svg>\n<svg x=\"56\" y=\"298\" width=\"50\" height=\"4\">\
-    <path class=\"dir\" d=\"M0 2h3\"/><text x=\"4.5\" y=\"2.8\">directory</text></svg>\n\
-    <svg x=\"84\" y=\"298\" width=\"50\" height=\"4\"><path class=\"free\" d=\"M0 2h3\"/><text x=\"4.5\" y=\"2.8\">\
-    free</text></svg>\n<svg x=\"104\" y=\"298\" width=\"50\" height=\"4\"><path class=\"lost\" d=\"M0 2h3\"/>\
-    <text x=\"4.5\" y=\"2.8\">taken, in no file</text></svg>\n<svg x=\"138\" y=\"298\" width=\"50\" height=\"4\">\
-    <path class=\"c0\" d=\"M0 2h1.5\"/><path class=\"side\" d=\"M1.5 2h1.5\"/><text x=\"4.5\" y=\"2.8\">\
-    side sectors (right)</text></svg>\n<svg x=\"178\" y=\"298\" width=\"50\" height=\"4\">\
-    <path class=\"c0\" d=\"M0 2h3\"/><path class=\"white\" d=\"M0 2h3\"/><text x=\"4.5\" y=\"2.8\">\
-    in use, free in the map</text></svg>\n<svg x=\"224\" y=\"298\" width=\"50\" height=\"4\">\
-    <path class=\"fault\" d=\"M0 2h3\"/><text x=\"4.5\" y=\"2.8\">the fault</text></svg>\n";
-
 /// The end of the poster.
 pub(crate) const END: &str = "</svg>\n";
 

@@ -14,8 +14,9 @@ ghost use Rattle.command_faults.specs.declared.faults.CommandFault.TheVariants a
 
 use crate::drawing::Drawing;
 use crate::drawn_file::DrawnFile;
+use crate::pages::legend::Legend;
 use crate::pages::picture_printing::print_drawing;
-use crate::pages::poster::{END, Head, Heading, LEGEND, Line};
+use crate::pages::poster::{END, Head, Heading, Line};
 use crate::verdicts::{Verdict, judged};
 use command_faults::{CommandFault, flush, print_text};
 use disk_layout::Fault;
@@ -55,15 +56,15 @@ fn print_poster<W: Write>(
     print_text(out, Head(&drawing.map))?;
     print_text(out, Heading { drawing, verdict })?;
     print_drawing(out, verdict.found, drawing)?;
-    print_text(out, LEGEND)?;
+    print_text(out, Legend::of(verdict.found, drawing))?;
     print_lines(out, drawing.files.as_slice())?;
     print_text(out, END)?;
     flush(out)
 }
 
 /// Prints the disk as a poster: an SVG file of its own, 297 by 420 units. It has the drawing of `picture_image`, the
-/// disk's name, what a check reports as a sentence, the meaning of the colours, and the directory in up to four columns: the
-/// fewer entries, the larger are their lines. It has no script and loads nothing, and names of the disk stand in it only
+/// disk's name, what a check reports as a sentence, the meaning of the colours that it shows, and the directory in up to four
+/// columns: the fewer entries, the larger are their lines. It has no script and loads nothing, and names of the disk stand in it only
 /// as text. A name longer than its column is cut by the column's edge. What a check of the disk reports is also the result. A damaged disk is drawn as far as its links
 /// go. The poster of a sound disk is that of its layout.
 ///

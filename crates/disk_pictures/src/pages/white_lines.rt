@@ -20,7 +20,7 @@ use std::fmt::{self, Display, Formatter};
 use std::io::Write;
 
 /// Whether the sector is in use, and free in the map.
-fn is_open(drawing: &Drawing, place: Place) -> bool
+pub(crate) fn is_open(drawing: &Drawing, place: Place) -> bool
     ensures { result ≡ open_at drawing.now.map (drawn_in drawing.now) place }
 {
     match drawing.owner(place) {

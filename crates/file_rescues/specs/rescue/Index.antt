@@ -1,7 +1,8 @@
 -- The index of the files that were rescued: comma-separated values (RFC 4180), a line for each. Our own.
-use Rattle.std.specs.Prelude.{ℕ, ◌%◌, List, [], ◌++◌, None, Option, Some, codes, decimal}
+use Rattle.std.specs.Prelude.{ℕ, ◌%◌, List, [], ◌++◌, None, Option, Some, codes, decimal, flat_map}
 use Rattle.std.specs.Prelude.{if◌then◌else◌, length, nat_eq, nat_lt}
 use Rattle.std.specs.Int.{bit_at}
+use Rattle.basic_text.specs.Characters.{hex}
 use Rattle.line_text.specs.bytes.Texts.{text_of}
 use Rattle.d64_image.specs.declared.place.Place.{Place}
 use Rattle.disk_layout.specs.Directory.{type_byte}
@@ -18,7 +19,7 @@ use Rattle.file_rescues.specs.declared.rescue.rows.Row.{Row}
 
 -- the first line: what stands in each column
 abbrev pub heading : List ℕ
-heading = codes "number,file,name,text,type,closed,locked,blocks,found,length,bytes,fault,shared\n"
+heading = codes "number,file,name,text,type,closed,locked,blocks,found,length,bytes,fault,shared,sha256\n"
 
 -- whether the file is closed: bit 7 of its type byte
 abbrev pub closed_text : ℕ → List ℕ
@@ -41,6 +42,11 @@ ended_text (Some fault) = fault_text fault
 abbrev pub shared_text : Option Place → List ℕ
 shared_text None = []
 shared_text (Some p) = place_text p
+
+-- the hash of the file's bytes, in hexadecimal digits; nothing if there is no file
+abbrev pub hash_text : Option (List ℕ) → List ℕ
+hash_text None = []
+hash_text (Some hash) = flat_map hex hash
 
 -- the name of the file; none of directory art. Each byte of it is its own text
 unfoldable pub file_text : Row → List ℕ
@@ -67,4 +73,5 @@ found_text r =
 
 -- the line of a file
 unfoldable pub row_text : Row → List ℕ
-row_text r = naming_text r ++ (entry_text r ++ (found_text r ++ codes "\n"))
+row_text r =
+    naming_text r ++ (entry_text r ++ (found_text r ++ (codes "," ++ (hash_text r.hash ++ codes "\n"))))

@@ -4,6 +4,7 @@ use Rattle.std.specs.Prelude.{false, true}
 use Rattle.std.specs.Prelude.{if◌then◌else◌, length, map, nat_eq}
 use Rattle.std.specs.List.{AllByRecursion}
 use Rattle.std.specs.Option.{option_or}
+use Rattle.sha2.specs.Sha256.{sha256}
 use Rattle.d64_image.specs.Images.{Image}
 use Rattle.d64_image.specs.Memory.{sectors_in}
 use Rattle.d64_image.specs.declared.place.Place.{Place}
@@ -100,7 +101,7 @@ files_from img n (f ∷ fs) = files_of img n f ++ files_from img (n + 1) fs
 
 -- what the index says of entry n, which is directory art: it has nothing
 abbrev pub art_row : ℕ → Slot → Row
-art_row n s = record { number = n; slot = s; blocks = 0; bytes = 0; fault = None; shared = None }
+art_row n s = record { number = n; slot = s; blocks = 0; bytes = 0; fault = None; shared = None; hash = None }
 
 -- what it says of a file, if these sectors are somebody's
 abbrev pub file_row : Image → List Place → ℕ → Rescued → Row
@@ -111,6 +112,7 @@ file_row img all n f = record {
   bytes = length (bytes_in img f);
   fault = f.fault;
   shared = first_shared all f.blocks.items;
+  hash = Some (sha256 (bytes_in img f));
 }
 
 -- what it says of entry n

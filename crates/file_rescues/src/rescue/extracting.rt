@@ -25,6 +25,7 @@ use command_faults::{CommandFault, load};
 use d64_image::{MemDisk, Place};
 use disk_layout::Fault;
 use reached_disk::{Owners, read_so_far};
+use sha2::{Digest, Sha256};
 use std::alloc::Global;
 
 /// The index's name.
@@ -32,7 +33,7 @@ const INDEX: &[u8] = b"index.csv";
 
 /// What stands in its columns.
 const HEADING: &str =
-    "number,file,name,text,type,closed,locked,blocks,found,length,bytes,fault,shared\n";
+    "number,file,name,text,type,closed,locked,blocks,found,length,bytes,fault,shared,sha256\n";
 
 /// Makes the files of entry `number`, none of directory art, and returns its row of the index. `File` if the folder
 /// failed, or `NoMemory`.
@@ -60,6 +61,7 @@ fn make_row<F: NewFolder>(
             bytes: 0,
             fault: None,
             shared: None,
+            hash: None,
         });
     }
     let bytes = make_files(alloc, disk, folder, number, file)?;
@@ -68,9 +70,10 @@ fn make_row<F: NewFolder>(
         number,
         slot: file.slot,
         blocks: blocks.len(),
-        bytes,
+        bytes: bytes.len(),
         fault: file.fault,
         shared: owners.first_shared(blocks),
+        hash: Some(Sha256::digest(bytes.as_slice())),
     })
 }
 
@@ -156,8 +159,8 @@ fn extract_files<F: NewFolder>(
 }
 
 /// Makes in a folder a file for each entry of the image's directory, with what can be reached of its bytes, and for each
-/// relative one also a file with the lines of its records. After them it makes `index.csv`, with a line for each entry. A
-/// damaged directory or chain, a block that several have, and a file that isn't closed keep nothing back. Returns the
+/// relative one also a file with the lines of its records. After them it makes `index.csv`, with a line for each entry; its
+/// last column is the SHA-256 of the file's bytes, in hexadecimal digits. A damaged directory or chain, a block that several have, and a file that isn't closed keep nothing back. Returns the
 /// first of these faults, the directory's before those of the entries in their order: `BadLink`, `Loop`, `OwnedTwice` or
 /// `Unclosed`. Directory art (`is_art`) has a line in the index, no file, and no fault.
 ///

@@ -102,17 +102,17 @@ fn make_records<F: NewFolder>(
     make_entry(folder, number, file, Ending::Records, lines.as_slice())
 }
 
-/// Makes the files that stand for entry `number`, and returns how many bytes of it can be reached. `File` if the folder
-/// failed, or `NoMemory`: the folder then has a part of them.
+/// Makes the files that stand for entry `number`, and returns its bytes that can be reached: those of the first file. `File`
+/// if the folder failed, or `NoMemory`: the folder then has a part of them.
 pub(crate) fn make_files<F: NewFolder>(
     alloc: Global,
     disk: &MemDisk,
     folder: &mut F,
     number: u8,
     file: &Rescued,
-) -> Result<usize, CommandFault>
+) -> Result<Vec<u8>, CommandFault>
     requires rescued { IsRescued (disk_image disk.now) file.now }
-    ensures ok { IfOk result (λ count. (count ≡ length (bytes_in (disk_image disk.now) file.now))
+    ensures ok { IfOk result (λ bytes. (bytes.items ≡ bytes_in (disk_image disk.now) file.now)
         × AddsFiles (F.files folder.old) (F.files folder.new) (own_files (disk_image disk.now) number file.now)) }
     ensures err { IfErr result (λ fault. IsMakeFault fault
         × AddsPart (F.files folder.old) (F.files folder.new) (own_files (disk_image disk.now) number file.now)) }
@@ -121,5 +121,5 @@ pub(crate) fn make_files<F: NewFolder>(
     let ending = Ending::of_type(file.slot.bytes[2]);
     make_entry(folder, number, file, ending, bytes.as_slice())?;
     make_records(alloc, folder, number, file, bytes.as_slice())?;
-    Ok(bytes.len())
+    Ok(bytes)
 }

@@ -6,6 +6,7 @@ ghost use Rattle.file_rescues.specs.rescue.Rescues as rescues;
 ghost use Rattle.file_rescues.specs.rescue.Rescues.{fault_of};
 
 use crate::rescue::art::is_art;
+use crate::rescue::hashes::Hash;
 use d64_image::Place;
 use disk_layout::{EntryView, Fault, Slot};
 use line_text::{CharacterSet, Ending, Quoted, Text, file_name};
@@ -27,6 +28,8 @@ pub struct Row {
     pub fault: Option<Fault>,
     /// The first of its blocks that another file has too, or the map or the directory.
     pub shared: Option<Place>,
+    /// The SHA-256 of the file's bytes: none of directory art, which has no file.
+    pub hash: Option<[u8; 32]>,
 }
 
 /// The fault of an entry that isn't closed: `Unclosed` at its directory sector. A deleted one has none.
@@ -210,6 +213,13 @@ impl Display for Row {
     ghost output = { λ row. Some (row_text row) };
 
     fn fmt<W: fmt::Write>(&self, f: &mut Formatter<W>) -> fmt::Result {
-        writeln!(f, "{}{}{}", Naming(*self), Entry(*self), Found(*self))
+        writeln!(
+            f,
+            "{}{}{},{}",
+            Naming(*self),
+            Entry(*self),
+            Found(*self),
+            Hash(self.hash)
+        )
     }
 }

@@ -17,7 +17,10 @@ module _ (f g : Show) (same : (bytes : List ℕ) → IsSameMarkup (f bytes) (g b
     (alike-signs : (bytes : List ℕ) → IsSameMarkup (s bytes) (u bytes)) where
   on-compared : (a b : Disk) → IsSameMarkup (compared_text f a b) (compared_text g a b)
   unfolding compared_text
-  on-compared a b = behind compared_head _ _ (before (f (disk_name a.map)) (g (disk_name a.map)) _ (same (disk_name a.map)))
+  on-compared a b =
+      behind compared_head _ _ (both (f b.path) (g b.path) _ _ (same b.path) (behind (codes "</b> compared with <b>") _ _
+      (both (f a.path) (g a.path) _ _ (same a.path) (behind (codes "</b>, ") _ _
+      (before (f (disk_name a.map)) (g (disk_name a.map)) _ (same (disk_name a.map)))))))
 
   on-head : (k : ℕ) (d : File) (state parts : List ℕ)
       → IsSameMarkup (entry_head f s k d state parts) (entry_head g u k d state parts)

@@ -7,8 +7,8 @@ use Rattle.disk_layout.specs.Layout.{File, Layout, count_field}
 use Rattle.disk_pictures.specs.Html.{Show}
 use Rattle.reached_disk.specs.Names.{disk_name, name_of}
 use Rattle.disk_pictures.specs.Pictures.{dashes}
-use Rattle.disk_pictures.specs.Posters.{line_start, poster_head, poster_legend, poster_line, poster_style, poster_text}
-use Rattle.disk_pictures.specs.Posters.{poster_told}
+use Rattle.disk_pictures.specs.Legends.{legend_of, poster_legend}
+use Rattle.disk_pictures.specs.Posters.{line_start, poster_head, poster_line, poster_style, poster_text, poster_told}
 use Rattle.disk_pictures.specs.declared.verdicts.Verdict.{Verdict}
 use Rattle.reached_disk.specs.Types.{type_text}
 use Rattle.disk_pictures.proofs.lemmas.pages.PageMarkup.{IsSameMarkup, before, behind, both, each, on-drawing, on-summary}
@@ -55,5 +55,5 @@ module _ (f g : Show) (same : (bytes : List ℕ) → IsSameMarkup (f bytes) (g b
   unfolding poster_text
   on-poster v map l = both _ _ _ _ (on-head map) (both _ _ _ _ (on-told v map l)
       (both _ _ _ _ (on-drawing f g same v.found map l)
-      (behind poster_legend _ _ (before _ _ _
+      (behind (poster_legend (legend_of v.found map l)) _ _ (before _ _ _
       (each (poster_line f s (length l.files)) (poster_line g u (length l.files)) (on-line (length l.files)) 0 l.files)))))

@@ -9,7 +9,7 @@ returns g c =
     over-images g.R.HostFiles.rights g.R.HostFiles.stands c.args.rt.now c.args.before.now c.args.after.now
     c.args.out.now c.comparing_run.new.out c.comparing_run.result
     (vec_items c.in_ok-first.first) (vec_items c.in_ok-second.second) c.as_slice.result.now c.as_slice-2.result.now
-    (λ first second. IsComparingRun g.W.Write.contents first second c.args.out.now c.comparing_run.new.out
-    c.comparing_run.result)
+    (λ first second. IsComparingRun g.W.Write.contents c.args.before.now first c.args.after.now second c.args.out.now
+    c.comparing_run.new.out c.comparing_run.result)
     c.in_ok-first.ensures.read c.in_ok-second.ensures.read c.as_slice.ensures.value c.as_slice-2.ensures.value
     c.comparing_run.ensures

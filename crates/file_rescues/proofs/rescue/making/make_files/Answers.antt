@@ -1,5 +1,5 @@
 -- One file after the other.
-use Rattle.std.proofs.Common.{ap, arith, inr, length, sym, ◌∙◌}
+use Rattle.std.proofs.Common.{ap, arith, inr, length, ◌∙◌}
 use Rattle.std.proofs.lemmas.Result.{err_from_is_err_and}
 use Rattle.d64_image.specs.Memory.{disk_image}
 use Rattle.file_rescues.proofs.lemmas.rescue.Made.{both-made, data-part, lines-part}
@@ -45,7 +45,7 @@ returns-in_err-make_records-clause-err g c =
 
 pub returns-clause-ok : goal.returns-clause-ok
 returns-clause-ok g c = (
-  c.len.ensures ∙ sym c.as_slice-2.ensures.len ∙ ap length (c.as_slice-2.ensures.value ∙ c.in_ok-bytes.ensures.ok),
+  c.in_ok-bytes.ensures.ok,
   both-made _ _ _ (disk_image c.args.disk.now) c.args.number c.args.file.now c.of_type-ending.result _ _
       c.of_type-ending.ensures (c.as_slice.ensures.value ∙ c.in_ok-bytes.ensures.ok)
       (c.as_slice-2.ensures.value ∙ c.in_ok-bytes.ensures.ok) c.in_ok-make_entry.ensures.ok
