@@ -7,6 +7,7 @@ use Rattle.disk_layout.proofs.lemmas.layouts.Agree.{owned-by_files}
 use Rattle.disk_layout.proofs.lemmas.layouts.Frames.{IsLayout-put_block, all_blocks, block-no_side, block-owned}
 use Rattle.disk_layout.proofs.lemmas.layouts.Frames.{unless-same}
 use Rattle.disk_layout.proofs.lemmas.layouts.Layouts.{IsLayout-one, get-contains}
+use Rattle.disk_layout.proofs.lemmas.layouts.Unclean.{clean-of}
 use Rattle.disk_layout.proofs.lemmas.lists.Lists.{all-map}
 use Rattle.disk_layout.proofs.lemmas.lists.Once.{EachOnce-right, all-in, flat_map-in}
 use Rattle.disk_layout.proofs.lemmas.whole.Files.{AreExact}
@@ -16,7 +17,7 @@ use Rattle.disk_layout.specs.Directory.{map_place}
 use Rattle.disk_layout.specs.Layout.{File, IsLayout, Layout, file_owns, is_rel, owners}
 use Rattle.disk_layout.specs.Map.{IsMapOf}
 use Rattle.layout_check.specs.Keeping.{IsCleanBut}
-use Rattle.rel_records.specs.Usable.{IsUsable, IsUsableLayout, StaysClean}
+use Rattle.rel_records.specs.Usable.{IsAsClean, IsUsable, IsUsableLayout, StaysClean}
 
 -- the layout of such an image is that one
 pub usable-of : (img : Image) (l : Layout) → IsLayout img l → IsUsable img → IsUsableLayout img l
@@ -34,11 +35,18 @@ pub stays-clean : (a c : Image) (l m : Layout) → StaysClean a l c m → IsClea
 stays-clean a c l m stays k = let now = stays [] (but-none a l k) in
     record { layout = now.layout; files = now.files; map = now.map }
 
--- what a usable image becomes is usable, if it stays as clean as it was
+-- what a clean image becomes is clean, and what a usable one becomes is usable, if it stays as clean as it was
+pub clean-then : (a c : Image) (l m : Layout) → IsLayout a l → IsClean a → StaysClean a l c m → IsClean c
+clean-then a c l m is clean stays = (m, stays-clean a c l m stays (clean-of a l is clean))
+
 pub still-usable : (a c : Image) (l m : Layout) → IsLayout a l → IsUsable a → StaysClean a l c m → IsUsable c
 still-usable a c l m is usable stays =
     let (strays, clean) = usable-of a l is usable in
     (m, (strays, stays strays clean))
+
+-- one change after another
+pub as-clean-then : (a b c : Image) (l m : Layout) → StaysClean a l b m → IsAsClean b m c → IsAsClean a l c
+as-clean-then a b c l m first (k, second) = (k, λ strays clean. second strays (first strays clean))
 
 -- its relative files have exact side sectors
 pub exact-but : {strays : List Place} (img : Image) (l : Layout) (k : ℕ) (f : File) → IsCleanBut strays img l
