@@ -1,6 +1,6 @@
 -- Of disks that can be used.
-use Rattle.std.proofs.Common.{◌≡◌, [], List, IsTrue, length, slice_index, subst, sym}
-use Rattle.std.specs.Prelude.{Contains, Some, slice_get}
+use Rattle.std.proofs.Common.{◌≡◌, ◌∙◌, ℕ, [], ◌∷◌, ◌++◌, List, IsTrue, length, slice_index, subst, sym}
+use Rattle.std.specs.Prelude.{Contains, Some, flat_map, slice_get}
 use Rattle.d64_image.specs.Images.{Image, Sector, put, sector}
 use Rattle.d64_image.specs.declared.place.Place.{Place}
 use Rattle.disk_layout.proofs.lemmas.layouts.Agree.{owned-by_files}

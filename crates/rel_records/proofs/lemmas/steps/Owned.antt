@@ -112,6 +112,9 @@ module _ (l : Layout) (before after : List File) (f : File) (fresh : Place) (u :
   abbrev G : List Place
   G = owners (exchanged l before (grown f fresh u f.sides) after)
 
+  abbrev sided : Place → List Place
+  sided side = owners (exchanged l before (grown f fresh u (f.sides ++ side ∷ [])) after)
+
   -- the owners with the fresh block are those of before, and it
   block-out : (x : Place) → Contains (map_place ∷ G) x → Contains (fresh ∷ map_place ∷ owners l) x
   block-out x c =
@@ -159,14 +162,11 @@ module _ (l : Layout) (before after : List File) (f : File) (fresh : Place) (u :
       | inl d ↦ inl d
       | inr s ↦ inr (λ c. none (let P : Place → Type 0 = Contains (map_place ∷ owners l) in subst P (sym s) c))
     ];
-    map = map-taken (side ∷ fresh ∷ []) (map_place ∷ H) owned side-out side-in;
+    map = map-taken (side ∷ fresh ∷ []) (map_place ∷ sided side) owned side-out side-in;
   }
     where
       none : ¬ (Contains (map_place ∷ owners l) side)
       none c = out (Contains-there side fresh (map_place ∷ owners l) c)
-
-      abbrev H : List Place
-      H = owners (exchanged l before (grown f fresh u (f.sides ++ side ∷ [])) after)
 
       more : (ps qs : List Place) → ((x : Place) → Contains ps x → Contains qs x) → (x : Place)
           → Contains (side ∷ ps) x → Contains (side ∷ qs) x
@@ -175,7 +175,7 @@ module _ (l : Layout) (before after : List File) (f : File) (fresh : Place) (u :
         | inr d ↦ Contains-there x side qs (h x d)
       ]
 
-      side-out : (x : Place) → Contains (map_place ∷ H) x → Contains (side ∷ fresh ∷ map_place ∷ owners l) x
+      side-out : (x : Place) → Contains (map_place ∷ sided side) x → Contains (side ∷ fresh ∷ map_place ∷ owners l) x
       side-out x c =
           let (xs, ys, was, now) = owners-side l before after f fresh side u in
           let A : List Place → Type 0 = λ ps. Contains (map_place ∷ ps) x in
@@ -183,7 +183,7 @@ module _ (l : Layout) (before after : List File) (f : File) (fresh : Place) (u :
           more (map_place ∷ G) (fresh ∷ map_place ∷ owners l) block-out x
           (subst B (sym was) (front-out xs ys map_place side x (subst A now c)))
 
-      side-in : (x : Place) → Contains (side ∷ fresh ∷ map_place ∷ owners l) x → Contains (map_place ∷ H) x
+      side-in : (x : Place) → Contains (side ∷ fresh ∷ map_place ∷ owners l) x → Contains (map_place ∷ sided side) x
       side-in x c =
           let (xs, ys, was, now) = owners-side l before after f fresh side u in
           let A : List Place → Type 0 = λ ps. Contains (map_place ∷ ps) x in
