@@ -1,7 +1,7 @@
 -- Of disks that can be used.
 use Rattle.std.proofs.Common.{◌≡◌, ◌∙◌, ℕ, [], ◌∷◌, ◌++◌, List, IsTrue, length, slice_index, subst, sym}
 use Rattle.std.specs.Prelude.{Contains, Some, flat_map, slice_get}
-use Rattle.d64_image.specs.Images.{Image, Sector, put, sector}
+use Rattle.d64_image.specs.Images.{Image, Sector, put}
 use Rattle.d64_image.specs.declared.place.Place.{Place}
 use Rattle.disk_layout.proofs.lemmas.layouts.Agree.{owned-by_files}
 use Rattle.disk_layout.proofs.lemmas.layouts.Frames.{IsLayout-put_block, all_blocks, block-no_side, block-owned}
@@ -52,7 +52,7 @@ as-clean-then a b c l m first (k, second) = (k, λ strays clean. second strays (
 pub exact-but : {strays : List Place} (img : Image) (l : Layout) (k : ℕ) (f : File) → IsCleanBut strays img l
     → slice_get l.files k ≡ Some f → IsTrue (is_rel f.slot) → AreExact img f
 exact-but img l k f clean at rel j q there =
-    (all-in _ l.files clean.files (get-contains l.files k f at) rel).sides j q there
+    (all-in _ l.files f clean.files (get-contains l.files k f at) rel).sides j q there
 
 -- a write to a data block that keeps its link leaves an image as clean as it was
 pub put_block-stays : (img : Image) (l : Layout) (p : Place) (b : Sector) → length img ≡ 683
