@@ -8,7 +8,6 @@ use Rattle.d64_image.specs.Memory.{memory, sectors_in}
 use Rattle.d64_image.specs.declared.mem_disk.MemDisk.{MemDisk}
 use Rattle.d64_image.specs.declared.place.Place.{Place}
 use Rattle.damaged_files.specs.cut.Told.{HasNoCut, IsCutShort, IsToldOf}
-use Rattle.damaged_files.specs.declared.sides.planning.Loss.{Loss}
 use Rattle.disk_changes.specs.Judged.{IsOfGeos, IsPlainCut, IsSoundWhole}
 use Rattle.disk_changes.specs.Judged.{IsUnsoundOrShort, IsUntaken}
 use Rattle.disk_changes.specs.mended.Kinds.{HasGeosSign, IsCutRefusal}
