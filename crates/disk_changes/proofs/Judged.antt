@@ -8,12 +8,10 @@ use Rattle.d64_image.specs.Memory.{memory, sectors_in}
 use Rattle.d64_image.specs.declared.mem_disk.MemDisk.{MemDisk}
 use Rattle.d64_image.specs.declared.place.Place.{Place}
 use Rattle.damaged_files.specs.cut.Told.{HasNoCut, IsCutShort, IsToldOf}
-use Rattle.damaged_files.specs.declared.sides.planning.Loss.{Loss}
-use Rattle.disk_changes.specs.Judged.{IsCleanDisk, IsOfGeos, IsPlainCut, IsSoundWhole, IsTaken, IsUnclean}
+use Rattle.disk_changes.specs.Judged.{IsOfGeos, IsPlainCut, IsSoundWhole}
 use Rattle.disk_changes.specs.Judged.{IsUnsoundOrShort, IsUntaken}
 use Rattle.disk_changes.specs.mended.Kinds.{HasGeosSign, IsCutRefusal}
 use Rattle.command_faults.specs.declared.faults.CommandFault.{CommandFault}
-use Rattle.disk_layout.specs.Clean.{IsCleanLayout}
 use Rattle.disk_layout.specs.Directory.{map_place}
 use Rattle.disk_layout.specs.Layout.{IsLayout, IsSound, Layout}
 
@@ -80,16 +78,3 @@ pub unsound-is : (image : List ℕ) (img : Image) → img ≡ sectors_in image �
     → IsCutShort image p → ⊥
 unsound-is image img is unsound p short =
     unsound (short.layout, subst (λ (i : Image). IsLayout i short.layout) (sym is) short.sound)
-
--- an image that isn't taken isn't that of a clean disk
-pub untaken-unclean : (image : List ℕ) (why : CommandFault) → IsUntaken image why → IsUnclean image why
-untaken-unclean image faults.ImageSize c = c
-untaken-unclean image faults.NoMemory c = c
-untaken-unclean image (faults.Short p) c = c
-untaken-unclean image faults.Geos c = c
-untaken-unclean image _ c = absurd c
-
-abbrev pub is-clean-disk : (image : List ℕ) (cut : Loss) (img : Image) → img ≡ sectors_in image → IsTaken image cut
-    → (l : Layout) → IsCleanLayout img l → IsCleanDisk image cut
-is-clean-disk image cut img is taken l clean =
-    record { taken = taken; layout = l; clean = subst (λ (i : Image). IsCleanLayout i l) is clean }

@@ -6,11 +6,13 @@ use Rattle.std.specs.Prelude.{bytes_eq}
 use Rattle.d64_image.specs.Images.{Image}
 use Rattle.d64_image.specs.Memory.{bytes_of, disk_bytes, disk_image, memory, sectors_in}
 use Rattle.d64_image.specs.declared.mem_disk.MemDisk.{MemDisk}
+use Rattle.d64_image.specs.declared.place.Place.{Place}
 use Rattle.damaged_files.specs.declared.sides.planning.Loss.{Loss}
 use Rattle.command_faults.specs.Faults.{IsLoadFault}
 use Rattle.command_faults.specs.declared.faults.CommandFault.{CommandFault}
 use Rattle.command_faults.specs.declared.faults.CommandFault.TheVariants as faults
 use Rattle.disk_changes.specs.Judged.{HasStraysAlone, IsCleanWith, IsTaken, IsUntaken, IsUnusable, IsUsableDisk}
+use Rattle.disk_changes.specs.Judged.{IsUsableFault}
 use Rattle.disk_layout.proofs.lemmas.layouts.Layouts.{IsLayout-one}
 use Rattle.disk_layout.proofs.lemmas.lists.Once.{Contains-nil}
 use Rattle.disk_layout.specs.Clean.{IsCleanLayout}
@@ -37,10 +39,18 @@ pub is-usable : (image : List ℕ) (cut : Loss) → IsTaken image cut → HasStr
 is-usable image cut taken (l, strays, alone) =
     record { taken = taken; layout = l; strays = strays; usable = alone }
 
-pub clean-is-usable : (image : List ℕ) (cut : Loss) (img : Image) → img ≡ sectors_in image → IsTaken image cut
-    → (l : Layout) → IsCleanLayout img l → IsUsableDisk image cut
-clean-is-usable image cut img is taken l k = is-usable image cut taken
-    (subst HasStraysAlone is (l, [], clean-with img l k))
+abbrev pub is-usable-disk : (image : List ℕ) (cut : Loss) (img : Image) → img ≡ sectors_in image → IsTaken image cut
+    → (l : Layout) (strays : List Place) → IsCleanWith strays img l → IsUsableDisk image cut
+is-usable-disk image cut img is taken l strays alone = record {
+  taken = taken;
+  layout = l;
+  strays = strays;
+  usable = subst (λ (i : Image). IsCleanWith strays i l) is alone;
+}
+
+pub clean-alone : (image : List ℕ) (img : Image) → img ≡ sectors_in image → (l : Layout) → IsCleanLayout img l
+    → HasStraysAlone (sectors_in image)
+clean-alone image img is l k = subst HasStraysAlone is (l, [], clean-with img l k)
 
 -- a repair that leaves such sectors taken changes nothing, and the other way round
 pub alone-of : (a b : Image) (n : ℕ) → IsRepairedKeeping a b n → b ≡ a → HasStraysAlone a
@@ -91,13 +101,20 @@ untaken-unusable image (faults.Short p) c = c
 untaken-unusable image faults.Geos c = c
 untaken-unusable image _ c = absurd c
 
-pub load-unusable : (image : List ℕ) (why : CommandFault) → IsLoadFault image why → IsUnusable image why
+-- nor is one that isn't judged so
+pub usable-fault : (image : List ℕ) (why : CommandFault) → IsUsableFault image why → IsUnusable image why
+usable-fault image faults.ImageSize c = c
+usable-fault image faults.NoMemory c = c
+usable-fault image (faults.Layout fault) c = c
+usable-fault image _ c = absurd c
+
+pub load-unusable : (image : List ℕ) (why : CommandFault) → IsLoadFault image why → IsUsableFault image why
 load-unusable image faults.ImageSize c = c
 load-unusable image faults.NoMemory c = c
 load-unusable image _ c = absurd c
 
 -- so is a fault, if more is wrong than such sectors
 pub fault-unusable : (image : List ℕ) (img : Image) → img ≡ sectors_in image → length image ≡ 174848 → (fault : Fault)
-    → HoldsOfClean nowhere img fault → ¬ (HasStraysAlone (sectors_in image)) → IsUnusable image (faults.Layout fault)
+    → HoldsOfClean nowhere img fault → ¬ (HasStraysAlone (sectors_in image)) → IsUsableFault image (faults.Layout fault)
 fault-unusable image img is size fault holds more =
     ((size, subst (λ (i : Image). HoldsOfClean nowhere i fault) is holds), more)

@@ -10,7 +10,6 @@ use Rattle.damaged_files.specs.cut.Told.{HasNoCut, IsCutShort}
 use Rattle.damaged_files.specs.declared.sides.planning.Loss.{Loss}
 use Rattle.damaged_files.specs.declared.sides.planning.Loss.TheVariants.{Accepted}
 use Rattle.disk_changes.specs.mended.Kinds.{HasGeosSign}
-use Rattle.disk_layout.specs.Clean.{IsCleanLayout}
 use Rattle.disk_layout.specs.Directory.{map_place}
 use Rattle.disk_layout.specs.Layout.{IsLayout, Layout}
 use Rattle.disk_layout.specs.Rest.{slot_name}
@@ -27,12 +26,6 @@ pub record IsSoundWhole (image : List ℕ) : Type 0 where
 -- no file of the image is cut short, or one may be
 abbrev pub IsTaken : (image : List ℕ) → Loss → Type 0
 IsTaken image cut = (length image ≡ 174848) × ((cut ≡ Accepted) ⊎ ((p : Place) → ¬ (IsCutShort image p)))
-
--- And its disk is clean.
-pub record IsCleanDisk (image : List ℕ) (cut : Loss) : Type 0 where
-  pub taken : IsTaken image cut
-  pub layout : Layout
-  pub clean : IsCleanLayout (sectors_in image) layout
 
 -- The image is clean, but its map calls these sectors taken, which nobody owns.
 pub record IsCleanWith (strays : List Place) (img : Image) (l : Layout) : Type 0 where
@@ -75,25 +68,22 @@ IsUntaken image (faults.Short p) = IsPlainCut image p
 IsUntaken image faults.Geos = IsGeosCut image
 IsUntaken image why = ⊥
 
-abbrev pub IsUnclean : List ℕ → CommandFault → Type 0
-IsUnclean image (faults.Short p) = IsPlainCut image p
-IsUnclean image faults.Geos = IsGeosCut image
-IsUnclean image fault = IsCleanFault image fault
+-- why its disk can't be used: more than such sectors is wrong
+abbrev pub IsUsableFault : List ℕ → CommandFault → Type 0
+IsUsableFault image (faults.Layout fault) =
+    IsCleanFault image (faults.Layout fault) × ¬ (HasStraysAlone (sectors_in image))
+IsUsableFault image why = IsCleanFault image why
 
--- why the image isn't that of a disk that can be used: more than such sectors is wrong
+-- why the image isn't that of a disk that can be used
 abbrev pub IsUnusable : List ℕ → CommandFault → Type 0
-IsUnusable image (faults.Layout fault) =
-    IsUnclean image (faults.Layout fault) × ¬ (HasStraysAlone (sectors_in image))
-IsUnusable image why = IsUnclean image why
+IsUnusable image (faults.Short p) = IsPlainCut image p
+IsUnusable image faults.Geos = IsGeosCut image
+IsUnusable image fault = IsUsableFault image fault
 
 -- it is so, and this holds of its layout
 pub record IsSoundBut (image : List ℕ) (Q : Layout → Type 0) : Type 0 where
   pub whole : IsSoundWhole image
   pub but : Q whole.layout
-
-pub record IsCleanBut (image : List ℕ) (cut : Loss) (Q : Layout → Type 0) : Type 0 where
-  pub disk : IsCleanDisk image cut
-  pub but : Q disk.layout
 
 pub record IsUsableBut (image : List ℕ) (cut : Loss) (Q : Layout → Type 0) : Type 0 where
   pub disk : IsUsableDisk image cut

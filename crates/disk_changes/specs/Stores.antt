@@ -3,10 +3,9 @@ use Rattle.std.specs.Prelude.{◌≡◌, List, Some, slice_get, ℕ}
 use Rattle.command_faults.specs.declared.faults.CommandFault.TheVariants as faults
 use Rattle.d64_image.specs.Memory.{disk_image, sectors_in}
 use Rattle.damaged_files.specs.declared.sides.planning.Loss.{Loss}
-use Rattle.disk_changes.specs.Judged.{IsCleanBut, IsCleanDisk, IsUnclean}
+use Rattle.disk_changes.specs.Judged.{IsUnusable, IsUsableBut, IsUsableDisk}
 use Rattle.disk_changes.specs.declared.changes.Changed.{Changed}
 use Rattle.command_faults.specs.declared.faults.CommandFault.{CommandFault}
-use Rattle.disk_layout.specs.Clean.{IsClean}
 use Rattle.disk_layout.specs.Layout.{File, record_length}
 use Rattle.disk_layout.specs.Records.{records}
 use Rattle.disk_layout.specs.Rest.{IsFirst, IsNamed}
@@ -14,14 +13,16 @@ use Rattle.disk_changes.specs.lines.Stores.{AreLinesOf, AreSo, NewRecord, change
 use Rattle.disk_changes.specs.lines.Storing.{HasBadLine, HasNoStoreRoom}
 use Rattle.line_text.specs.scripts.Lines.{lines}
 use Rattle.rel_records.specs.Others.{HasRecords}
+use Rattle.rel_records.specs.Usable.{IsAsClean}
 use Rattle.rel_records.specs.Written.{grown_to}
 use Rattle.rel_records.specs.growth.Growth.{IsFull, records_had}
 
 -- `file` is the first closed relative file of the name, and the lines of the text that is given are of the records `all`, which it has or can
 -- have. Those that count, of two of one record the last, are stored on the disk that comes of it, in the file that has
--- grown to the greatest of them. The lines of those that changed are printed, in order.
+-- grown to the greatest of them. Sectors that nobody owns stay taken, or free unless the file grew into them. The lines of
+-- those that changed are printed, in order.
 pub record IsStored (image name given : List ℕ) (cut : Loss) (made : Changed) : Type 0 where
-  pub before : IsCleanDisk image cut
+  pub before : IsUsableDisk image cut
   -- its number among the entries
   pub number : ℕ
   pub file : File
@@ -29,7 +30,7 @@ pub record IsStored (image name given : List ℕ) (cut : Loss) (made : Changed) 
   pub all : List NewRecord
   pub are_lines : AreLinesOf (record_length file.slot) (records_had file) (lines given) all
   pub fits : ¬ (IsFull (sectors_in image) file (greatest all))
-  pub clean : IsClean (disk_image made.disk)
+  pub clean : IsAsClean (sectors_in image) before.layout (disk_image made.disk)
   pub has : HasRecords (sectors_in image) (disk_image made.disk) before.layout number
       (stored (record_length file.slot) all (grown_to (sectors_in image) file (greatest all)))
   -- if those that count were there already, the disk is as it was
@@ -40,9 +41,9 @@ pub record IsStored (image name given : List ℕ) (cut : Loss) (made : Changed) 
 
 -- why records aren't stored
 abbrev pub IsStoreRefusal : (image name text : List ℕ) → Loss → CommandFault → Type 0
-IsStoreRefusal image name text cut faults.NoFile = IsCleanBut image cut
+IsStoreRefusal image name text cut faults.NoFile = IsUsableBut image cut
     (λ l. (k : ℕ) (f : File) → slice_get l.files k ≡ Some f → ¬ (IsNamed name f))
-IsStoreRefusal image name text cut (faults.RecordsLine k) = IsCleanBut image cut (HasBadLine name text k)
+IsStoreRefusal image name text cut (faults.RecordsLine k) = IsUsableBut image cut (HasBadLine name text k)
 IsStoreRefusal image name text cut faults.DiskFull =
-    IsCleanBut image cut (HasNoStoreRoom (sectors_in image) name text)
-IsStoreRefusal image name text cut why = IsUnclean image why
+    IsUsableBut image cut (HasNoStoreRoom (sectors_in image) name text)
+IsStoreRefusal image name text cut why = IsUnusable image why

@@ -1,17 +1,16 @@
 //! An image taken into memory and judged.
-ghost use Rattle.std.specs.Prelude.{◌≡◌, ◌↔◌, IfErr, IfOk, IsTrue};
+ghost use Rattle.std.specs.Prelude.{◌≡◌, ◌↔◌, IfErr, IfOk, IsTrue, OnOk, length};
 ghost use Rattle.d64_image.specs.Memory.{disk_image, sectors_in};
 ghost use Rattle.command_faults.specs.Faults.{IsLoadFault};
 ghost use Rattle.disk_changes.specs.Judged.{
   HasStraysAlone,
-  IsCleanDisk,
   IsSoundWhole,
   IsTaken,
-  IsUnclean,
   IsUnsoundOrShort,
   IsUntaken,
   IsUnusable,
   IsUsableDisk,
+  IsUsableFault,
 };
 ghost use Rattle.d64_image.specs.Images.{sector};
 ghost use Rattle.disk_changes.specs.mended.Kinds.{IsCutRefusal};
@@ -65,16 +64,6 @@ pub(crate) fn taken_disk(alloc: Global, image: &[u8], cut: Loss) -> Result<MemDi
     }
 }
 
-/// The same, if the disk is clean.
-pub(crate) fn clean_disk(alloc: Global, image: &[u8], cut: Loss) -> Result<MemDisk, CommandFault>
-    ensures ok { IfOk result (λ disk. IsCleanDisk image.now cut × (disk_image disk ≡ sectors_in image.now)) }
-    ensures err { IfErr result (IsUnclean image.now) }
-{
-    let mut disk = taken_disk(alloc, image, cut)?;
-    check(&mut disk)?;
-    Ok(disk)
-}
-
 /// Whether nothing is wrong with the disk of an image but that its map calls sectors taken that nobody owns: a repair that
 /// leaves them so changes nothing.
 fn has_strays_alone(alloc: Global, image: &[u8], disk: &MemDisk) -> Result<bool, CommandFault>
@@ -90,18 +79,28 @@ fn has_strays_alone(alloc: Global, image: &[u8], disk: &MemDisk) -> Result<bool,
     }
 }
 
+/// Judges that nothing is wrong with the disk of an image but that its map calls sectors taken that nobody owns.
+pub(crate) fn check_usable(alloc: Global, image: &[u8]) -> Result<(), CommandFault>
+    ensures ok { OnOk result ((length image.now ≡ 174848) × HasStraysAlone (sectors_in image.now)) }
+    ensures err { IfErr result (IsUsableFault image.now) }
+{
+    let mut disk = load(alloc, image)?;
+    let Err(fault) = check(&mut disk) else {
+        return Ok(());
+    };
+    if has_strays_alone(alloc, image, &disk)? {
+        return Ok(());
+    }
+    Err(CommandFault::Layout(fault))
+}
+
 /// The disk of an image in memory, unless a file of it is cut short and that isn't accepted, or more is wrong with it than
 /// that its map calls sectors taken that nobody owns.
 pub(crate) fn usable_disk(alloc: Global, image: &[u8], cut: Loss) -> Result<MemDisk, CommandFault>
     ensures ok { IfOk result (λ disk. IsUsableDisk image.now cut × (disk_image disk ≡ sectors_in image.now)) }
     ensures err { IfErr result (IsUnusable image.now) }
 {
-    let mut disk = taken_disk(alloc, image, cut)?;
-    let Err(fault) = check(&mut disk) else {
-        return Ok(disk);
-    };
-    if has_strays_alone(alloc, image, &disk)? {
-        return Ok(disk);
-    }
-    Err(CommandFault::Layout(fault))
+    let disk = taken_disk(alloc, image, cut)?;
+    check_usable(alloc, image)?;
+    Ok(disk)
 }

@@ -2,6 +2,5 @@
 pub(crate) mod column_lines;
 pub(crate) mod judging;
 pub(crate) mod last_lines;
-pub(crate) mod loading;
 pub(crate) mod record_storing;
 pub(crate) mod storing;

@@ -11,7 +11,7 @@ use damaged_files::Loss;
 use std::alloc::Global;
 
 /// The image with the records of the text's lines stored in the first closed relative file of this name, and the lines of
-/// those that changed.
+/// those that changed. Sectors that the map calls taken and nobody owns stay taken.
 pub(crate) fn stored(
     alloc: Global,
     image: &[u8],

@@ -8,6 +8,7 @@ use Rattle.d64_image.specs.Images.{Image}
 use Rattle.disk_layout.proofs.lemmas.layouts.Layouts.{IsLayout-one}
 use Rattle.disk_layout.specs.Clean.{IsClean}
 use Rattle.disk_layout.specs.Layout.{File, Layout, record_length}
+use Rattle.rel_records.proofs.lemmas.Usable.{clean-then}
 use Rattle.rel_records.specs.File.{IsFileOf, Shows, entry_of, length_of, records_in}
 use Rattle.rel_records.specs.Others.{HasRecords, LeavesRecords}
 use Rattle.rel_records.specs.Written.{IsGrowingTo, IsInOneBlock, IsWriting, grown_to, touched, with_written}
@@ -29,7 +30,7 @@ pub leaves-has : (old new : Image) (l : Layout) (n : ℕ) (rs : List (List ℕ))
     → LeavesRecords old new l n rs v → HasRecords old new l n rs
 leaves-has old new l n rs v h = record {
   layout = h.layout;
-  is_layout = h.clean.layout;
+  is_layout = h.of.layout;
   others = h.others;
   file = h.file;
   there = h.of.there;
@@ -42,11 +43,12 @@ pub had-is : (f : File) (v : RelFile) → Shows f v → records_in v ≡ records
 had-is f v h = cc
 
 -- what a done call leaves of the files that are remembered
-pub keeps-left : (old new : Image) (e e' : NamedFile) (rs : List (List ℕ)) → (h : IsFound old e) → e'.name ≡ e.name
+pub keeps-left : (old new : Image) (e e' : NamedFile) (rs : List (List ℕ)) → IsClean old → (h : IsFound old e)
+    → e'.name ≡ e.name
     → entry_of e'.file ≡ entry_of e.file
     → LeavesRecords old new h.layout (entry_of e.file) rs e'.file → KeepsFound old new e e'
-keeps-left old new e e' rs h name entry left = record {
-  clean = (left.layout, left.clean);
+keeps-left old new e e' rs clean h name entry left = record {
+  clean = clean-then old new h.layout left.layout h.of.layout clean left.clean;
   entry = entry;
   found = own-found old new e e' rs h name entry left;
   others = λ o apart is. other-found old new o (entry_of e.file) h.layout rs e'.file is

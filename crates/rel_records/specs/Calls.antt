@@ -4,7 +4,6 @@ use Rattle.std.specs.Prelude.{Result, Some, length, slice_get}
 use Rattle.d64_image.specs.History.{Changes, History, OnlyReads, TellsFailure, WritesNothing}
 use Rattle.d64_image.specs.Images.{Image, Sector, sector}
 use Rattle.d64_image.specs.declared.faults.DeviceFault.{DeviceFault}
-use Rattle.disk_layout.specs.Clean.{IsClean}
 use Rattle.disk_layout.specs.Directory.{map_place}
 use Rattle.disk_layout.specs.Layout.{File, IsLayout, Layout, record_length}
 use Rattle.disk_layout.specs.Records.{records}
@@ -13,6 +12,7 @@ use Rattle.disk_layout.specs.View.{blocks_free}
 use Rattle.rel_records.specs.Faults.{TellsRelFault}
 use Rattle.rel_records.specs.File.{IsFileOf, IsOf, OfItsFile, blocks_of, entry_of, length_of, records_in}
 use Rattle.rel_records.specs.Others.{KeepsRelFiles, LeavesRecords}
+use Rattle.rel_records.specs.Usable.{IsUsable}
 use Rattle.rel_records.specs.Written.{IsAbsent, IsDone, IsGrowingBy, IsGrowingTo, IsInOneBlock, IsRecord, IsWriting}
 use Rattle.rel_records.specs.Written.{grown_to, touched, with_written}
 use Rattle.rel_records.specs.creation.Made.{HasNoRoomFor, IsCreating, IsMade, IsTakenName, StaysOf, creation_writes}
@@ -73,7 +73,7 @@ pub record ReadsRecord {D : Type 0} (S : History D) (old new : D) (v : RelFile) 
 
 -- Record `number` of the file that v is of is there, and this is a position in it, counted from 1.
 pub record IsPosition (img : Image) (v : RelFile) (number position : ℕ) : Type 0 where
-  pub clean : IsClean img
+  pub usable : IsUsable img
   pub of : IsOf img v
   pub low : 1 ≤ number
   pub high : number ≤ records_in v
@@ -166,7 +166,7 @@ pub record Grows {D : Type 0} (S : History D) (old new : D) (v w : RelFile) (num
 
 -- What growth to this number of data blocks requires: these bytes are the map, and there are enough free sectors.
 pub record MayGrow (img : Image) (v : RelFile) (bytes : Sector) (wanted : ℕ) : Type 0 where
-  pub clean : IsClean img
+  pub usable : IsUsable img
   pub of : IsOf img v
   pub map : bytes ≡ sector img map_place
   pub more : blocks_of v ≤ wanted

@@ -1,12 +1,12 @@
 -- What a call on one relative file leaves of the others, and what it makes of the one. Our own.
 use Rattle.std.specs.Prelude.{ℕ, ◌≡◌, ◌≢◌, ◌⊎◌, ◌<◌, ◌≤◌, List, Some, length, map, slice_get}
 use Rattle.d64_image.specs.Images.{Image, sector}
-use Rattle.disk_layout.specs.Clean.{IsCleanLayout}
 use Rattle.disk_layout.specs.Entries.{SameEntries}
 use Rattle.disk_layout.specs.Layout.{File, IsLayout, Layout, file_owns}
 use Rattle.disk_layout.specs.Records.{records}
 use Rattle.disk_layout.specs.Rest.{header_of}
 use Rattle.rel_records.specs.File.{IsFileOf}
+use Rattle.rel_records.specs.Usable.{StaysClean}
 use Rattle.rel_records.specs.declared.rel_file.RelFile.{RelFile}
 
 -- from old, whose layout is l, to new, whose layout is m: all files but the one at place n stay, with their slots,
@@ -36,11 +36,11 @@ pub record HasRecords (old new : Image) (l : Layout) (n : ℕ) (rs : List (List 
   pub records : records new file ≡ rs
   pub places : (f : File) → slice_get l.files n ≡ Some f → KeepsPlaces old f file rs
 
--- what a call that is done leaves: new is clean, all files except the one at place n are as in old, that one has these
+-- what a call that is done leaves: new is as clean as old, all files except the one at place n are as in old, that one has these
 -- records, and v is of it
 pub record LeavesRecords (old new : Image) (l : Layout) (n : ℕ) (rs : List (List ℕ)) (v : RelFile) : Type 0 where
   pub layout : Layout
-  pub clean : IsCleanLayout new layout
+  pub clean : StaysClean old l new layout
   pub others : KeepsOthers old new l layout n
   pub file : File
   pub of : IsFileOf new layout n file v

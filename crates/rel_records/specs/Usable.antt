@@ -16,3 +16,7 @@ IsUsable img = (l : Layout) × IsUsableLayout img l
 -- whatever sectors a calls taken that nobody owns, c calls taken too, and no others: if a is clean, c is
 abbrev pub StaysClean : Image → Layout → Image → Layout → Type 0
 StaysClean a l c m = (strays : List Place) → IsCleanBut strays a l → IsCleanBut strays c m
+
+-- c is so with one of its layouts
+abbrev pub IsAsClean : Image → Layout → Image → Type 0
+IsAsClean a l c = (m : Layout) × StaysClean a l c m

@@ -1,11 +1,11 @@
 //! Growth of a relative file to a record.
 ghost use Rattle.std.specs.Prelude.{◌≡◌, ◌≤◌, ◌+◌, ◌-◌, ℕ, length};
 ghost use Rattle.d64_image.specs.History.{TellsFailure};
-ghost use Rattle.disk_layout.specs.Clean.{IsClean};
 ghost use Rattle.disk_layout.specs.Layout.{File, Layout, record_length, sides_for};
 ghost use Rattle.disk_layout.specs.View.{blocks_free};
 ghost use Rattle.rel_records.specs.Calls.{Grows, GrowsBy, MayGrow};
 ghost use Rattle.rel_records.specs.File.{IsOf, OfItsFile, entry_of};
+ghost use Rattle.rel_records.specs.Usable.{IsUsable};
 ghost use Rattle.rel_records.specs.growth.Growth.{fill_writes, full, needed, records_had, run_writes};
 ghost use Rattle.rel_records.specs.growth.Steps.{HasRun, IsAt, IsFilledUp, IsKeptOf, IsRunTo, StandsFilled};
 
@@ -114,7 +114,7 @@ fn grow<D: Sectors>(
 /// `TooLarge`: the record would need more than 720 data blocks, or its number is past 65535. `Full`: there aren't
 /// enough free blocks. Neither writes anything. At most ten sectors are read.
 pub fn grow_to<D: Sectors>(disk: &mut D, file: &mut RelFile, number: u32) -> Result<(), RelFault>
-    requires clean { IsClean (D.history.image disk.old) }
+    requires usable { IsUsable (D.history.image disk.old) }
     requires of { IsOf (D.history.image disk.old) file.old }
     ensures { Grows D.history disk.old disk.new file.old file.new number result }
 {

@@ -2,10 +2,10 @@
 ghost use Rattle.std.specs.Prelude.{[], ◌∷◌, ◌≡◌, ◌+◌, ◌<◌, ◌≤◌, IfErr, IfSome, IsSome, OnOk, length};
 ghost use Rattle.d64_image.specs.Images.{sector};
 ghost use Rattle.disk_layout.specs.Chain.{named_at};
-ghost use Rattle.disk_layout.specs.Clean.{IsClean};
 ghost use Rattle.rel_records.specs.Calls.{IsPosition, WritesRecord, WritesThere};
 ghost use Rattle.rel_records.specs.File.{IsOf, length_of};
 ghost use Rattle.rel_records.specs.Puts.{PutsEach, in_block, in_two};
+ghost use Rattle.rel_records.specs.Usable.{IsUsable};
 ghost use Rattle.rel_records.specs.Written.{patched, touched};
 ghost use Rattle.rel_records.specs.declared.faults.RelFault.TheVariants.{Overflow};
 
@@ -122,7 +122,7 @@ pub fn write_record<D: Sectors>(
     position: u8,
     text: &[u8],
 ) -> Result<(), RelFault>
-    requires clean { IsClean (D.history.image disk.old) }
+    requires usable { IsUsable (D.history.image disk.old) }
     requires of { IsOf (D.history.image disk.old) file.old }
     requires number { 1 ≤ number }
     requires position_low { 1 ≤ position }

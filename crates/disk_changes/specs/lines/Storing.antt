@@ -5,7 +5,7 @@ use Rattle.std.specs.Io.KnownBytes.{Appends}
 use Rattle.d64_image.specs.History.{Changes, Failed, History, WritesNothing}
 use Rattle.d64_image.specs.Images.{Image}
 use Rattle.d64_image.specs.Memory.{sectors_in}
-use Rattle.disk_layout.specs.Clean.{IsClean, IsCleanLayout}
+use Rattle.d64_image.specs.declared.place.Place.{Place}
 use Rattle.disk_layout.specs.Fault.{HoldsOfClean, nowhere}
 use Rattle.disk_layout.specs.Layout.{File, Layout, record_length}
 use Rattle.disk_layout.specs.Records.{records}
@@ -14,10 +14,12 @@ use Rattle.disk_layout.specs.Listed.{HasStock, NeverGrows}
 use Rattle.disk_layout.specs.Whole.{HoldsWhole}
 use Rattle.rel_records.specs.File.{length_of}
 use Rattle.rel_records.specs.Others.{HasRecords, LeavesRecords}
+use Rattle.rel_records.specs.Usable.{IsAsClean}
 use Rattle.rel_records.specs.Written.{IsGrowingTo, grown_to}
 use Rattle.rel_records.specs.declared.rel_file.RelFile.{RelFile}
 use Rattle.rel_records.specs.growth.Growth.{IsFull, growth_writes, records_had}
 use Rattle.line_text.specs.scripts.Lines.{lines}
+use Rattle.disk_changes.specs.Judged.{HasStraysAlone, IsCleanWith}
 use Rattle.disk_changes.specs.lines.Refusals.{IsLeft}
 use Rattle.disk_changes.specs.mended.Repairs.{TellsKeep}
 use Rattle.disk_changes.specs.lines.Stores.{AreLinesOf, AreSo, IsFirstBad, IsPartStored, IsSo, NewRecord, changed_text}
@@ -80,8 +82,8 @@ pub record StoresLines {D W : Type 0} (S : History D) (contents : W → Option (
         (IsStoringOver (S.image old) l n (record_length f.slot) xs (records (S.image old) f))
     pub whole : HoldsWhole S old new
     pub quiet : AreSo (record_length f.slot) (records (S.image old) f) xs → WritesNothing S old new
-    -- if the output failed, the disk is clean
-    pub clean : IfErr result (λ fault. fault ≡ faults.File → IsClean (S.image new))
+    -- if the output failed, the disk is as clean as it was
+    pub clean : IfErr result (λ fault. fault ≡ faults.File → IsAsClean (S.image old) l (S.image new))
     pub stopped : IfErr result (IsStopped (S.image old) (S.image new) (contents before) (contents after) l n
         (record_length f.slot) xs (records (S.image old) f))
     pub told : TellsKeep S old new result
@@ -96,12 +98,13 @@ IsStoring old l n f xs c =
     IsGrowingTo old l n f (greatest xs) c
     ⊎ IsStoringOver old l n (record_length f.slot) (last_ones xs) (grown_to old f (greatest xs)) c
 
--- The disk is clean, `file` is the first closed relative file of the name, and the text's lines are of these records,
+-- Nothing is wrong with the disk but that its map calls these sectors taken, which nobody owns, `file` is the first closed relative file of the name, and the text's lines are of these records,
 -- which it has or can have. Whatever the disk held on the way is sound, with a prefix of those that count.
 pub record IsStoreRun {D : Type 0} (S : History D) (image name text : List ℕ) (old new : D) : Type 0 where
   pub size : length image ≡ 174848
   pub layout : Layout
-  pub clean : IsCleanLayout (S.image old) layout
+  pub strays : List Place
+  pub usable : IsCleanWith strays (S.image old) layout
   -- its number among the entries
   pub number : ℕ
   pub file : File
@@ -113,12 +116,12 @@ pub record IsStoreRun {D : Type 0} (S : History D) (image name text : List ℕ) 
   -- files that are whole are so in each image held; only if a shop's REQUESTS is to grow nothing is said
   pub whole : (NeverGrows (HasStock layout) file.slot → greatest all ≤ records_had file) → HoldsWhole S old new
 
--- And there was room, all of them are stored, and the disk is clean. If those that count were there already, nothing was
+-- And there was room, all of them are stored, and the disk is as clean as it was. If those that count were there already, nothing was
 -- written.
 pub record IsStoredDisk {D : Type 0} (S : History D) (image name text : List ℕ) (old new : D) : Type 0 where
   pub run : IsStoreRun S image name text old new
   pub fits : ¬ (IsFull (S.image old) run.file (greatest run.all))
-  pub clean : IsClean (S.image new)
+  pub clean : IsAsClean (S.image old) run.layout (S.image new)
   pub has : HasRecords (S.image old) (S.image new) run.layout run.number
       (stored (record_length run.file.slot) run.all (grown_to (S.image old) run.file (greatest run.all)))
   pub quiet : AreSo (record_length run.file.slot) (records (S.image old) run.file) (last_ones run.all)
@@ -150,16 +153,17 @@ IsStoreFault S image name text old new before after faults.ImageSize =
 IsStoreFault S image name text old new before after faults.NoMemory =
     (length image ≡ 174848) × (new ≡ old) × (after ≡ before)
 IsStoreFault S image name text old new before after (faults.Layout fault) =
-    (length image ≡ 174848) × HoldsOfClean nowhere (sectors_in image) fault × (new ≡ old) × (after ≡ before)
+    (length image ≡ 174848) × HoldsOfClean nowhere (sectors_in image) fault × ¬ (HasStraysAlone (sectors_in image))
+    × (new ≡ old) × (after ≡ before)
 IsStoreFault S image name text old new before after faults.NoFile = IsLeft S image old new before after
     (λ l. (k : ℕ) (f : File) → slice_get l.files k ≡ Some f → ¬ (IsNamed name f))
 IsStoreFault S image name text old new before after (faults.RecordsLine k) =
     IsLeft S image old new before after (HasBadLine name text k)
 IsStoreFault S image name text old new before after faults.DiskFull =
     IsLeft S image old new before after (HasNoStoreRoom (S.image old) name text)
--- the output failed: what was stored until then stays, and the disk is clean
+-- the output failed: what was stored until then stays, and the disk is as clean as it was
 IsStoreFault S image name text old new before after faults.File =
-    IsStoreRun S image name text old new × IsClean (S.image new)
+    (run : IsStoreRun S image name text old new) × IsAsClean (S.image old) run.layout (S.image new)
 -- the device failed, when the file was looked for or after that
 IsStoreFault S image name text old new before after faults.Device =
     Failed S old new

@@ -3,7 +3,6 @@ ghost use Rattle.std.specs.Prelude.{◌≡◌, ◌≢◌, ◌≤◌, ℕ, List, 
 ghost use Rattle.std.specs.Io.KnownBytes.{Appends};
 ghost use Rattle.line_text.specs.bytes.Lines.{IsLineOf};
 ghost use Rattle.line_text.specs.bytes.Texts.{record_line};
-ghost use Rattle.disk_layout.specs.Clean.{IsClean};
 ghost use Rattle.command_faults.specs.Outputs.{HandsPart};
 ghost use Rattle.disk_changes.specs.lines.Stores.{
   AreLinesOf,
@@ -18,6 +17,7 @@ ghost use Rattle.disk_changes.specs.lines.Stores.{
 ghost use Rattle.disk_changes.specs.lines.Storing.{StoresLines, StoresOne};
 ghost use Rattle.command_faults.specs.declared.faults.CommandFault.TheVariants as faults;
 ghost use Rattle.rel_records.specs.File.{IsOf, OfItsFile, length_of, records_in};
+ghost use Rattle.rel_records.specs.Usable.{IsUsable};
 ghost use Rattle.line_text.specs.scripts.Lines.{lines};
 
 use crate::lines::last_lines::LastLines;
@@ -36,7 +36,7 @@ fn store_record<D: Sectors>(
     number: u32,
     bytes: &[u8],
 ) -> Result<bool, CommandFault>
-    requires clean { IsClean (D.history.image disk.old) }
+    requires usable { IsUsable (D.history.image disk.old) }
     requires of { IsOf (D.history.image disk.old) file.old }
     requires low { 1 ≤ number }
     requires high { number ≤ records_in file.old }
@@ -105,7 +105,7 @@ fn store_line<D: Sectors, W: Write>(
     bytes: &mut ArrayVec<u8, DATA>,
     out: &mut W,
 ) -> Result<(), CommandFault>
-    requires clean { IsClean (D.history.image disk.old) }
+    requires usable { IsUsable (D.history.image disk.old) }
     requires of { IsOf (D.history.image disk.old) file.old }
     requires line { (h : ℕ) × (x : NewRecord) × IsLineOf line.now x.number x.bytes × CanStore (length_of file.old) h x
         × (x.number ≤ records_in file.old) }
@@ -133,7 +133,7 @@ pub(crate) fn store_lines<D: Sectors, W: Write>(
     last: &LastLines,
     out: &mut W,
 ) -> Result<(), CommandFault>
-    requires clean { IsClean (D.history.image disk.old) }
+    requires usable { IsUsable (D.history.image disk.old) }
     requires of { IsOf (D.history.image disk.old) file.old }
     requires lines { (h : ℕ) × (xs : List NewRecord) × AreLinesOf (length_of file.old) h (lines text.now) xs
         × (greatest xs ≤ records_in file.old) × TellsLast last.now.places.items xs }

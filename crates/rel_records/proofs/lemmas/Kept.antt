@@ -94,7 +94,7 @@ pub leaves_has : (a b : Image) (l : Layout) (n : ℕ) (rs : List (List ℕ)) (v 
     → HasRecords a b l n rs
 leaves_has a b l n rs v h = record {
   layout = h.layout;
-  is_layout = h.clean.layout;
+  is_layout = h.of.layout;
   others = h.others;
   file = h.file;
   there = h.of.there;
@@ -112,7 +112,7 @@ pub leaves_leaves : (a b c : Image) (l : Layout) (n : ℕ) (rs ts : List (List �
     (h : LeavesRecords a b l n rs v) → LeavesRecords b c h.layout n ts w → LeavesRecords a c l n ts w
 leaves_leaves a b c l n rs ts v w h k = record {
   layout = k.layout;
-  clean = k.clean;
+  clean = λ strays was. k.clean strays (h.clean strays was);
   others = keeps_then a b c l h.layout k.layout n h.others k.others;
   file = k.file;
   of = k.of;

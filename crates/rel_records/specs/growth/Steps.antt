@@ -5,23 +5,25 @@ use Rattle.std.specs.Prelude.{Contains, if◌then◌else◌, length, nat_eq, sli
 use Rattle.d64_image.specs.Images.{Image, IsSector, Sector, put, sector}
 use Rattle.d64_image.specs.declared.place.Place.{Place}
 use Rattle.disk_layout.specs.Chain.{byte}
-use Rattle.disk_layout.specs.Clean.{IsCleanLayout}
 use Rattle.disk_layout.specs.Directory.{map_place}
 use Rattle.disk_layout.specs.Layout.{File, Layout, is_rel, record_length, sides_for}
 use Rattle.disk_layout.specs.Map.{IsMapOf, IsTaken}
 use Rattle.disk_layout.specs.Records.{filler, record_count, records}
 use Rattle.disk_layout.specs.Side.{side_sector}
 use Rattle.disk_layout.specs.View.{blocks_free}
+use Rattle.layout_check.specs.Keeping.{IsCleanBut}
 use Rattle.rel_records.specs.Others.{KeepsOthers, KeepsPlaces}
+use Rattle.rel_records.specs.Usable.{StaysClean}
 use Rattle.rel_records.specs.Written.{grown_by}
 use Rattle.rel_records.specs.declared.growth.step_parts.Growing.{Growing}
 use Rattle.rel_records.specs.declared.rel_file.RelFile.{RelFile}
 use Rattle.rel_records.specs.growth.Growth.{full, records_had}
 
--- l is the layout of the image, which is clean, f is its relative file at place n, and p is what is kept of them in
--- memory
+-- l is the layout of the image, which is clean except for some stray sectors, f is its relative file at place n, and p is
+-- what is kept of them in memory
 pub record IsAt (img : Image) (l : Layout) (n : ℕ) (f : File) (p : Growing) : Type 0 where
-  pub clean : IsCleanLayout img l
+  pub strays : List Place
+  pub clean : IsCleanBut strays img l
   pub there : slice_get l.files n ≡ Some f
   pub rel : IsTrue (is_rel f.slot)
   pub place : p.sector ≡ f.slot.sector
@@ -36,7 +38,7 @@ pub record IsAt (img : Image) (l : Layout) (n : ℕ) (f : File) (p : Growing) : 
   pub last : p.last ≡ sector img last_place
   pub directory : p.directory ≡ sector img f.slot.sector
 
--- p is what is kept in memory of a clean image and one of its relative files
+-- p is what is kept in memory of an image that can be used and one of its relative files
 abbrev pub StandsAt : Image → Growing → Type 0
 StandsAt img p = (l : Layout) × (n : ℕ) × (f : File) × IsAt img l n f p
 
@@ -57,11 +59,13 @@ taken_next n = if nat_eq (n % 120) 0 then 2 else 1
 abbrev pub step_writes : ℕ → ℕ
 step_writes n = if nat_eq (n % 120) 0 then (5 + sides_for n) else 5
 
--- the file has k blocks, all whole records that fit, and what is kept in memory is of the image
+-- the file has k blocks, all whole records that fit, what is kept in memory is of the image, and this is as clean as the
+-- old one
 pub record IsRunTo (old now : Image) (l : Layout) (n : ℕ) (f : File) (k : ℕ) (p : Growing) : Type 0 where
   pub layout : Layout
   pub file : File
   pub at : IsAt now layout n file p
+  pub stays : StaysClean old l now layout
   pub others : KeepsOthers old now l layout n
   pub count : length file.blocks ≡ k
   pub filled : IsFilledUp file

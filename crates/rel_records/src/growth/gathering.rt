@@ -3,9 +3,9 @@ ghost use Rattle.std.specs.Prelude.{◌≡◌, ◌≤◌, ◌+◌, ◌++◌, [],
 ghost use Rattle.d64_image.specs.History.{OnlyReads, TellsFailure};
 ghost use Rattle.d64_image.specs.Images.{sector};
 ghost use Rattle.d64_image.specs.declared.place.Place.{Place};
-ghost use Rattle.disk_layout.specs.Clean.{IsClean};
 ghost use Rattle.disk_layout.specs.Directory.{map_place};
 ghost use Rattle.rel_records.specs.File.{IsOf, OfItsFile};
+ghost use Rattle.rel_records.specs.Usable.{IsUsable};
 ghost use Rattle.rel_records.specs.growth.Steps.{IsAt};
 ghost use Rattle.rel_records.specs.reading.Sides.{NamesEach};
 
@@ -62,7 +62,7 @@ pub(crate) fn read_parts<D: Sectors>(
     file: &RelFile,
     map: Bam,
 ) -> Result<Growing, DeviceFault>
-    requires clean { IsClean (D.history.image disk.old) }
+    requires usable { IsUsable (D.history.image disk.old) }
     requires of { IsOf (D.history.image disk.old) file.now }
     requires map { map.bytes ≡ sector (D.history.image disk.old) map_place }
     ensures ok { OfItsFile (D.history.image disk.old) file.now

@@ -1,25 +1,9 @@
--- The check, and whether only sectors that nobody owns are wrong.
-use Rattle.std.proofs.Common.{◌∙◌, sym}
-use Rattle.std.proofs.lemmas.Bool.{false≢true}
-use Rattle.d64_image.specs.Memory.{disk_image}
-use Rattle.disk_changes.proofs.Usable.{clean-is-usable, fault-unusable, is-usable}
+-- The judgement of the image.
+use Rattle.disk_changes.proofs.Usable.{is-usable}
 use Rattle.disk_changes.proofs.judging.usable_disk.Goals as goal
 
-pub returns-in_default-clause-ok : goal.returns-in_default-clause-ok
-returns-in_default-clause-ok c = (
-  clean-is-usable c.args.image.now c.args.cut (disk_image c.in_ok-disk.disk) c.in_ok-disk.ensures.ok.1
-      c.in_ok-disk.ensures.ok.0 c.in_default.ensures.ok.0 c.in_default.ensures.ok.1,
-  c.check.ensures.reads.image ∙ c.in_ok-disk.ensures.ok.1,
+pub returns-clause-ok : goal.returns-clause-ok
+returns-clause-ok c = (
+  is-usable c.args.image.now c.args.cut c.in_ok-disk.ensures.ok.0 c.in_ok-check_usable.ensures.ok.1,
+  c.in_ok-disk.ensures.ok.1,
 )
-
-pub returns-then-branch-clause-ok : goal.returns-then-branch-clause-ok
-returns-then-branch-clause-ok c = (
-  is-usable c.args.image.now c.args.cut c.in_ok-disk.ensures.ok.0
-      (c.in_ok-has_strays_alone.ensures.ok.0 c.if-branch.true),
-  c.check.ensures.reads.image ∙ c.in_ok-disk.ensures.ok.1,
-)
-
-pub returns-clause-err : goal.returns-clause-err
-returns-clause-err c = fault-unusable c.args.image.now (disk_image c.in_ok-disk.disk) c.in_ok-disk.ensures.ok.1
-    c.in_ok-disk.ensures.ok.0.0 c.in-Err.fault c.in-Err.ensures.err
-    (λ alone. false≢true (sym c.if-branch.false ∙ c.in_ok-has_strays_alone.ensures.ok.1 alone))

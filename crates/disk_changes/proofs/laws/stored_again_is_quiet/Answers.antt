@@ -9,7 +9,7 @@ pub returns-clause-unwritten : goal.returns-clause-unwritten
 returns-clause-unwritten g c = λ image again name text a b c' d held one two.
     let S = g.D.Sectors.history in
     writes-none S image again name text a b c' d held one two
-    (file-low (S.image a) one.run.layout one.run.number one.run.file name (S.whole a) one.run.clean.layout
+    (file-low (S.image a) one.run.layout one.run.number one.run.file name (S.whole a) one.run.usable.clean.layout
     one.run.first)
 
 pub returns-clause-unprinted : goal.returns-clause-unprinted
@@ -17,6 +17,6 @@ returns-clause-unprinted g c = λ image again name text a b c' d before out held
     let S = g.D.Sectors.history in
     subst (Appends (g.W.Write.contents before) (g.W.Write.contents out))
     (prints-none S image again name text a b c' d held one two.disk
-    (file-low (S.image a) one.run.layout one.run.number one.run.file name (S.whole a) one.run.clean.layout
+    (file-low (S.image a) one.run.layout one.run.number one.run.file name (S.whole a) one.run.usable.clean.layout
     one.run.first))
     two.printed

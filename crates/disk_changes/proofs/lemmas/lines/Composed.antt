@@ -10,11 +10,10 @@ use Rattle.d64_image.proofs.Moments.{at_end, changes_then, changes_weaker, no_ch
 use Rattle.d64_image.proofs.Moments.{then}
 use Rattle.d64_image.specs.History.{History}
 use Rattle.d64_image.specs.Images.{Image}
-use Rattle.disk_layout.proofs.lemmas.layouts.Layouts.{IsLayout-one}
-use Rattle.disk_layout.specs.Clean.{IsClean, IsCleanLayout}
-use Rattle.disk_layout.specs.Layout.{File, IsLayout, Layout, record_length}
+use Rattle.disk_layout.specs.Layout.{File, Layout, record_length}
 use Rattle.disk_layout.specs.Records.{records}
 use Rattle.disk_layout.specs.Whole.{IsWhole}
+use Rattle.rel_records.proofs.lemmas.Usable.{as-clean-then}
 use Rattle.rel_records.proofs.lemmas.Kept.{has_same, keeps_same, leaves_leaves, leaves_then, places-stay}
 use Rattle.rel_records.proofs.lemmas.growth.Grows.{had-of, count-is}
 use Rattle.rel_records.proofs.lemmas.writing.Grown.{size-kept}
@@ -28,16 +27,12 @@ use Rattle.disk_changes.specs.lines.Stores.{AreSo, IsPartStored, NewRecord, chan
 use Rattle.disk_changes.specs.lines.Storing.{IsStopped, IsStoppedAt, IsStoringOver, StoresLines}
 use Rattle.command_faults.specs.declared.faults.CommandFault.{CommandFault}
 
-pub clean-layout : (img : Image) (l : Layout) → IsClean img → IsLayout img l → IsCleanLayout img l
-clean-layout img l clean is = subst (λ (m : Layout). IsCleanLayout img m) (IsLayout-one img clean.0 l clean.1.layout is)
-    clean.1
-
 -- nothing is done
-pub leaves-same : (img : Image) (l : Layout) (n : ℕ) (f : File) (v : RelFile) → IsClean img → IsFileOf img l n f v
+pub leaves-same : (img : Image) (l : Layout) (n : ℕ) (f : File) (v : RelFile) → IsFileOf img l n f v
     → LeavesRecords img img l n (records img f) v
-leaves-same img l n f v clean of = record {
+leaves-same img l n f v of = record {
   layout = l;
-  clean = clean-layout img l clean of.layout;
+  clean = λ strays clean. clean;
   others = keeps_same img l n;
   file = f;
   of = of;
@@ -98,10 +93,10 @@ stopped-behind a b c o p q l n L xs ys rs w left first fault s = record {
 }
 
 module _ {D W : Type 0} (S : History D) (contents : W → Option (List ℕ)) (l : Layout) (n : ℕ) (f : File) where
-  pub none-stored : (a : D) (o : W) (v : RelFile) → IsClean (S.image a) → IsFileOf (S.image a) l n f v
+  pub none-stored : (a : D) (o : W) (v : RelFile) → IsFileOf (S.image a) l n f v
       → StoresLines S contents a a o o l n f v v [] (Ok tt)
-  none-stored a o v clean of = record {
-    ok = (leaves-same (S.image a) l n f v clean of, refl, Appends-nil (contents o));
+  none-stored a o v of = record {
+    ok = (leaves-same (S.image a) l n f v of, refl, Appends-nil (contents o));
     moments = no_change S a _ (records (S.image a) f, refl, has_same (S.image a) l n f v of);
     whole = λ h. start S a IsWhole h;
     quiet = λ so. no_write S a;
@@ -196,7 +191,8 @@ module _ {D W : Type 0} (S : History D) (contents : W → Option (List ℕ)) (l 
         quiet = λ so. no_write_then S a b c
             (first.quiet (so-front (record_length f.slot) (records (S.image a) f) xs ys so))
             (second.quiet (both-so so));
-        clean = second.clean;
+        clean = IfErr-weaker r _ _ (λ fault stays is. as-clean-then (S.image a) (S.image b) (S.image c) l left.layout
+            left.clean (stays is)) second.clean;
         stopped = IfErr-weaker r _ _ then-stopped second.stopped;
         told = tells-after S a b c r first.told second.told;
       }

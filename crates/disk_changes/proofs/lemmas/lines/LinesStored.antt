@@ -5,11 +5,12 @@ use Rattle.std.specs.Prelude.{slice_index}
 use Rattle.std.proofs.lemmas.Bool.{cases_Bool}
 use Rattle.std.proofs.lemmas.List.{append_assoc, append-nil, length-append}
 use Rattle.d64_image.specs.History.{History}
-use Rattle.disk_layout.specs.Clean.{IsClean}
 use Rattle.disk_layout.specs.Layout.{File, Layout, record_length}
 use Rattle.line_text.specs.bytes.Lines.{IsLineOf}
+use Rattle.rel_records.proofs.lemmas.Usable.{still-usable}
 use Rattle.rel_records.specs.File.{IsFileOf, IsOf, length_of, records_in}
 use Rattle.rel_records.specs.Others.{LeavesRecords}
+use Rattle.rel_records.specs.Usable.{IsUsable}
 use Rattle.rel_records.specs.declared.rel_file.RelFile.{RelFile}
 use Rattle.disk_layout.specs.Records.{records}
 use Rattle.disk_changes.proofs.lemmas.lines.Composed.{had-kept, stored-longer, stored-then}
@@ -101,8 +102,8 @@ module _ {D W : Type 0} (S : History D) (contents : W → Option (List ℕ)) (a 
         (stored (record_length f.slot) to.kept (records (S.image a) f)) w
     here = to.stores.ok.0
 
-    pub next-clean : IsClean (S.image b)
-    next-clean = (here.layout, here.clean)
+    pub next-usable : IsUsable (S.image a) → IsUsable (S.image b)
+    next-usable usable = still-usable (S.image a) (S.image b) l here.layout of.layout usable here.clean
 
     pub next-file : IsOf (S.image b) w
     next-file = (here.layout, n, here.file, here.of)

@@ -7,7 +7,6 @@ use Rattle.std.proofs.lemmas.List.{append-nil}
 use Rattle.d64_image.proofs.Moments.{changes_weaker, failed_later, reads_change, reads_no_write, then, weaker}
 use Rattle.d64_image.specs.History.{Changes, Failed, History}
 use Rattle.d64_image.specs.Images.{Image}
-use Rattle.disk_layout.specs.Clean.{IsClean}
 use Rattle.disk_layout.specs.Layout.{File, Layout, record_length}
 use Rattle.disk_layout.specs.Records.{records}
 use Rattle.disk_layout.specs.Whole.{HoldsWhole, IsWhole}
@@ -118,7 +117,7 @@ write-fails S b d l n f v w x (Err rel.Exists) of le short wrote err =
     absurd (none-such rel.Exists (λ e. cc) (λ e. cc) (λ e. cc) (λ e. cc) wrote.told)
 
 module _ {D : Type 0} (S : History D) (a b : D) (l : Layout) (n : ℕ) (f : File) (v : RelFile) (x : NewRecord)
-    (clean : IsClean (S.image a)) (of : IsFileOf (S.image a) l n f v) (low : 1 ≤ x.number)
+    (of : IsFileOf (S.image a) l n f v) (low : 1 ≤ x.number)
     (high : x.number ≤ records_in v)
     (short : length x.bytes ≤ length_of v) (text : List ℕ) (r : Result (Unit {0}) RelFault)
     (read : ReadsRecord S a b v x.number text 3 r) where
@@ -163,7 +162,7 @@ module _ {D : Type 0} (S : History D) (a b : D) (l : Layout) (n : ℕ) (f : File
             (subst (λ (rs : List (List ℕ)). LeavesRecords (S.image a) (S.image a) l n rs v)
             (sym (so-stored_one (record_length f.slot) (records (S.image a) f) x
             (so-there (record_length f.slot) (records (S.image a) f) x text there.there long fits same)))
-            (leaves-same (S.image a) l n f v clean of)),
+            (leaves-same (S.image a) l n f v of)),
         refl,
         sym (so-unchanged (record_length f.slot) (records (S.image a) f) x text there.there long fits same),
       );

@@ -6,19 +6,20 @@ use Rattle.std.proofs.lemmas.Option.{slice_get_within}
 use Rattle.d64_image.specs.History.{History}
 use Rattle.disk_layout.specs.Layout.{File, record_length}
 use Rattle.rel_records.specs.growth.Growth.{IsTooLarge, blocks_for, records_had}
-use Rattle.command_faults.specs.Faults.{IsCleanFault}
+use Rattle.disk_changes.specs.Judged.{IsUsableFault}
 use Rattle.disk_changes.specs.lines.Stores.{AreLinesOf, AreSo, CanHave, NewRecord, greatest}
 use Rattle.disk_changes.specs.lines.Storing.{IsStoreFault}
 use Rattle.command_faults.specs.declared.faults.CommandFault.{CommandFault}
-use Rattle.command_faults.proofs.Loads.{by-fault}
-use Rattle.disk_layout.specs.Fault.{HoldsOfClean, nowhere}
+use Rattle.command_faults.specs.declared.faults.CommandFault.TheVariants as faults
 
--- the image isn't that of a clean disk
-pub store-unclean : {D W : Type 0} (S : History D) (image name text : List ℕ) (a : D) (o : W) (fault : CommandFault)
-    → IsCleanFault image fault
+-- the image isn't that of a disk that can be used
+pub store-unusable : {D W : Type 0} (S : History D) (image name text : List ℕ) (a : D) (o : W) (fault : CommandFault)
+    → IsUsableFault image fault
     → IsStoreFault S image name text a a o o fault
-store-unclean S image name text a o = by-fault (HoldsOfClean nowhere) image (IsStoreFault S image name text a a o o)
-    (λ told. (told, refl, refl)) (λ told. (told, refl, refl)) (λ fault size has. (size, has, refl, refl))
+store-unusable S image name text a o faults.ImageSize told = (told, refl, refl)
+store-unusable S image name text a o faults.NoMemory told = (told, refl, refl)
+store-unusable S image name text a o (faults.Layout fault) told = (told.0.0, told.0.1, told.1, refl, refl)
+store-unusable S image name text a o _ told = absurd told
 
 -- the greatest number that lines give is one that the file can have
 greatest-can : (L had : ℕ) (ls : List (List ℕ)) (xs : List NewRecord) → AreLinesOf L had ls xs

@@ -143,7 +143,7 @@ module _ {D : Type 0} (S : History D) (image again name text : List ℕ) (a b c 
   left = stored (record_length one.run.file.slot) one.run.all (grown_to (S.image a) one.run.file (greatest one.run.all))
 
   layout-b : IsLayout (S.image b) two.run.layout
-  layout-b = subst (λ (i : Image). IsLayout i two.run.layout) held two.run.clean.layout
+  layout-b = subst (λ (i : Image). IsLayout i two.run.layout) held two.run.usable.clean.layout
 
   records-are : records (S.image c) two.run.file ≡ left
   records-are =

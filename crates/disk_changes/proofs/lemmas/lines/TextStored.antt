@@ -7,15 +7,16 @@ use Rattle.d64_image.proofs.Moments.{at_end, changes_then, changes_weaker, faile
 use Rattle.d64_image.proofs.Moments.{then}
 use Rattle.d64_image.specs.History.{Failed, History, WritesNothing}
 use Rattle.d64_image.specs.Images.{Image}
-use Rattle.disk_layout.specs.Clean.{IsClean}
 use Rattle.disk_layout.specs.Layout.{File, Layout, record_length}
 use Rattle.disk_layout.specs.Records.{records}
 use Rattle.disk_layout.specs.Rest.{IsFirst}
 use Rattle.disk_layout.specs.Whole.{IsWhole}
 use Rattle.rel_records.proofs.lemmas.Kept.{leaves_has, leaves_then}
+use Rattle.rel_records.proofs.lemmas.Usable.{as-clean-then}
 use Rattle.rel_records.specs.Calls.{FindsFile, Grows, GrowsFile}
 use Rattle.rel_records.specs.File.{IsFileOf, entry_of, length_of, records_in}
 use Rattle.rel_records.specs.Others.{HasRecords, LeavesRecords}
+use Rattle.rel_records.specs.Usable.{IsAsClean}
 use Rattle.rel_records.specs.Written.{grown_to}
 use Rattle.rel_records.specs.declared.rel_file.RelFile.{RelFile}
 use Rattle.rel_records.specs.growth.Growth.{IsFull, growth_writes, records_had}
@@ -27,6 +28,7 @@ use Rattle.disk_changes.proofs.lemmas.lines.OneStored.{grown-none}
 use Rattle.disk_changes.proofs.lemmas.lines.Reached.{so-there}
 use Rattle.disk_changes.proofs.lemmas.lines.TextGrown.{found-of, grown-are, growing-whole, run-over, same-length}
 use Rattle.disk_changes.proofs.lemmas.mended.Mendings.{by-tell}
+use Rattle.disk_changes.specs.Judged.{HasStraysAlone}
 use Rattle.disk_changes.specs.lines.Stores.{AreLinesOf, AreSo, IsPartStored, NewRecord, TellsLast}
 use Rattle.disk_changes.specs.lines.Stores.{changed_text, greatest, last_ones, stored}
 use Rattle.disk_changes.specs.lines.Storing.{IsStoreDone, IsStoreFault, IsStoreRun, IsStoredDisk, IsStoring, IsStoringOver}
@@ -35,25 +37,25 @@ use Rattle.command_faults.specs.declared.faults.CommandFault.{CommandFault}
 use Rattle.command_faults.specs.declared.faults.CommandFault.TheVariants as faults
 
 module _ {D W : Type 0} (S : History D) (image name text : List ℕ) (a b : D) (size : length image ≡ 174848)
-    (clean : IsClean (S.image a)) (o : W) (v : RelFile) (found : FindsFile S a b name (Ok v)) (xs : List NewRecord)
+    (usable : HasStraysAlone (S.image a)) (o : W) (v : RelFile) (found : FindsFile S a b name (Ok v)) (xs : List NewRecord)
     (are : AreLinesOf (length_of v) (records_in v) (lines text) xs) (table : List ℕ) (tells : TellsLast table xs)
     (c : D) (w : RelFile) (grows : Grows S b c v w (greatest xs) (Ok tt)) where
-  abbrev it : (f : File) × IsFirst clean.0 name (entry_of v) f × IsFileOf (S.image a) clean.0 (entry_of v) f v
-  it = found.ok clean.0 clean.1.layout
+  abbrev it : (f : File) × IsFirst usable.0 name (entry_of v) f × IsFileOf (S.image a) usable.0 (entry_of v) f v
+  it = found.ok usable.0 usable.2.clean.layout
 
-  abbrev has-grown : GrowsFile S b c clean.0 (entry_of v) it.0 w (greatest xs) (Ok tt)
-  has-grown = grows.file clean.0 (entry_of v) it.0 (found-of S image name text a b size clean o v found)
+  abbrev has-grown : GrowsFile S b c usable.0 (entry_of v) it.0 w (greatest xs) (Ok tt)
+  has-grown = grows.file usable.0 (entry_of v) it.0 (found-of S image name text a b size usable o v found)
 
   -- the file as it has grown
-  abbrev grown : LeavesRecords (S.image b) (S.image c) clean.0 (entry_of v)
+  abbrev grown : LeavesRecords (S.image b) (S.image c) usable.0 (entry_of v)
       (grown_to (S.image b) it.0 (greatest xs)) w
   grown = has-grown.ok
 
   abbrev lines-are : AreLinesOf (length_of w) (records_in v) (lines text) xs
-  lines-are = grown-are S image name text a b size clean o v found xs are table tells c w grows
+  lines-are = grown-are S image name text a b size usable o v found xs are table tells c w grows
 
   abbrev long-as : record_length grown.file.slot ≡ record_length it.0.slot
-  long-as = same-length S image name text a b size clean o v found xs are table tells c w grows
+  long-as = same-length S image name text a b size usable o v found xs are table tells c w grows
 
   module _ (contents : W → Option (List ℕ)) (d : D) (q : W) (u : RelFile) (r : Result (Unit {0}) CommandFault)
       (stores : (m : Layout) (j : ℕ) (e : File) → IsFileOf (S.image c) m j e w → (h : ℕ) (ys : List NewRecord)
@@ -65,30 +67,30 @@ module _ {D W : Type 0} (S : History D) (image name text : List ℕ) (a b : D) (
 
     over : (i : Image) → IsStoringOver (S.image c) grown.layout (entry_of v) (record_length grown.file.slot)
         (last_ones xs) (records (S.image c) grown.file) i
-        → IsStoring (S.image b) clean.0 (entry_of v) it.0 xs i
+        → IsStoring (S.image b) usable.0 (entry_of v) it.0 xs i
     over i (ts, part, has) = inr (
       ts,
       subst (λ (rs : List (List ℕ)). IsPartStored (record_length it.0.slot) (last_ones xs) rs ts) grown.records
           (subst (λ (L : ℕ). IsPartStored L (last_ones xs) (records (S.image c) grown.file) ts) long-as part),
-      leaves_then (S.image b) (S.image c) i clean.0 (entry_of v) _ ts w grown has,
+      leaves_then (S.image b) (S.image c) i usable.0 (entry_of v) _ ts w grown has,
     )
 
     abbrev run-all : IsStoreRun S image name text a d
-    run-all = run-over S image name text a b size clean o v found xs are table tells c w d
+    run-all = run-over S image name text a b size usable o v found xs are table tells c w d
         (changes_then S b c d (growth_writes it.0 (greatest xs)) (2 * length (last_ones xs))
         (growth_writes it.0 (greatest xs) + 2 * length (last_ones xs)) _ (omega arith)
         (changes_weaker S b c (growth_writes it.0 (greatest xs)) (growth_writes it.0 (greatest xs)) _ _
         (omega arith) (λ i g. inl g) has-grown.moments)
         (changes_weaker S c d (2 * length (last_ones xs)) (2 * length (last_ones xs)) _ _ (omega arith) over
         then-stored.moments))
-        (λ few h. let grown-whole = growing-whole S image name text a b size clean o v found xs are table tells c w grows
+        (λ few h. let grown-whole = growing-whole S image name text a b size usable o v found xs are table tells c w grows
         few h in
         then S b c d IsWhole grown-whole (then-stored.whole (at_end S b c IsWhole grown-whole)))
 
     -- where those that count were so already nothing was written
     none-written : AreSo (record_length it.0.slot) (records (S.image a) it.0) (last_ones xs) → WritesNothing S a d
     none-written so =
-        let had = had-of (S.image a) clean.0 (entry_of v) it.0 v it.2 in
+        let had = had-of (S.image a) usable.0 (entry_of v) it.0 v it.2 in
         let there = so-there (record_length it.0.slot) (records (S.image a) it.0) (last_ones xs) so in
         let few : greatest xs ≤ records_had it.0 =
         omega (arith, there, ones-greatest xs, count-is (S.image a) it.0) in
@@ -118,14 +120,19 @@ module _ {D W : Type 0} (S : History D) (image name text : List ℕ) (a b : D) (
 
     has-all : LeavesRecords (S.image c) (S.image d) grown.layout (entry_of v)
         (stored (record_length grown.file.slot) (last_ones xs) (records (S.image c) grown.file)) u
-        → HasRecords (S.image a) (S.image d) clean.0 (entry_of v)
+        → HasRecords (S.image a) (S.image d) usable.0 (entry_of v)
         (stored (record_length it.0.slot) xs (grown_to (S.image a) it.0 (greatest xs)))
     has-all leaves =
-        subst (λ (i : Image). HasRecords i (S.image d) clean.0 (entry_of v)
+        subst (λ (i : Image). HasRecords i (S.image d) usable.0 (entry_of v)
         (stored (record_length it.0.slot) xs (grown_to (S.image a) it.0 (greatest xs)))) found.reads.image
-        (subst (HasRecords (S.image b) (S.image d) clean.0 (entry_of v)) stored-is
-        (leaves_then (S.image b) (S.image c) (S.image d) clean.0 (entry_of v) _ _ w grown
+        (subst (HasRecords (S.image b) (S.image d) usable.0 (entry_of v)) stored-is
+        (leaves_then (S.image b) (S.image c) (S.image d) usable.0 (entry_of v) _ _ w grown
         (leaves_has (S.image c) (S.image d) grown.layout (entry_of v) _ u leaves)))
+
+    -- as clean as the first
+    as-clean : IsAsClean (S.image c) grown.layout (S.image d) → IsAsClean (S.image a) usable.0 (S.image d)
+    as-clean after = subst (λ (i : Image). IsAsClean i usable.0 (S.image d)) found.reads.image
+        (as-clean-then (S.image b) (S.image c) (S.image d) usable.0 grown.layout grown.clean after)
 
     abbrev stored-disk : LeavesRecords (S.image c) (S.image d) grown.layout (entry_of v)
         (stored (record_length grown.file.slot) (last_ones xs) (records (S.image c) grown.file)) u
@@ -134,7 +141,7 @@ module _ {D W : Type 0} (S : History D) (image name text : List ℕ) (a b : D) (
       run = run-all;
       fits = λ full. has-grown.fits
           (subst (λ (i : Image). IsFull i it.0 (greatest xs)) (sym found.reads.image) full);
-      clean = (leaves.layout, leaves.clean);
+      clean = as-clean (leaves.layout, leaves.clean);
       has = has-all leaves;
       quiet = none-written;
     }
@@ -145,9 +152,9 @@ module _ {D W : Type 0} (S : History D) (image name text : List ℕ) (a b : D) (
         → IsStoppedRun S contents image name text a d o q fault
     run-stopped fault s = (
       run-all,
-      subst (λ (i : Image). IsStopped i (S.image d) (contents o) (contents q) clean.0 (entry_of v)
+      subst (λ (i : Image). IsStopped i (S.image d) (contents o) (contents q) usable.0 (entry_of v)
           (record_length it.0.slot) (last_ones xs) (grown_to i it.0 (greatest xs)) fault) found.reads.image
-          (stopped-behind (S.image b) (S.image c) (S.image d) (contents o) (contents o) (contents q) clean.0 (entry_of v)
+          (stopped-behind (S.image b) (S.image c) (S.image d) (contents o) (contents o) (contents q) usable.0 (entry_of v)
           (record_length it.0.slot) [] (last_ones xs) (grown_to (S.image b) it.0 (greatest xs)) w grown
           (Appends-nil (contents o)) fault
           (subst (λ (rs : List (List ℕ)). IsStopped (S.image c) (S.image d) (contents o) (contents q) grown.layout
@@ -175,7 +182,8 @@ module _ {D W : Type 0} (S : History D) (image name text : List ℕ) (a b : D) (
       → StoresLines S contents c d o q m j e w u (last_ones ys) (Err f)) → IsStoreFault S image name text a d o q f)
       (λ told stores. (
         run-all contents d q u (Err faults.File) stores,
-        (then-stored contents d q u (Err faults.File) stores).clean refl,
+        as-clean contents d q u (Err faults.File) stores
+            ((then-stored contents d q u (Err faults.File) stores).clean refl),
       ))
       (λ told stores. device-run contents d q u (Err faults.Device) stores told)
       fault (then-stored contents d q u (Err fault) stores).told stores
@@ -207,7 +215,10 @@ module _ {D W : Type 0} (S : History D) (image name text : List ℕ) (a b : D) (
     }
 
     pub store-unprinted : IsStoreFault S image name text a d o q faults.File
-    store-unprinted = (run-all contents d p u (Ok tt) stores, (whole.ok.0.layout, whole.ok.0.clean))
+    store-unprinted = (
+      run-all contents d p u (Ok tt) stores,
+      as-clean contents d p u (Ok tt) stores (whole.ok.0.layout, whole.ok.0.clean),
+    )
 
     pub all-part : Keeps (contents p) (contents q) → IsStorePart S contents image name text a d o q faults.File
     all-part kept = inr (inl (refl, store-done kept))

@@ -7,7 +7,11 @@ use Rattle.drive_channels.proofs.Writes.{refused-row, same-spot}
 use Rattle.drive_channels.proofs.writing.grow_at.Goals as goal
 use Rattle.drive_channels.specs.Inside.{IsSpot}
 use Rattle.drive_channels.specs.declared.open_file.NamedFile.{NamedFile}
+use Rattle.rel_records.proofs.lemmas.Usable.{clean-usable}
 use Rattle.rel_records.specs.File.{entry_of}
+
+pub grow_to-requires-clause-usable : goal.grow_to-requires-clause-usable
+grow_to-requires-clause-usable g c = clean-usable (g.D.Sectors.history.image c.args.disk.now) c.requires.clean
 
 pub returns-in-Ok : goal.returns-in-Ok
 returns-in-Ok g c =
@@ -21,7 +25,7 @@ returns-in-Ok g c =
             (c.in-Ok.ensures.file l _ f of).fits,
             leaves-has _ _ _ _ _ _ ((c.in-Ok.ensures.file l _ f of).ok),
           ));
-      found = keeps-left _ _ _ _ _ c.requires.found refl c.in-Ok.ensures.entry
+      found = keeps-left _ _ _ _ _ c.requires.clean c.requires.found refl c.in-Ok.ensures.entry
           ((c.in-Ok.ensures.file _ _ _ c.requires.found.of).ok);
       spot = same-spot c.args.found.now _ c.args.spot c.requires.spot c.in-Ok.ensures.same;
       writes = λ l f rel.

@@ -6,8 +6,13 @@ use Rattle.drive_channels.proofs.Writes.{overflow-done, refused-row, written-at,
 use Rattle.drive_channels.proofs.writing.write_text.Goals as goal
 use Rattle.drive_channels.specs.Inside.{IsSpot}
 use Rattle.drive_channels.specs.declared.open_file.NamedFile.{NamedFile}
+use Rattle.rel_records.proofs.lemmas.Usable.{clean-usable}
 use Rattle.rel_records.specs.File.{entry_of}
 use Rattle.rel_records.specs.Written.{IsInOneBlock}
+
+pub write_record-requires-clause-usable : goal.write_record-requires-clause-usable
+write_record-requires-clause-usable g c = clean-usable (g.D.Sectors.history.image c.args.disk.now)
+    c.requires.place.clean
 
 pub returns-in-Ok : goal.returns-in-Ok
 returns-in-Ok g c =
@@ -23,7 +28,7 @@ returns-in-Ok g c =
             leaves-has _ _ _ _ _ _ ((c.in-Ok.ensures.file l _ f of).done tt),
             not-cut f c.args.found.now.file of.shows c.args.text.now c.args.spot.now.position c.in-Ok.ensures.ok,
           )));
-      found = keeps-left _ _ _ e' _ c.requires.place.found refl c.in-Ok.ensures.entry
+      found = keeps-left _ _ _ e' _ c.requires.place.clean c.requires.place.found refl c.in-Ok.ensures.entry
           ((c.in-Ok.ensures.file _ _ _ c.requires.place.found.of).done tt);
       spot = rw c.advance.ensures
           (next-spot c.args.found.now e' c.args.spot.now c.requires.place.spot (c.in-Ok.ensures.same tt)
@@ -52,7 +57,7 @@ returns-in-Overflow g c =
             cut f c.args.found.now.file of.shows c.args.text.now c.args.spot.now.position
                 (c.in-Err.ensures.overflow c.in-Overflow.is),
           )));
-      found = keeps-left _ _ _ e' _ c.requires.place.found refl c.in-Err.ensures.entry
+      found = keeps-left _ _ _ e' _ c.requires.place.clean c.requires.place.found refl c.in-Err.ensures.entry
           ((c.in-Err.ensures.file _ _ _ c.requires.place.found.of).done done);
       spot = rw c.advance-in-Overflow.ensures
           (next-spot c.args.found.now e' c.args.spot.now c.requires.place.spot (c.in-Err.ensures.same done)

@@ -2,7 +2,6 @@
 use Rattle.std.proofs.Common.{arith, refl, ap, inl, inr, subst, sym, ⊎_elim, ◌∙◌}
 use Rattle.d64_image.proofs.Moments.{changes_weaker, failed_later, no_change, no_reads, reads_weaker}
 use Rattle.d64_image.specs.Images.{Image, sector}
-use Rattle.disk_layout.specs.Clean.{IsClean}
 use Rattle.disk_layout.specs.Directory.{map_place}
 use Rattle.disk_layout.specs.View.{blocks_free}
 use Rattle.rel_records.proofs.lemmas.Kept.{growing_same, has-others, has_same}
@@ -13,6 +12,7 @@ use Rattle.rel_records.proofs.lemmas.growth.GrownTo.{blocks-more, is-full, is-to
 use Rattle.rel_records.proofs.lemmas.growth.GrownTo.{not-too-large, of-now, there-fits, there-small}
 use Rattle.rel_records.proofs.lemmas.reading.Counts.{fewer}
 use Rattle.rel_records.specs.File.{blocks_of}
+use Rattle.rel_records.specs.Usable.{IsUsable}
 use Rattle.rel_records.specs.growth.Growth.{blocks_for, needed}
 use Rattle.rel_records.proofs.growth.grow_to.Goals as goal
 
@@ -22,8 +22,7 @@ returns-then-has_records g c =
       file = λ l n f of.
           let S = g.D.Sectors.history in
           record {
-            ok = leaves-here _ l n f c.args.file.now of c.args.number (c.has_records.ensures.0 c.if-has_records.true)
-                c.requires.clean;
+            ok = leaves-here _ l n f c.args.file.now of c.args.number (c.has_records.ensures.0 c.if-has_records.true);
             too_large
                 = (
                   λ e. done-no-fault _ _ e,
@@ -114,7 +113,7 @@ grow-requires g c =
     let lt = fewer c.has_records.result _ _ c.has_records.ensures c.if-has_records.false in
     let same = c.in-Ok.ensures.reads.image in
     record {
-      clean = subst IsClean (sym same) c.requires.clean;
+      usable = subst IsUsable (sym same) c.requires.usable;
       of = (
         l,
         n,

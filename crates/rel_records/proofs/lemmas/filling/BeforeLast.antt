@@ -88,6 +88,7 @@ module _ (a : Image) (l : Layout) (n : ℕ) (f : File) (p : Growing) (w : IsImag
       layout = l;
       file = f;
       at = at;
+      stays = λ strays clean. clean;
       others = record {
         directory = refl;
         entries = refl;

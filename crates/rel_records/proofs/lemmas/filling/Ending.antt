@@ -15,7 +15,7 @@ use Rattle.disk_layout.proofs.lemmas.layouts.Layouts.{get-contains}
 use Rattle.disk_layout.proofs.lemmas.layouts.Frames.{unless-same}
 use Rattle.disk_layout.proofs.lemmas.lists.Once.{EachOnce-apart}
 use Rattle.disk_layout.specs.Chain.{EachOnce}
-use Rattle.disk_layout.specs.Clean.{IsCleanLayout, IsExactFile}
+use Rattle.disk_layout.specs.Clean.{IsExactFile}
 use Rattle.disk_layout.specs.Directory.{map_place}
 use Rattle.disk_layout.specs.Layout.{File, IsLayout, IsRelFile, Layout, exchanged, file_owns, is_rel, owners}
 use Rattle.disk_layout.specs.Map.{IsMapOf}
@@ -25,6 +25,7 @@ use Rattle.rel_records.proofs.lemmas.steps.Counting.{exact-stay}
 use Rattle.rel_records.proofs.lemmas.steps.Others.{has-records, others-kept}
 use Rattle.rel_records.proofs.lemmas.steps.Preparing.{file-in}
 use Rattle.rel_records.specs.Others.{HasRecords, KeepsOthers}
+use Rattle.rel_records.specs.Usable.{StaysClean}
 
 module _ (a : Image) (l : Layout) (before after : List File) (f : File) (h : IsLayout a l)
     (split : l.files ≡ before ++ f ∷ after) (rel : IsTrue (is_rel f.slot)) (q : Place) (bytes : Sector)
@@ -66,10 +67,10 @@ module _ (a : Image) (l : Layout) (before after : List File) (f : File) (h : IsL
   ended-others u = others-kept a (put a q bytes) l before after f (ended f u) split refl others-before others-after
       header
 
-  -- and the image stays clean
-  pub ended-clean : IsCleanLayout a l → (r : IsRelFile a f) → r.chain.2.last ≡ q → (u : ℕ) → slice_index bytes 0 ≡ 0
-      → slice_index bytes 1 ≡ u → IsCleanLayout (put a q bytes) (exchanged l before (ended f u) after)
-  ended-clean clean r last u zero_there index =
+  -- and the image stays as clean as it was
+  pub ended-clean : (r : IsRelFile a f) → r.chain.2.last ≡ q → (u : ℕ) → slice_index bytes 0 ≡ 0
+      → slice_index bytes 1 ≡ u → StaysClean a l (put a q bytes) (exchanged l before (ended f u) after)
+  ended-clean r last u zero_there index strays clean =
       let exact = let P : List File → Type 0 = λ fs. AllByRecursion (λ x. IsTrue (is_rel x.slot) → IsExactFile a x)
       fs in subst P split clean.files in
       let behind = all-right (λ x. IsTrue (is_rel x.slot) → IsExactFile a x) before (f ∷ after) exact in
@@ -89,8 +90,8 @@ module _ (a : Image) (l : Layout) (before after : List File) (f : File) (h : IsL
               exact-stay a (put a q bytes) after others-after behind.1,
             );
         map =
-            let P : Sector → Type 0 = λ b. IsMapOf b (map_place ∷ owners (exchanged l before (ended f u) after)) in
-            let Q : List Place → Type 0 = λ ps. IsMapOf (sector a map_place) (map_place ∷ ps) in
+            let P : Sector → Type 0 = λ b. IsMapOf b (strays ++ map_place ∷ owners (exchanged l before (ended f u) after)) in
+            let Q : List Place → Type 0 = λ ps. IsMapOf (sector a map_place) (strays ++ map_place ∷ ps) in
             subst P (sym map-stays) (subst Q (ap owners (sym (same-layout l before after f split))
             ∙ owners-same l before after f (ended f u) refl) clean.map);
       }

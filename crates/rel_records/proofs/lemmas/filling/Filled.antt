@@ -22,6 +22,7 @@ use Rattle.rel_records.proofs.lemmas.filling.Standing.{blocks-once, blocks-some,
 use Rattle.rel_records.proofs.lemmas.filling.Standing.{last-at, last-in, place, pos, same-last, split}
 use Rattle.rel_records.proofs.lemmas.filling.Tails.{tail-before, tail-new, tail-other}
 use Rattle.rel_records.specs.Others.{HasRecords, KeepsOthers}
+use Rattle.rel_records.specs.Usable.{StaysClean}
 use Rattle.rel_records.specs.Written.{IsGrowingBy, grown_by}
 use Rattle.rel_records.specs.declared.growth.step_parts.Growing.{Growing}
 use Rattle.rel_records.specs.growth.Growth.{full, records_had}
@@ -169,6 +170,10 @@ module _ (a x : Image) (l : Layout) (n : ℕ) (f : File) (p : Growing) (w : IsIm
       (Contains-append_left f.blocks f.sides at.last_place (last-in x l n f p at))).directory
       (let P : Place → Type 0 = Contains l.directory in subst P (sym e) (entry-in x l n f p at))
 
+  ended-stays : StaysClean x l b m
+  ended-stays = ended-clean x l (take n l.files) (drop (suc n) l.files) f at.clean.layout before' at.rel at.last_place
+      bytes (last-in x l n f p at) wx (file-rel x l n f p at) (same-last x l n f p at) u ends refl
+
   -- and what is in memory is of it
   pub filled-up : (z : Growing) → z.map.bytes ≡ p.map.bytes → z.sector ≡ p.sector → z.number ≡ p.number → z.size ≡ p.size
       → z.sides.items ≡ p.sides.items → z.blocks.items ≡ p.blocks.items → z.last ≡ bytes → z.directory ≡ p.directory
@@ -178,8 +183,8 @@ module _ (a x : Image) (l : Layout) (n : ℕ) (f : File) (p : Growing) (w : IsIm
       layout = m;
       file = h;
       at = record {
-        clean = ended-clean x l (take n l.files) (drop (suc n) l.files) f at.clean.layout before' at.rel at.last_place
-            bytes (last-in x l n f p at) wx at.clean (file-rel x l n f p at) (same-last x l n f p at) u ends refl;
+        strays = at.strays;
+        clean = ended-stays at.strays at.clean;
         there = (let P : ℕ → Type 0 = λ k. slice_get (take n l.files ++ h ∷ drop (suc n) l.files) k ≡ Some h in
             subst P (place x l n f p at) (get-seam (take n l.files) (drop (suc n) l.files) h));
         rel = at.rel;
@@ -198,6 +203,7 @@ module _ (a x : Image) (l : Layout) (n : ℕ) (f : File) (p : Growing) (w : IsIm
         directory = directory ∙ at.directory
             ∙ sym (sector-put_other x at.last_place f.slot.sector bytes last-not-entry);
       };
+      stays = λ strays was. ended-stays strays (ready.stays strays was);
       others =
           let P : ℕ → Type 0 = λ k. KeepsOthers x b l m k in
           keeps_then a x b l l m n ready.others

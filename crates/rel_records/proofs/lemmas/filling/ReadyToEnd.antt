@@ -8,7 +8,7 @@ use Rattle.d64_image.specs.declared.place.Place.{Place}
 use Rattle.disk_layout.proofs.lemmas.growth.Commit.{alone}
 use Rattle.disk_layout.proofs.lemmas.growth.Refills.{records-past}
 use Rattle.disk_layout.proofs.lemmas.growth.SideWrites.{same-layout}
-use Rattle.disk_layout.proofs.lemmas.layouts.Agree.{IsCleanLayout-put_block, owned-block}
+use Rattle.disk_layout.proofs.lemmas.layouts.Agree.{owned-block}
 use Rattle.disk_layout.proofs.lemmas.layouts.Layouts.{get-contains}
 use Rattle.disk_layout.proofs.lemmas.lists.Once.{flat_map-in}
 use Rattle.disk_layout.specs.Chain.{EachOnce}
@@ -19,10 +19,12 @@ use Rattle.std.proofs.lemmas.List.Elements.{Contains-append_left}
 use Rattle.rel_records.proofs.lemmas.filling.Ending.{others-after, others-before}
 use Rattle.rel_records.proofs.lemmas.filling.Standing.{blocks-once, blocks-some, entry-in, file-rel, had-fit, had-low}
 use Rattle.rel_records.proofs.lemmas.filling.Standing.{last-at, place, same-last, split}
+use Rattle.rel_records.proofs.lemmas.Usable.{put_block-stays}
 use Rattle.rel_records.proofs.lemmas.filling.Tails.{tail-new}
 use Rattle.rel_records.proofs.lemmas.steps.Others.{others-kept}
 use Rattle.rel_records.proofs.lemmas.steps.Sided.{get-once}
 use Rattle.rel_records.specs.Others.{HasRecords, KeepsOthers}
+use Rattle.rel_records.specs.Usable.{StaysClean}
 use Rattle.rel_records.specs.declared.growth.step_parts.Growing.{Growing}
 use Rattle.rel_records.specs.growth.Growth.{full, records_had}
 use Rattle.rel_records.specs.growth.Steps.{IsAt, IsTailOf}
@@ -30,6 +32,7 @@ use Rattle.rel_records.specs.growth.Steps.{IsAt, IsTailOf}
 -- x is the image before the last block is written: the file is as in a, and what lies before its last block is filled
 pub record IsReadyToEnd (a x : Image) (l : Layout) (n : ℕ) (f : File) (p : Growing) : Type 0 where
   pub at : IsAt x l n f p
+  pub stays : StaysClean a l x l
   pub others : KeepsOthers a x l l n
   pub same : records x f ≡ records a f
   pub bytes : (i : ℕ) → records_had f * record_length f.slot ≤ i → i < 254 * (length f.blocks - 1)
@@ -64,6 +67,7 @@ module _ (a : Image) (l : Layout) (n : ℕ) (f : File) (p : Growing) (w : IsImag
   pub ready-at-once : 254 * (length f.blocks - 1) ≤ from → IsReadyToEnd a a l n f p
   ready-at-once le = record {
     at = at;
+    stays = λ strays clean. clean;
     others = record {
       directory = refl;
       entries = refl;
@@ -111,10 +115,14 @@ module _ (a : Image) (l : Layout) (n : ℕ) (f : File) (p : Growing) (w : IsImag
         mine)).directory
         (let P : Place → Type 0 = Contains l.directory in subst P (sym e) (entry-in a l n f p at))
 
+    stays-now : StaysClean a l (put a q bytes) l
+    stays-now = put_block-stays a l q bytes w.size (flat_map-in (λ (g : File). g.blocks) l.files f q in-files mine)
+        (tail.link 0 (omega arith)) (tail.link 1 (omega arith))
+
     at-now : IsAt (put a q bytes) l n f p
     at-now = record {
-      clean = IsCleanLayout-put_block a l q bytes w.size (flat_map-in (λ (g : File). g.blocks) l.files f q in-files
-          mine) (tail.link 0 (omega arith)) (tail.link 1 (omega arith)) at.clean;
+      strays = at.strays;
+      clean = stays-now at.strays at.clean;
       there = at.there;
       rel = at.rel;
       place = at.place;
@@ -133,6 +141,7 @@ module _ (a : Image) (l : Layout) (n : ℕ) (f : File) (p : Growing) (w : IsImag
     pub ready-with-tail : IsReadyToEnd a (put a q bytes) l n f p
     ready-with-tail = record {
       at = at-now;
+      stays = stays-now;
       others =
           let P : ℕ → Type 0 = λ k. KeepsOthers a (put a q bytes) l l k in
           let Q : Layout → Type 0 = λ m. KeepsOthers a (put a q bytes) l m (length (take n l.files)) in

@@ -5,13 +5,11 @@ use Rattle.std.specs.Prelude.{if◌then◌else◌, nat_le}
 use Rattle.std.proofs.lemmas.Bool.{lt-leb}
 use Rattle.std.proofs.lemmas.Nat.{le-div}
 use Rattle.d64_image.specs.Images.{Image, sector}
-use Rattle.disk_layout.proofs.lemmas.layouts.Unclean.{clean-of}
 use Rattle.disk_layout.proofs.lemmas.records.Pieces.{row-le}
 use Rattle.disk_layout.specs.Directory.{map_place}
 use Rattle.disk_layout.specs.Layout.{File, Layout, record_length}
 use Rattle.disk_layout.specs.Records.{records}
 use Rattle.disk_layout.specs.View.{blocks_free}
-use Rattle.disk_layout.specs.Clean.{IsClean}
 use Rattle.rel_records.proofs.lemmas.filling.ReadyToEnd.{last-index}
 use Rattle.rel_records.proofs.lemmas.growth.Grows.{had-of}
 use Rattle.rel_records.proofs.lemmas.growth.RunCosts.{added-none}
@@ -41,13 +39,13 @@ module _ (a : Image) (l : Layout) (n : ℕ) (f : File) (v : RelFile) (of : IsFil
     pub none-added : added L (records_had f) r ≡ 0
     none-added = added-none L (records_had f) r (omega (arith, had, le))
 
-    pub leaves-here : IsClean a → LeavesRecords a a l n (grown_to a f r) v
-    leaves-here clean =
+    pub leaves-here : LeavesRecords a a l n (grown_to a f r) v
+    leaves-here =
         let P : ℕ → Type 0 = λ k. LeavesRecords a a l n (grown_by L k (records a f)) v in
         let Q : List (List ℕ) → Type 0 = λ rs. LeavesRecords a a l n rs v in
         subst P (sym none-added) (subst Q (sym (append-nil (records a f))) (record {
           layout = l;
-          clean = clean-of a l of.layout clean;
+          clean = λ strays clean. clean;
           others = keeps_same a l n;
           file = f;
           of = of;
@@ -145,7 +143,7 @@ module _ (a : Image) (l : Layout) (n : ℕ) (f : File) (v : RelFile) (of : IsFil
         pub leaves-run : LeavesRecords a b l n (grown_to a f r) z
         leaves-run = record {
           layout = h.run.layout;
-          clean = at.clean;
+          clean = h.run.stays;
           others = h.run.others;
           file = h.run.file;
           of = shown;

@@ -62,6 +62,7 @@ module _ (a x : Image) (l : Layout) (n : ℕ) (f : File) (k w : ℕ) (p : Growin
     layout = h.layout;
     file = h.file;
     at = h.at;
+    stays = λ strays clean. h.stays strays (run.stays strays clean);
     others = keeps_then a x y l run.layout h.layout n run.others h.others;
     count = h.count;
     filled = h.filled;

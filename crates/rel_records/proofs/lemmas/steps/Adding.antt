@@ -11,9 +11,11 @@ use Rattle.disk_layout.proofs.lemmas.growth.Commit.{grown}
 use Rattle.disk_layout.proofs.lemmas.growth.GrowthRecords.{get-seam}
 use Rattle.disk_layout.proofs.lemmas.lists.Once.{Contains-here, EachOnce-apart, EachOnce-left}
 use Rattle.std.proofs.lemmas.List.Elements.{Contains-append_left, Contains-append_right}
-use Rattle.disk_layout.specs.Directory.{slot_in}
+use Rattle.disk_layout.specs.Directory.{map_place, slot_in}
 use Rattle.disk_layout.specs.Entries.{IsRecounted, uncounted}
-use Rattle.disk_layout.specs.Layout.{File, Layout, count_field, exchanged, file_owns, is_rel, record_length, sides_for}
+use Rattle.disk_layout.specs.Layout.{File, Layout, count_field, exchanged, file_owns, is_rel, owners, record_length}
+use Rattle.disk_layout.specs.Layout.{sides_for}
+use Rattle.disk_layout.specs.Map.{IsMapOf}
 use Rattle.disk_layout.specs.Records.{empty_record, record_count, records}
 use Rattle.disk_layout.specs.View.{blocks_free}
 use Rattle.disk_layout.specs.declared.slot.Slot.{Slot}
@@ -66,7 +68,7 @@ module _ {a : Image} {l : Layout} {n : ℕ} {f : File} {p q : Growing} {fresh : 
   pub to_link : IsReadyToLink a c l before after f fresh u ss q.map.bytes block q.last at.front at.last_place
   to_link = record {
     full = x.size;
-    clean = at.clean;
+    is_layout = at.clean.layout;
     split = split step;
     rel = at.rel;
     once = (next step).once;
@@ -99,7 +101,8 @@ module _ {a : Image} {l : Layout} {n : ℕ} {f : File} {p q : Growing} {fresh : 
     to_link = to_link;
     recount = recount;
     counted = counted;
-    right = (next step).map;
+    right = λ strays was. (next step).map strays
+        (let P : Sector → Type 0 = λ s. IsMapOf s (strays ++ map_place ∷ owners l) in subst P (sym at.map) was);
   }
     where
       recount : IsRecounted (sector a d) q.directory f.slot.number
@@ -117,7 +120,7 @@ module _ {a : Image} {l : Layout} {n : ℕ} {f : File} {p q : Growing} {fresh : 
   abbrev e : Image
   e = put b d q.directory
 
-  -- the count makes the image clean
+  -- the count makes the image as clean as it was
   pub counted-has' : HasRecords a e l n (grown_by L (records_more f) (records a f))
   counted-has' =
       let P : ℕ → Type 0 = λ k. HasRecords a e l k (grown_by L (records_more f) (records a f)) in
@@ -177,7 +180,8 @@ module _ {a : Image} {l : Layout} {n : ℕ} {f : File} {p q : Growing} {fresh : 
           layout = m;
           file = h;
           at = record {
-            clean = clean-again to_count;
+            strays = at.strays;
+            clean = clean-again to_count at.strays at.clean;
             there = there;
             rel = let P : Bool → Type 0 = IsTrue in subst P (is_rel-same f.slot t same) at.rel;
             place = sector' ∙ laid.places.sector ∙ at.place;
@@ -192,6 +196,7 @@ module _ {a : Image} {l : Layout} {n : ℕ} {f : File} {p q : Growing} {fresh : 
             last = last ∙ sym block-there;
             directory = directory ∙ sym (sector-put_same b d q.directory full-b);
           };
+          stays = clean-again to_count;
           others = kept;
           records_are =
               slot-records to_count

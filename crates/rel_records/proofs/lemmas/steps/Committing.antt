@@ -17,7 +17,6 @@ use Rattle.disk_layout.proofs.lemmas.lists.Lists.{snoc-last}
 use Rattle.disk_layout.proofs.lemmas.lists.Once.{Contains-here, Contains-there, EachOnce-apart, EachOnce-left}
 use Rattle.disk_layout.proofs.lemmas.lists.Once.{flat_map-in}
 use Rattle.disk_layout.specs.Chain.{EachOnce, Names}
-use Rattle.disk_layout.specs.Clean.{IsCleanLayout}
 use Rattle.disk_layout.specs.Directory.{map_place}
 use Rattle.disk_layout.specs.Layout.{File, IsLayout, IsRelFile, Layout, exchanged, file_owns, is_rel, owners}
 use Rattle.disk_layout.specs.Layout.{record_length, sides_for}
@@ -35,7 +34,7 @@ use Rattle.rel_records.specs.growth.Preparing.{IsPrepared}
 pub record IsReadyToLink (a c : Image) (l : Layout) (before after : List File) (f : File) (fresh : Place) (u : ℕ)
     (ss : List Place) (map' block last_bytes : Sector) (front : List Place) (last : Place) : Type 0 where
   pub full : length c ≡ 683
-  pub clean : IsCleanLayout a l
+  pub is_layout : IsLayout a l
   pub split : l.files ≡ before ++ f ∷ after
   pub rel : IsTrue (is_rel f.slot)
   pub once : EachOnce (map_place ∷ owners (exchanged l before (grown f fresh u ss) after))
@@ -52,7 +51,7 @@ pub record IsReadyToLink (a c : Image) (l : Layout) (before after : List File) (
 module _ {a c : Image} {l : Layout} {before after : List File} {f : File} {fresh : Place} {u : ℕ} {ss : List Place}
     {map' block last_bytes : Sector} {front : List Place} {last : Place}
     (to_link : IsReadyToLink a c l before after f fresh u ss map' block last_bytes front last) where
-  open to_link use {full, clean, split, rel, once, long, count, few, some, prepared, zero_there, last_there}
+  open to_link use {full, is_layout, split, rel, once, long, count, few, some, prepared, zero_there, last_there}
   open to_link use {blocks, link}
   open to_link.prepared use {preparing}
 
@@ -60,7 +59,7 @@ module _ {a c : Image} {l : Layout} {before after : List File} {f : File} {fresh
   g = grown f fresh u ss
 
   sound : IsLayout c l
-  sound = preparing-layout a c l before after f g clean.layout split rel long few preparing
+  sound = preparing-layout a c l before after f g is_layout split rel long few preparing
 
   r : IsRelFile c f
   r = (file-there c l before after f sound split).rel rel
@@ -116,7 +115,7 @@ module _ {a c : Image} {l : Layout} {before after : List File} {f : File} {fresh
   slots-in (x ∷ fs) = Contains-there f.slot x.slot (map (λ y. y.slot) (fs ++ f ∷ after)) (slots-in fs)
 
   pub entry-in : Contains l.directory d
-  entry-in = (slot-there a l.directory f.slot (rw (← clean.layout.directory.slots, split) (slots-in before))).0
+  entry-in = (slot-there a l.directory f.slot (rw (← is_layout.directory.slots, split) (slots-in before))).0
 
   pub entry-unowned : (q : Place) → Contains (flat_map file_owns (before ++ g ∷ after)) q → d ≢ q
   unfolding owners
@@ -133,7 +132,7 @@ module _ {a c : Image} {l : Layout} {before after : List File} {f : File} {fresh
   -- the directory sector is as it was, before and after the commit
   pub entry-same : sector b d ≡ sector a d
   entry-same = sector-put_other c last d last_bytes last-not_entry
-      ∙ sym (directory-stays a c l before after f g clean.layout split rel long few preparing d entry-in)
+      ∙ sym (directory-stays a c l before after f g is_layout split rel long few preparing d entry-in)
 
   -- the bytes outside the map stay with the commit
   pub commit-header : header_of b ≡ header_of a
@@ -141,7 +140,7 @@ module _ {a c : Image} {l : Layout} {before after : List File} {f : File} {fresh
       ∙ preparing.header
     where
       not-map : last ≢ map_place
-      not-map x = clean.layout.once.0 (let P : Place → Type 0 = Contains (owners l) in
+      not-map x = is_layout.once.0 (let P : Place → Type 0 = Contains (owners l) in
           subst P x (owned-block l f last (file-in l before after f split) last-in))
 
   -- what other files own is as it was, after the commit
@@ -152,11 +151,11 @@ module _ {a c : Image} {l : Layout} {before after : List File} {f : File} {fresh
       ∙ sym (sector-put_other c last q last_bytes (other-last q (apart q own)))
 
   pub commit-before : AgreeAt a b (flat_map file_owns before)
-  commit-before = commit-around before (before-stays a c l before after f g clean.layout split rel long few preparing)
+  commit-before = commit-around before (before-stays a c l before after f g is_layout split rel long few preparing)
       (λ q own mine. (alone l before after g once q mine).before own)
 
   pub commit-after : AgreeAt a b (flat_map file_owns after)
-  commit-after = commit-around after (after-stays a c l before after f g clean.layout split rel long few preparing)
+  commit-after = commit-around after (after-stays a c l before after f g is_layout split rel long few preparing)
       (λ q own mine. (alone l before after g once q mine).after own)
 
   module _ (n m : ℕ) (w : IsImage c) (v : IsSector last_bytes) (some_more : 0 < m)
@@ -171,7 +170,7 @@ module _ {a c : Image} {l : Layout} {before after : List File} {f : File} {fresh
       inside = filled.inside;
       within = filled.within;
       kept = λ j lt low. filled.kept j lt low
-          ∙ ap (λ s. slice_index s (2 + j)) (blocks-stay a c l before after f g clean.layout split rel long few
+          ∙ ap (λ s. slice_index s (2 + j)) (blocks-stay a c l before after f g is_layout split rel long few
           preparing last last-in);
       tail = filled.tail;
       block = filled.block;
@@ -185,7 +184,7 @@ module _ {a c : Image} {l : Layout} {before after : List File} {f : File} {fresh
         records-grown c f front n m u last fresh last_bytes block w (put_is_image c last last_bytes w v) prepared.block
         each filled-c counts
         ∙ ap (λ rs. rs ++ replicate m (empty_record (record_length f.slot))) (preparing-records a c l before after f g
-        clean.layout split rel long few preparing)
+        is_layout split rel long few preparing)
 
     -- after the commit the file has empty records more
     pub committed-has : HasRecords a b l (length before)

@@ -1,4 +1,4 @@
--- The block count behind the write that makes a file longer: from there to a clean image.
+-- The block count behind the write that makes a file longer: from there to an image as clean as the first.
 use Rattle.std.proofs.Common.{◌≡◌, ◌≢◌, ℕ, ◌+◌, ◌<◌, List, [], ◌∷◌, ◌++◌, length, refl, sym, ◌∙◌, ap, subst}
 use Rattle.std.proofs.Common.{IsTrue, length-append}
 use Rattle.std.specs.Prelude.{Contains, flat_map, replicate, take, drop}
@@ -16,7 +16,7 @@ use Rattle.disk_layout.proofs.lemmas.layouts.Agree.{records-agree}
 use Rattle.disk_layout.proofs.lemmas.layouts.Layouts.{get-contains}
 use Rattle.disk_layout.proofs.lemmas.lists.Lists.{all-map}
 use Rattle.disk_layout.proofs.lemmas.lists.Once.{EachOnce-apart, flat_map-in}
-use Rattle.disk_layout.specs.Clean.{IsCleanLayout, IsExactFile}
+use Rattle.disk_layout.specs.Clean.{IsExactFile}
 use Rattle.disk_layout.specs.Directory.{map_place, slot_in}
 use Rattle.disk_layout.specs.Entries.{IsRecounted, uncounted}
 use Rattle.disk_layout.specs.Layout.{File, IsLayout, Layout, count_field, exchanged, file_owns, is_rel, owners}
@@ -29,6 +29,7 @@ use Rattle.disk_layout.specs.declared.slot.Slot.{Slot}
 use Rattle.rel_records.proofs.lemmas.steps.Preparing.{after-stays, before-stays}
 use Rattle.rel_records.proofs.lemmas.steps.Others.{has-records, places-more}
 use Rattle.rel_records.specs.Others.{HasRecords}
+use Rattle.rel_records.specs.Usable.{StaysClean}
 use Rattle.rel_records.proofs.lemmas.steps.Committing.{IsReadyToLink, committed, entry-in, entry-same, entry-unowned}
 use Rattle.rel_records.proofs.lemmas.steps.Committing.{g-owned, last-in, last-mine, other-last, records-longer}
 
@@ -57,13 +58,14 @@ pub record IsReadyToCount (a c : Image) (l : Layout) (before after : List File) 
   pub recount : IsRecounted (sector a f.slot.sector) entry_bytes f.slot.number
   pub counted : count_field (slot_in f.slot.sector entry_bytes f.slot.number)
       ≡ length f.blocks + 1 + sides_for (length f.blocks + 1)
-  pub right : IsMapOf map' (map_place ∷ owners (exchanged l before (grown f fresh u ss) after))
+  pub right : (strays : List Place) → IsMapOf (sector a map_place) (strays ++ map_place ∷ owners l)
+      → IsMapOf map' (strays ++ map_place ∷ owners (exchanged l before (grown f fresh u ss) after))
 
 module _ {a c : Image} {l : Layout} {before after : List File} {f : File} {fresh : Place} {u : ℕ} {ss : List Place}
     {map' block last_bytes entry_bytes : Sector} {front : List Place} {last : Place}
     (to_count : IsReadyToCount a c l before after f fresh u ss map' block last_bytes entry_bytes front last) where
   open to_count use {to_link, recount, counted, right}
-  open to_count.to_link use {full, clean, split, rel, once, long, few, prepared}
+  open to_count.to_link use {full, is_layout, split, rel, once, long, few, prepared}
   open to_count.to_link.prepared use {preparing}
 
   abbrev g : File
@@ -118,12 +120,12 @@ module _ {a c : Image} {l : Layout} {before after : List File} {f : File} {fresh
       (Contains-append_right (file_owns g) (flat_map file_owns after) q own))
 
   pub before-same : AgreeAt a e (flat_map file_owns before)
-  before-same = around before (before-stays a c l before after f g clean.layout split rel long few preparing)
+  before-same = around before (before-stays a c l before after f g is_layout split rel long few preparing)
       (λ q own mine. (alone l before after g once q mine).before own)
       (λ q own. entry-unowned to_link q (owned-before q own))
 
   pub after-same : AgreeAt a e (flat_map file_owns after)
-  after-same = around after (after-stays a c l before after f g clean.layout split rel long few preparing)
+  after-same = around after (after-stays a c l before after f g is_layout split rel long few preparing)
       (λ q own mine. (alone l before after g once q mine).after own)
       (λ q own. entry-unowned to_link q (owned-after q own))
 
@@ -145,7 +147,7 @@ module _ {a c : Image} {l : Layout} {before after : List File} {f : File} {fresh
   pub map-now : sector e map_place ≡ map'
   unfolding owners
   map-now =
-      sector-put_other b d map_place entry_bytes (λ x. clean.layout.directory.not_map (let P : Place
+      sector-put_other b d map_place entry_bytes (λ x. is_layout.directory.not_map (let P : Place
       → Type 0 = Contains l.directory in subst P x (entry-in to_link)))
       ∙ sector-put_other c last map_place last_bytes
       (λ x. once.0 (map-out last x (g-owned to_link last (last-mine to_link))))
@@ -156,11 +158,11 @@ module _ {a c : Image} {l : Layout} {before after : List File} {f : File} {fresh
       map-out q x own = let P : Place → Type 0 = Contains (l.directory ++ flat_map file_owns (before ++ g ∷ after)) in
           subst P x (Contains-append_right l.directory (flat_map file_owns (before ++ g ∷ after)) q own)
 
-  -- at the end the image is clean
-  pub clean-again : IsCleanLayout e (exchanged l before (with_slot g slot) after)
-  clean-again =
+  -- at the end the image is as clean as it was
+  pub clean-again : StaysClean a l e (exchanged l before (with_slot g slot) after)
+  clean-again strays was =
       let exact = let P : List File → Type 0 = λ fs. AllByRecursion (λ x. IsTrue (is_rel x.slot) → IsExactFile a x)
-      fs in subst P split clean.files in
+      fs in subst P split was.files in
       let behind = all-right (λ x. IsTrue (is_rel x.slot) → IsExactFile a x) before (f ∷ after) exact in
       record {
         layout = counted-layout;
@@ -168,7 +170,7 @@ module _ {a c : Image} {l : Layout} {before after : List File} {f : File} {fresh
             (exact-stay a e before before-same (all-left (λ x. IsTrue (is_rel x.slot) → IsExactFile a x) before
             (f ∷ after) exact))
             (λ t. exact-now, exact-stay a e after after-same behind.1);
-        map = rw (map-now, owners-slot l before after g slot) right;
+        map = rw (map-now, owners-slot l before after g slot) (right strays was.map);
       }
 
   -- the file's blocks at the end are those after the commit

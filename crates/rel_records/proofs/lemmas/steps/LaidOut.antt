@@ -11,7 +11,7 @@ use Rattle.disk_layout.proofs.lemmas.growth.Commit.{all-right, grown, own-once}
 use Rattle.disk_layout.proofs.lemmas.layouts.Agree.{owned-side}
 use Rattle.disk_layout.proofs.lemmas.layouts.Layouts.{get-contains}
 use Rattle.disk_layout.proofs.lemmas.lists.Once.{Contains-here, EachOnce-apart, EachOnce-right}
-use Rattle.std.proofs.lemmas.List.Elements.{Contains-append_right}
+use Rattle.std.proofs.lemmas.List.Elements.{Contains-append_cases, Contains-append_left, Contains-append_right}
 use Rattle.disk_layout.proofs.lemmas.counts.Recount.{around}
 use Rattle.disk_layout.proofs.lemmas.growth.SideWrites.{file-there}
 use Rattle.disk_layout.specs.Chain.{EachOnce}
@@ -32,7 +32,7 @@ use Rattle.rel_records.specs.Others.{HasRecords}
 use Rattle.rel_records.specs.Written.{grown_by}
 use Rattle.rel_records.specs.declared.growth.step_parts.Growing.{Growing}
 
--- a step is laid out in memory: the file f, at place n of the clean image a, is to get one block more, `block` at
+-- a step is laid out in memory: the file f, at place n of the image a, is to get one block more, `block` at
 -- `fresh`; what is kept of the file is p before the step, and q after it
 pub record IsStep (a : Image) (l : Layout) (n : ℕ) (f : File) (p q : Growing) (fresh : Place) (block : Sector) : Type 0
   where
@@ -88,23 +88,32 @@ module _ {a : Image} {l : Layout} {n : ℕ} {f : File} {p q : Growing} {fresh : 
   pub blocks-some : length f.blocks ≡ length at.front + 1
   blocks-some = ap length at.last_is ∙ length-append at.front (at.last_place ∷ [])
 
-  old-map : IsMapOf p.map.bytes (map_place ∷ owners l)
-  old-map = let P : Sector → Type 0 = λ b. IsMapOf b (map_place ∷ owners l) in subst P (sym at.map) at.clean.map
+  abbrev taken : List Place
+  taken = at.strays ++ map_place ∷ owners l
+
+  old-map : IsMapOf p.map.bytes taken
+  old-map = let P : Sector → Type 0 = λ b. IsMapOf b taken in subst P (sym at.map) at.clean.map
+
+  owned-in : (ps : List Place) (x : Place) → Contains (ps ++ map_place ∷ owners l) x → Contains (ps ++ taken) x
+  owned-in ps x c = elim (Contains-append_cases ps (map_place ∷ owners l) x c) [
+    | inl d ↦ Contains-append_left ps taken x d
+    | inr d ↦ Contains-append_right ps taken x (Contains-append_right at.strays (map_place ∷ owners l) x d)
+  ]
 
   pub free : ¬ (Contains (map_place ∷ owners l) fresh)
-  free = laid.places.unowned (map_place ∷ owners l) old-map
+  free c = laid.places.unowned taken old-map (owned-in [] fresh c)
 
-  pub next : IsNextOf l before after f fresh u q.map.bytes ss
+  pub next : IsNextOf l before after f fresh u p.map.bytes q.map.bytes ss
   next =
-      let P : List Place → Type 0 = IsNextOf l before after f fresh u q.map.bytes in
+      let P : List Place → Type 0 = IsNextOf l before after f fresh u p.map.bytes q.map.bytes in
       elim laid.places.taken [
-        | inl t ↦ subst P (sym (t.sides ∙ at.sides)) (next-block l before after f fresh u q.map.bytes
+        | inl t ↦ subst P (sym (t.sides ∙ at.sides)) (next-block l before after f fresh u p.map.bytes q.map.bytes
             at.clean.layout.once split free rel-file.count
-            (λ e. t.within (ap (λ k. k % 120) many ∙ e)) (t.owned (map_place ∷ owners l) old-map))
+            (λ e. t.within (ap (λ k. k % 120) many ∙ e)) t.owned)
         | inr t ↦ subst P (sym (t.sides ∙ ap (λ xs. xs ++ t.side ∷ []) at.sides))
-            (next-side l before after f fresh u q.map.bytes at.clean.layout.once split free rel-file.count t.side
-            (ap (λ k. k % 120) (sym many) ∙ t.full) (t.unowned (map_place ∷ owners l) old-map)
-            (t.owned (map_place ∷ owners l) old-map))
+            (next-side l before after f fresh u p.map.bytes q.map.bytes at.clean.layout.once split free rel-file.count
+            t.side (ap (λ k. k % 120) (sym many) ∙ t.full)
+            (λ c. t.unowned taken old-map (owned-in (fresh ∷ []) t.side c)) t.owned)
       ]
 
   pub few-sides : length ss ≤ 6

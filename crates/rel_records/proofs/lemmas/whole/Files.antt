@@ -5,18 +5,20 @@ use Rattle.std.proofs.lemmas.List.{length-map}
 use Rattle.std.proofs.lemmas.List.Elements.{Contains-append_right}
 use Rattle.std.specs.Prelude.{Contains, Some, flat_map, slice_get, ◌++◌}
 use Rattle.d64_image.specs.Images.{Image, sector}
+use Rattle.d64_image.specs.declared.place.Place.{Place}
 use Rattle.disk_layout.proofs.lemmas.layouts.Exact.{get-lt}
 use Rattle.disk_layout.proofs.lemmas.layouts.Layouts.{IsLayout-one, get-contains}
 use Rattle.disk_layout.proofs.lemmas.lists.Lists.{get-some}
 use Rattle.disk_layout.proofs.lemmas.chains.Chains.{AgreeAt}
 use Rattle.disk_layout.proofs.lemmas.lists.Once.{flat_map-in}
-use Rattle.disk_layout.proofs.lemmas.whole.Files.{AreExact, HasEnd, clean-exact, exact-ends, exact-whole, map-at}
+use Rattle.disk_layout.proofs.lemmas.whole.Files.{AreExact, HasEnd, exact-ends, exact-whole, map-at}
 use Rattle.disk_layout.proofs.lemmas.whole.Files.{none-behind}
-use Rattle.disk_layout.specs.Clean.{IsCleanLayout}
 use Rattle.disk_layout.specs.Entries.{uncounted}
 use Rattle.disk_layout.specs.Layout.{File, IsLayout, Layout, file_owns, is_rel}
 use Rattle.disk_layout.specs.Whole.{IsWhole, IsWholeFile}
 use Rattle.disk_layout.specs.declared.slot.Slot.{Slot}
+use Rattle.layout_check.specs.Keeping.{IsCleanBut}
+use Rattle.rel_records.proofs.lemmas.Usable.{exact-but}
 use Rattle.rel_records.proofs.lemmas.reading.Opened.{rel-of}
 use Rattle.rel_records.proofs.lemmas.steps.Others.{get-either, get-other}
 use Rattle.rel_records.specs.Others.{KeepsOthers}
@@ -66,16 +68,16 @@ module _ (a c : Image) (l m : Layout) (n : ℕ) (is : IsLayout a l) (now : IsLay
       let P : Layout → Type 0 = λ z. (k : ℕ) (y : File) → slice_get z.files k ≡ Some y → IsWholeFile c z y in
       subst P (IsLayout-one c m k' now is') file-whole
 
--- so where c is clean
-pub clean-whole : (a c : Image) (l m : Layout) (n : ℕ) (g : File) → IsLayout a l → IsCleanLayout c m
-    → KeepsOthers a c l m n → slice_get m.files n ≡ Some g → IsTrue (is_rel g.slot) → HasEnd c g → IsWhole a → IsWhole c
+-- so where c is clean except for some stray sectors
+pub clean-whole : {strays : List Place} (a c : Image) (l m : Layout) (n : ℕ) (g : File) → IsLayout a l
+    → IsCleanBut strays c m → KeepsOthers a c l m n → slice_get m.files n ≡ Some g → IsTrue (is_rel g.slot) → HasEnd c g → IsWhole a → IsWhole c
 clean-whole a c l m n g is clean keeps at rel end =
-    whole-now a c l m n is clean.layout keeps (λ k y ne there. clean-exact c m k y clean there) g at
-    (exact-whole c m g rel (rel-of c m n g clean.layout at rel) (clean-exact c m n g clean at rel) end)
+    whole-now a c l m n is clean.layout keeps (λ k y ne there. exact-but c m k y clean there) g at
+    (exact-whole c m g rel (rel-of c m n g clean.layout at rel) (exact-but c m n g clean at rel) end)
 
--- side sectors that were exact in a clean image stay so where others own them
-pub agree-exact : (a b : Image) (l : Layout) (before after : List File) (f g : File) → IsCleanLayout a l
-    → l.files ≡ before ++ f ∷ after → AgreeAt a b (flat_map file_owns before) → AgreeAt a b (flat_map file_owns after)
+-- side sectors that were exact in such an image stay so where others own them
+pub agree-exact : {strays : List Place} (a b : Image) (l : Layout) (before after : List File) (f g : File)
+    → IsCleanBut strays a l → l.files ≡ before ++ f ∷ after → AgreeAt a b (flat_map file_owns before) → AgreeAt a b (flat_map file_owns after)
     → (k : ℕ) (y : File) → k ≢ length before → slice_get (before ++ g ∷ after) k ≡ Some y → IsTrue (is_rel y.slot)
     → AreExact b y
 agree-exact a b l before after f g clean split b_same a_same k y ne at rel j q there =
@@ -86,4 +88,4 @@ agree-exact a b l before after f g clean split b_same a_same k y ne at rel j q t
       | inl c ↦ b_same q (flat_map-in file_owns before y q c own)
       | inr c ↦ a_same q (flat_map-in file_owns after y q c own)
     ] in
-    sym same ∙ clean-exact a l k y clean was rel j q there
+    sym same ∙ exact-but a l k y clean was rel j q there

@@ -14,7 +14,6 @@ use Rattle.disk_layout.proofs.lemmas.growth.Refills.{ended}
 use Rattle.disk_layout.proofs.lemmas.layouts.Exact.{get-lt}
 use Rattle.disk_layout.proofs.lemmas.lists.Lists.{get-some}
 use Rattle.disk_layout.specs.Chain.{byte}
-use Rattle.disk_layout.specs.Clean.{IsCleanLayout}
 use Rattle.disk_layout.specs.Entries.{uncounted}
 use Rattle.disk_layout.specs.Layout.{File, IsLayout, IsRelFile, Layout, exchanged, record_length}
 use Rattle.disk_layout.specs.Records.{record_count}
@@ -28,6 +27,7 @@ use Rattle.disk_layout.proofs.lemmas.whole.Files.{HasEnd, chain-some, not-zeros}
 use Rattle.rel_records.proofs.lemmas.whole.Files.{clean-whole, same-files}
 use Rattle.rel_records.proofs.lemmas.whole.Written.{none-reaches}
 use Rattle.disk_layout.specs.Listed.{HasStock, IsStock, NeverGrows, is_plain}
+use Rattle.layout_check.specs.Keeping.{IsCleanBut}
 use Rattle.rel_records.specs.Others.{KeepsOthers}
 use Rattle.disk_layout.specs.Whole.{IsWhole}
 use Rattle.rel_records.specs.declared.growth.step_parts.Growing.{Growing}
@@ -68,10 +68,10 @@ filled-whole x l n f p wx at bytes index ends w =
     m : Layout
     m = exchanged l (take n l.files) h (drop (suc n) l.files)
 
-    clean : IsCleanLayout b m
+    clean : IsCleanBut at.strays b m
     clean = ended-clean x l (take n l.files) (drop (suc n) l.files) f at.clean.layout (split x l n f p at) at.rel
-        at.last_place bytes (last-in x l n f p at) wx at.clean (file-rel x l n f p at) (same-last x l n f p at)
-        (slice_index bytes 1) ends refl
+        at.last_place bytes (last-in x l n f p at) wx (file-rel x l n f p at) (same-last x l n f p at)
+        (slice_index bytes 1) ends refl at.strays at.clean
 
     keeps : KeepsOthers x b l m n
     keeps =

@@ -109,6 +109,6 @@ module _ {a : Image} {l : Layout} {n : ℕ} {f : File} {p q : Growing} {fresh : 
       let tc = to_count step up c x v ready in
       let P : Bool → Type 0 = IsTrue in
       clean-whole a (put b f.slot.sector q.directory) l (exchanged l before (with_slot g t) after) n (with_slot g t)
-      at.clean.layout (clean-again tc) (kept step up c x v ready) (there step up c x v ready)
+      at.clean.layout (clean-again tc at.strays at.clean) (kept step up c x v ready) (there step up c x v ready)
       (subst P (is_rel-same f.slot t (same-entry tc)) at.rel)
       (λ y last. fresh-end (put b f.slot.sector q.directory) y last (block-there step up c x v ready)) w

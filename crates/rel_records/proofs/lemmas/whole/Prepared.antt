@@ -26,7 +26,8 @@ use Rattle.rel_records.proofs.lemmas.steps.Others.{others-kept}
 use Rattle.rel_records.proofs.lemmas.steps.Preparing.{after-stays, before-stays, blocks-stay, file-in, preparing-layout}
 use Rattle.rel_records.proofs.lemmas.steps.Sided.{get-once, get-there}
 use Rattle.disk_layout.proofs.lemmas.whole.Ends.{ends-exact}
-use Rattle.disk_layout.proofs.lemmas.whole.Files.{AreExact, HasEnd, chain-some, clean-exact, exact-ends}
+use Rattle.disk_layout.proofs.lemmas.whole.Files.{AreExact, HasEnd, chain-some, exact-ends}
+use Rattle.rel_records.proofs.lemmas.Usable.{exact-but}
 use Rattle.rel_records.proofs.lemmas.whole.Files.{agree-exact}
 use Rattle.disk_layout.proofs.lemmas.whole.Files.{none-behind, rel-whole}
 use Rattle.rel_records.proofs.lemmas.whole.Files.{whole-now}
@@ -66,7 +67,7 @@ module _ {a : Image} {l : Layout} {n : ℕ} {f : File} {p q : Growing} {fresh : 
   long = length-append f.blocks (fresh ∷ [])
 
   exact-a : AreExact a f
-  exact-a = clean-exact a l n f at.clean at.there at.rel
+  exact-a = exact-but a l n f at.clean at.there at.rel
 
   -- a side sector of the file that is as it was lists no more
   same-ends : (c : Image) (x : Place) → slice_get f.sides ((N - 1) / 120) ≡ Some x → sector c x ≡ sector a x

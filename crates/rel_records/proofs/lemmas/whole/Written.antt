@@ -12,14 +12,14 @@ use Rattle.disk_layout.proofs.lemmas.layouts.Layouts.{get-contains}
 use Rattle.disk_layout.proofs.lemmas.records.Joined.{sector-long}
 use Rattle.disk_layout.proofs.lemmas.records.Pieces.{row-le}
 use Rattle.disk_layout.specs.Chain.{byte}
-use Rattle.disk_layout.specs.Clean.{IsCleanLayout}
+use Rattle.layout_check.specs.Keeping.{IsCleanBut}
 use Rattle.disk_layout.specs.Layout.{File, IsRelFile, Layout, record_length}
 use Rattle.disk_layout.specs.Records.{record_count}
 use Rattle.rel_records.proofs.lemmas.steps.Sided.{get-once}
 use Rattle.rel_records.proofs.lemmas.reading.Opened.{file-rel}
 use Rattle.rel_records.proofs.lemmas.writing.Bytes.{patched-low}
 use Rattle.rel_records.proofs.lemmas.writing.OneBlock.{one-more, patched-sector, same-count}
-use Rattle.rel_records.proofs.lemmas.writing.Writings.{clean-block, keeps-block}
+use Rattle.rel_records.proofs.lemmas.writing.Writings.{block-of, block-stays, keeps-block}
 use Rattle.disk_layout.proofs.lemmas.whole.Files.{HasEnd, not-zeros}
 use Rattle.rel_records.proofs.lemmas.whole.Files.{clean-whole}
 use Rattle.rel_records.specs.File.{IsFileOf, length_of, records_in}
@@ -72,12 +72,12 @@ end-stays img f i r p bytes w rel at link low high reach end q last = elim (same
         omega (arith, none-reaches N (record_length f.slot) r low (subst P zero' high), reach, ap (λ k. 254 * k) number)
 
 -- so the files stay whole, where the write keeps the block's link
-pub block-whole : (img : Image) (l : Layout) (n : ℕ) (f : File) (v : RelFile) (i r : ℕ) (p : Place) (bytes : Sector)
-    → IsImage img → IsFileOf img l n f v → IsCleanLayout img l → slice_get f.blocks i ≡ Some p
+pub block-whole : {strays : List Place} (img : Image) (l : Layout) (n : ℕ) (f : File) (v : RelFile) (i r : ℕ) (p : Place) (bytes : Sector)
+    → IsImage img → IsFileOf img l n f v → IsCleanBut strays img l → slice_get f.blocks i ≡ Some p
     → slice_index bytes 0 ≡ byte img p 0 → slice_index bytes 1 ≡ byte img p 1 → 1 ≤ r → r ≤ records_in v
     → 254 * i < r * length_of v → IsWhole img → IsWhole (put img p bytes)
 block-whole img l n f v i r p bytes w of clean at link index low high reach is =
-    clean-whole img (put img p bytes) l l n f of.layout (clean-block img l n f v i p bytes w of clean at link index)
+    clean-whole img (put img p bytes) l l n f of.layout (block-stays img l n f v i p bytes w of at link index _ clean)
     (keeps-block img l n f p bytes of.layout of.there (get-contains f.blocks i p at)) of.there of.rel
     (end-stays img f i r p bytes w (file-rel img l n f v of) at index low
     (omega (arith, high, same-count img l n f v of)) (rw (← of.shows.size) reach)
@@ -85,8 +85,8 @@ block-whole img l n f v i r p bytes w of clean at link index low high reach is =
 
 module _ (img : Image) (l : Layout) (n : ℕ) (f : File) (v : RelFile) (of : IsFileOf img l n f v) (w : IsImage img) where
   -- a text is written into a record, all of it in one block
-  pub one-whole : (block r pos : ℕ) (p : Place) (text : List ℕ) → ((i : ℕ) → slice_index text i < 256)
-      → IsCleanLayout img l → slice_get f.blocks block ≡ Some p → 1 ≤ r → r ≤ records_in v → 1 ≤ pos → pos ≤ length_of v
+  pub one-whole : {strays : List Place} (block r pos : ℕ) (p : Place) (text : List ℕ) → ((i : ℕ) → slice_index text i < 256)
+      → IsCleanBut strays img l → slice_get f.blocks block ≡ Some p → 1 ≤ r → r ≤ records_in v → 1 ≤ pos → pos ≤ length_of v
       → 254 * block ≤ (r - 1) * length_of v + (pos - 1) → r * length_of v ≤ 254 * block + 254 → IsWhole img → IsWhole
       (put img p (patched ((r - 1) * length_of v + (pos - 1) - 254 * block) (r * length_of v - 254 * block) text
       (sector img p)))
@@ -104,7 +104,7 @@ module _ (img : Image) (l : Layout) (n : ℕ) (f : File) (v : RelFile) (of : IsF
 
 -- a text is written into record r, which begins in the block at p and goes on in the next, at q
 module _ (img : Image) (l : Layout) (n : ℕ) (f : File) (v : RelFile) (w : IsImage img) (of : IsFileOf img l n f v)
-    (clean : IsCleanLayout img l)
+    {strays : List Place} (clean : IsCleanBut strays img l)
     (block r pos : ℕ) (p q : Place) (text : List ℕ) (small : (i : ℕ) → slice_index text i < 256)
     (at : slice_get f.blocks block ≡ Some p) (to : slice_get f.blocks (block + 1) ≡ Some q)
     (low : 1 ≤ r) (high : r ≤ records_in v) (pos_low : 1 ≤ pos) (pos_high : pos ≤ length_of v)
@@ -136,9 +136,8 @@ module _ (img : Image) (l : Layout) (n : ℕ) (f : File) (v : RelFile) (w : IsIm
       let i : Image = put img p bytes in
       let u : IsImage i = put_is_image img p bytes w (patched-sector s 254 text (sector img p) (is_sector img p w) small
       order (omega arith)) in
-      let still : IsCleanLayout i l = clean-block img l n f v block p bytes w of clean at link index in
-      let now : IsFileOf i l n f v =
-      record { layout = still.layout; there = of.there; rel = of.rel; shows = of.shows } in
+      let still = block-stays img l n f v block p bytes w of at link index strays clean in
+      let now = block-of img l n f v block p bytes w of at link index in
       let e : ℕ = r * length_of v - 254 * block - 254 in
       let rest : List ℕ = drop (min (length text) (254 - s)) text in
       let short : e ≤ 254 = omega (arith, inside, one-more r (length_of v) low, v.size_high) in

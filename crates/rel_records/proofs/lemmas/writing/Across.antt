@@ -6,7 +6,6 @@ use Rattle.d64_image.specs.Images.{Image, IsImage, put, sector}
 use Rattle.d64_image.specs.declared.place.Place.{Place}
 use Rattle.disk_layout.proofs.lemmas.records.Pieces.{piece}
 use Rattle.disk_layout.proofs.lemmas.records.RecordWrites.{record-at}
-use Rattle.disk_layout.specs.Clean.{IsCleanLayout}
 use Rattle.disk_layout.specs.Layout.{File, Layout, record_length}
 use Rattle.disk_layout.specs.Records.{joined, record_count, records}
 use Rattle.rel_records.proofs.lemmas.writing.OneBlock.{one-more, same-count}
@@ -18,7 +17,6 @@ use Rattle.rel_records.specs.declared.rel_file.RelFile.{RelFile}
 
 -- record r begins in the block at p, and goes on in the next, at q; the text goes over its bytes from the position on
 module _ (img : Image) (l : Layout) (n : ℕ) (f : File) (v : RelFile) (w : IsImage img) (of : IsFileOf img l n f v)
-    (clean : IsCleanLayout img l)
     (block r pos : ℕ) (p q : Place) (text : List ℕ) (small : (i : ℕ) → slice_index text i < 256)
     (at : slice_get f.blocks block ≡ Some p) (to : slice_get f.blocks (block + 1) ≡ Some q)
     (low : 1 ≤ r) (high : r ≤ records_in v) (pos_low : 1 ≤ pos) (pos_high : pos ≤ length_of v)
@@ -56,7 +54,7 @@ module _ (img : Image) (l : Layout) (n : ℕ) (f : File) (v : RelFile) (w : IsIm
       λ k old. set (records img f) (r - 1) (take k (written (record_length f.slot) pos text old) ++ drop k old) in
       let P : List (List ℕ) → Type 0 = λ rs. LeavesRecords img first l n rs v in
       subst P (ap₂ H room-is (sym old-is))
-      (leaves-first img l n f v w of clean block (r - 1) pos _ p q text small at to pos_low reach begin
+      (leaves-first img l n f v w of block (r - 1) pos _ p q text small at to pos_low reach begin
       (omega (arith, inside, from)) past below)
 
   -- and then the rest
@@ -76,5 +74,5 @@ module _ (img : Image) (l : Layout) (n : ℕ) (f : File) (v : RelFile) (w : IsIm
       let P : List (List ℕ)
       → Type 0 = λ rs. LeavesRecords img (put first q (patched 0 e (drop m text) (sector first q))) l n rs v in
       subst P (ap W (sym old-is))
-      (leaves-second img l n f v w of clean block (r - 1) pos _ p q text small at to pos_low reach begin
+      (leaves-second img l n f v w of block (r - 1) pos _ p q text small at to pos_low reach begin
       (omega (arith, inside, from)) past below e m end refl more)

@@ -9,7 +9,6 @@ use Rattle.d64_image.specs.Places.{place_at}
 use Rattle.d64_image.specs.declared.place.Place.{Place}
 use Rattle.disk_layout.proofs.lemmas.records.Pieces.{row-le}
 use Rattle.disk_layout.specs.Chain.{named_at}
-use Rattle.disk_layout.specs.Clean.{IsCleanLayout}
 use Rattle.disk_layout.specs.Layout.{File, Layout, record_length}
 use Rattle.disk_layout.specs.Records.{record_count, records}
 use Rattle.rel_records.proofs.lemmas.Kept.{growing_same, leaves_has}
@@ -78,12 +77,12 @@ module _ (img : Image) (l : Layout) (n : ℕ) (f : File) (v : RelFile) (of : IsF
       )
 
   pub leaves-one : (block r pos : ℕ) (p : Place) (text : List ℕ) → ((i : ℕ) → slice_index text i < 256)
-      → IsCleanLayout img l → slice_get f.blocks block ≡ Some p → 1 ≤ r → r ≤ records_in v → 1 ≤ pos → pos ≤ length_of v
+      → slice_get f.blocks block ≡ Some p → 1 ≤ r → r ≤ records_in v → 1 ≤ pos → pos ≤ length_of v
       → 254 * block ≤ (r - 1) * length_of v + (pos - 1) → r * length_of v ≤ 254 * block + 254
       → LeavesRecords img
       (put img p (patched ((r - 1) * length_of v + (pos - 1) - 254 * block) (r * length_of v - 254 * block) text
       (sector img p))) l n (with_written (record_length f.slot) r pos text (records img f)) v
-  leaves-one block r pos p text small clean at low high pos_low pos_high from to =
+  leaves-one block r pos p text small at low high pos_low pos_high from to =
       let s : ℕ = (r - 1) * length_of v + (pos - 1) - 254 * block in
       let e : ℕ = r * length_of v - 254 * block in
       let more = one-more r (length_of v) low in
@@ -95,7 +94,7 @@ module _ (img : Image) (l : Layout) (n : ℕ) (f : File) (v : RelFile) (of : IsF
       let index : (r - 1) + 1 ≡ r = omega (arith, low) in
       let Q : ℕ → Type 0 = λ i. LeavesRecords img (put img p (patched s e text (sector img p))) l n
       (with_written (record_length f.slot) i pos text (records img f)) v in
-      subst Q index (leaves-written img l n f v block s e (r - 1) pos p text w u of clean at room pos_low
+      subst Q index (leaves-written img l n f v block s e (r - 1) pos p text w u of at room pos_low
       (omega (arith, pos_high, of.shows.size))
       (rw (← of.shows.size) (omega (arith, from)))
       (rw (← of.shows.size) (omega (arith, more, from, pos_high)))

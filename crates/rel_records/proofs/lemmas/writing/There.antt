@@ -7,10 +7,10 @@ use Rattle.d64_image.proofs.Moments.{changes_weaker, reads_change, weaker}
 use Rattle.d64_image.specs.History.{History}
 use Rattle.d64_image.specs.Images.{Image, sector}
 use Rattle.d64_image.specs.declared.place.Place.{Place}
-use Rattle.disk_layout.proofs.lemmas.layouts.Unclean.{clean-of}
 use Rattle.disk_layout.specs.Chain.{named_at}
 use Rattle.disk_layout.specs.Layout.{record_length}
 use Rattle.disk_layout.specs.Records.{records}
+use Rattle.rel_records.proofs.lemmas.Usable.{usable-of}
 use Rattle.rel_records.proofs.lemmas.whole.Written.{both-whole, half-whole, one-whole}
 use Rattle.rel_records.proofs.lemmas.writing.Across.{leaves-both, leaves-half}
 use Rattle.rel_records.proofs.lemmas.writing.OneBlock.{half-moment, leaves-one, old-moment, one-more, whole-moment}
@@ -57,8 +57,8 @@ module _ {D : Type 0} (S : History D) (a b : D) (v : RelFile) (r pos block : ℕ
   wrote-one to put = record {
     file = λ l n f of.
         let i = S.image a in
-        let clean = clean-of i l of.layout there.clean in
-        let leaves = leaves-one i l n f v of (S.whole a) block r pos p text small clean (at l n f of) there.low there.high
+        let (strays, clean) = usable-of i l of.layout there.usable in
+        let leaves = leaves-one i l n f v of (S.whole a) block r pos p text small (at l n f of) there.low there.high
         there.position_low there.position_high from to in
         let whole = one-whole i l n f v of (S.whole a) block r pos p text small clean (at l n f of) there.low there.high
         there.position_low there.position_high from to in
@@ -87,12 +87,12 @@ module _ {D : Type 0} (S : History D) (a b : D) (v : RelFile) (r pos block : ℕ
     file = λ l n f of.
         let i = S.image a in
         let (q, to, put) = both l n f of in
-        let clean = clean-of i l of.layout there.clean in
+        let (strays, clean) = usable-of i l of.layout there.usable in
         let P : Image → Type 0 = λ j. LeavesRecords i j l n (with_written
         (record_length f.slot) r pos text (records i f)) v in
-        let half = leaves-half i l n f v (S.whole a) of clean block r pos p q text small (at l n f of) to there.low there.high
+        let half = leaves-half i l n f v (S.whole a) of block r pos p q text small (at l n f of) to there.low there.high
         there.position_low there.position_high from inside over in
-        let all = leaves-both i l n f v (S.whole a) of clean block r pos p q text small (at l n f of) to there.low there.high
+        let all = leaves-both i l n f v (S.whole a) of block r pos p q text small (at l n f of) to there.low there.high
         there.position_low there.position_high from inside over in
         let first-whole = half-whole i l n f v (S.whole a) of clean block r pos p q text small (at l n f of) to there.low there.high
         there.position_low there.position_high from inside over in

@@ -14,7 +14,6 @@ use Rattle.disk_layout.proofs.lemmas.records.Joined.{length-joined, records-writ
 use Rattle.disk_layout.proofs.lemmas.records.Pieces.{length-piece, piece, piece-byte, row-le}
 use Rattle.disk_layout.proofs.lemmas.records.RecordWrites.{ChangesRecord}
 use Rattle.disk_layout.specs.Chain.{EachOnce}
-use Rattle.disk_layout.specs.Clean.{IsCleanLayout}
 use Rattle.disk_layout.specs.Layout.{File, Layout, record_length}
 use Rattle.disk_layout.specs.Records.{joined, record_count, records}
 use Rattle.rel_records.proofs.lemmas.Kept.{keeps_then, places-stay}
@@ -23,9 +22,10 @@ use Rattle.rel_records.proofs.lemmas.reading.Opened.{blocks-once, file-rel, reco
 use Rattle.rel_records.proofs.lemmas.writing.Bytes.{length-written, patched-low, written-in, written-low}
 use Rattle.rel_records.proofs.lemmas.writing.OneBlock.{patched-sector}
 use Rattle.rel_records.proofs.lemmas.writing.Patches.{joined-inside, joined-outside, patched-changes}
-use Rattle.rel_records.proofs.lemmas.writing.Writings.{clean-block, keeps-block, leaves-block}
+use Rattle.rel_records.proofs.lemmas.writing.Writings.{block-of, block-stays, keeps-block, leaves-block}
 use Rattle.rel_records.specs.File.{IsFileOf}
 use Rattle.rel_records.specs.Others.{LeavesRecords}
+use Rattle.rel_records.specs.Usable.{StaysClean}
 use Rattle.rel_records.specs.Written.{patched, written}
 use Rattle.rel_records.specs.declared.rel_file.RelFile.{RelFile}
 
@@ -64,7 +64,6 @@ half-long room xs ys le same = omega (
 -- bytes
 -- from the position on
 module _ (img : Image) (l : Layout) (n : ℕ) (f : File) (v : RelFile) (w : IsImage img) (of : IsFileOf img l n f v)
-    (clean : IsCleanLayout img l)
     (r k pos s : ℕ) (p q : Place) (text : List ℕ) (small : (i : ℕ) → slice_index text i < 256)
     (at : slice_get f.blocks r ≡ Some p) (to : slice_get f.blocks (r + 1) ≡ Some q)
     (low : 1 ≤ pos) (high : pos ≤ record_length f.slot) (start : 254 * r + s ≡ k * record_length f.slot + (pos - 1))
@@ -148,16 +147,12 @@ module _ (img : Image) (l : Layout) (n : ℕ) (f : File) (v : RelFile) (w : IsIm
   first-changes = patched-changes img f r s 254 k p text w (omega (arith, inside)) (omega arith) (omega (arith, start))
       (omega (arith, over))
 
-  first-clean : IsCleanLayout first l
-  first-clean = clean-block img l n f v r p (patched s 254 text (sector img p)) w of clean at
-      (first-link 0 (omega arith)) (first-link 1 (omega arith))
-
   -- what is left by the first write
   pub leaves-first : LeavesRecords img first l n
       (set (records img f) k (take room (written L pos text old) ++ drop room old)) v
   leaves-first =
       let P : List ℕ → Type 0 = λ x. LeavesRecords img first l n (set (records img f) k x) v in
-      subst P first-piece (leaves-block img l n f v r k p (patched s 254 text (sector img p)) w first-image of clean at
+      subst P first-piece (leaves-block img l n f v r k p (patched s 254 text (sector img p)) w first-image of at
       (first-link 0 (omega arith)) (first-link 1 (omega arith)) below first-changes)
 
   -- the rest of the text goes over the first bytes of the second block
@@ -170,7 +165,8 @@ module _ (img : Image) (l : Layout) (n : ℕ) (f : File) (v : RelFile) (w : IsIm
     e-small = omega (arith, end, start, short, inside, low)
 
     of-first : IsFileOf first l n f v
-    of-first = record { layout = first-clean.layout; there = of.there; rel = of.rel; shows = of.shows }
+    of-first = block-of img l n f v r p (patched s 254 text (sector img p)) w of at (first-link 0 (omega arith))
+        (first-link 1 (omega arith))
 
     second-image : IsImage second
     second-image = put_is_image first q (patched 0 e (drop m text) (sector first q)) first-image
@@ -211,9 +207,11 @@ module _ (img : Image) (l : Layout) (n : ℕ) (f : File) (v : RelFile) (w : IsIm
     second-link i lt = patched-low 0 e (drop m text) (sector first q) i (sector-long first q first-image) (omega arith)
         e-small lt
 
-    second-clean : IsCleanLayout second l
-    second-clean = clean-block first l n f v (r + 1) q (patched 0 e (drop m text) (sector first q)) first-image of-first
-        first-clean to (second-link 0 (omega arith)) (second-link 1 (omega arith))
+    both-stay : StaysClean img l second l
+    both-stay strays clean = block-stays first l n f v (r + 1) q (patched 0 e (drop m text) (sector first q)) first-image
+        of-first to (second-link 0 (omega arith)) (second-link 1 (omega arith)) strays
+        (block-stays img l n f v r p (patched s 254 text (sector img p)) w of at (first-link 0 (omega arith))
+        (first-link 1 (omega arith)) strays clean)
 
     second-changes : ChangesRecord f (r + 1) k (sector first q) (patched 0 e (drop m text) (sector first q))
     second-changes = patched-changes first f (r + 1) 0 e k q (drop m text) first-image (omega arith) e-small
@@ -233,12 +231,13 @@ module _ (img : Image) (l : Layout) (n : ℕ) (f : File) (v : RelFile) (w : IsIm
     pub leaves-second : LeavesRecords img second l n (set (records img f) k (written L pos text old)) v
     leaves-second = record {
       layout = l;
-      clean = second-clean;
+      clean = both-stay;
       others = keeps_then img first second l l l n (keeps-block img l n f p _ of.layout of.there
           (get-contains f.blocks r p at)) (keeps-block first l n f q _ of-first.layout of.there
           (get-contains f.blocks (r + 1) q to));
       file = f;
-      of = record { layout = second-clean.layout; there = of.there; rel = of.rel; shows = of.shows };
+      of = block-of first l n f v (r + 1) q (patched 0 e (drop m text) (sector first q)) first-image of-first to
+          (second-link 0 (omega arith)) (second-link 1 (omega arith));
       records = second-records;
       places = places-stay img l n f (set (records img f) k (written L pos text old)) of.there
           (omega (arith, length-set (records img f) k (written L pos text old)));

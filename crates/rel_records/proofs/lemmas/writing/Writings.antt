@@ -7,24 +7,25 @@ use Rattle.std.proofs.lemmas.List.Elements.{Contains-append_left}
 use Rattle.d64_image.proofs.Images.{sector-put_other}
 use Rattle.d64_image.specs.Images.{Image, IsImage, Sector, put, sector}
 use Rattle.d64_image.specs.declared.place.Place.{Place}
-use Rattle.disk_layout.proofs.lemmas.layouts.Agree.{IsCleanLayout-put_block, map-unowned, owned-block, sectors-agree}
+use Rattle.disk_layout.proofs.lemmas.layouts.Agree.{map-unowned, owned-block, sectors-agree}
 use Rattle.disk_layout.proofs.lemmas.layouts.Layouts.{get-contains}
-use Rattle.disk_layout.proofs.lemmas.layouts.Frames.{unless-same}
+use Rattle.disk_layout.proofs.lemmas.layouts.Frames.{IsLayout-put_block, unless-same}
 use Rattle.disk_layout.proofs.lemmas.records.Joined.{length-joined, records-write, sector-long}
 use Rattle.disk_layout.proofs.lemmas.records.Pieces.{length-piece, piece, piece-byte, row-le}
 use Rattle.disk_layout.proofs.lemmas.records.RecordWrites.{ChangesRecord, record-at}
 use Rattle.disk_layout.specs.Chain.{EachOnce, byte}
-use Rattle.disk_layout.specs.Clean.{IsCleanLayout}
 use Rattle.disk_layout.specs.Directory.{map_place}
 use Rattle.disk_layout.specs.Layout.{File, IsLayout, Layout, record_length}
 use Rattle.disk_layout.specs.Records.{joined, record_count, records}
 use Rattle.rel_records.proofs.lemmas.Kept.{places-stay}
+use Rattle.rel_records.proofs.lemmas.Usable.{put_block-stays}
 use Rattle.rel_records.proofs.lemmas.reading.Opened.{block-in, blocks-once, records-fit}
 use Rattle.rel_records.proofs.lemmas.writing.Bytes.{is-written, patched-low}
 use Rattle.rel_records.proofs.lemmas.writing.Patches.{joined-inside, joined-outside, patched-changes}
 use Rattle.rel_records.proofs.lemmas.writing.Places.{apart}
 use Rattle.rel_records.specs.File.{IsFileOf}
 use Rattle.rel_records.specs.Others.{KeepsOthers, LeavesRecords}
+use Rattle.rel_records.specs.Usable.{StaysClean}
 use Rattle.rel_records.specs.Written.{patched, with_written, written}
 use Rattle.rel_records.specs.declared.rel_file.RelFile.{RelFile}
 
@@ -43,29 +44,40 @@ keeps-block img l n f p b h at c = record {
       (λ e. map-unowned img l h (rw (← e) (owned-block l f p (get-contains l.files n f at) c))) in cc;
 }
 
--- it keeps a clean image clean, where it keeps the block's link
-pub clean-block : (img : Image) (l : Layout) (n : ℕ) (f : File) (v : RelFile) (r : ℕ) (p : Place) (b : Sector)
-    → IsImage img → IsFileOf img l n f v → IsCleanLayout img l → slice_get f.blocks r ≡ Some p
-    → slice_index b 0 ≡ byte img p 0 → slice_index b 1 ≡ byte img p 1 → IsCleanLayout (put img p b) l
-clean-block img l n f v r p b w of clean at e0 e1 = IsCleanLayout-put_block img l p b w.size
-    (block-in img l n f v of p (get-contains f.blocks r p at)) e0 e1 clean
+-- it leaves an image as clean as it was, where it keeps the block's link
+pub block-stays : (img : Image) (l : Layout) (n : ℕ) (f : File) (v : RelFile) (r : ℕ) (p : Place) (b : Sector)
+    → IsImage img → IsFileOf img l n f v → slice_get f.blocks r ≡ Some p
+    → slice_index b 0 ≡ byte img p 0 → slice_index b 1 ≡ byte img p 1 → StaysClean img l (put img p b) l
+block-stays img l n f v r p b w of at e0 e1 = put_block-stays img l p b w.size
+    (block-in img l n f v of p (get-contains f.blocks r p at)) e0 e1
+
+-- and what is kept of the file is of the new image
+pub block-of : (img : Image) (l : Layout) (n : ℕ) (f : File) (v : RelFile) (r : ℕ) (p : Place) (b : Sector)
+    → IsImage img → IsFileOf img l n f v → slice_get f.blocks r ≡ Some p
+    → slice_index b 0 ≡ byte img p 0 → slice_index b 1 ≡ byte img p 1 → IsFileOf (put img p b) l n f v
+block-of img l n f v r p b w of at e0 e1 = record {
+  layout = IsLayout-put_block img l p b w.size (block-in img l n f v of p (get-contains f.blocks r p at)) e0 e1
+      of.layout;
+  there = of.there;
+  rel = of.rel;
+  shows = of.shows;
+}
 
 -- a write to a block that keeps its link and changes record k alone, counted from 0
 pub leaves-block : (img : Image) (l : Layout) (n : ℕ) (f : File) (v : RelFile) (r k : ℕ) (p : Place) (b : Sector)
-    → IsImage img → IsImage (put img p b) → IsFileOf img l n f v → IsCleanLayout img l → slice_get f.blocks r ≡ Some p
+    → IsImage img → IsImage (put img p b) → IsFileOf img l n f v → slice_get f.blocks r ≡ Some p
     → slice_index b 0 ≡ byte img p 0 → slice_index b 1 ≡ byte img p 1
     → k < record_count (length f.blocks) f.last (record_length f.slot) → ChangesRecord f r k (sector img p) b
     → LeavesRecords img (put img p b) l n
     (set (records img f) k (piece (record_length f.slot) k (joined (put img p b) f.blocks))) v
-leaves-block img l n f v r k p b w u of clean at e0 e1 below changes =
+leaves-block img l n f v r k p b w u of at e0 e1 below changes =
     let c : Contains f.blocks p = get-contains f.blocks r p at in
-    let after : IsCleanLayout (put img p b) l = clean-block img l n f v r p b w of clean at e0 e1 in
     record {
       layout = l;
-      clean = after;
+      clean = block-stays img l n f v r p b w of at e0 e1;
       others = keeps-block img l n f p b of.layout of.there c;
       file = f;
-      of = record { layout = after.layout; there = of.there; rel = of.rel; shows = of.shows };
+      of = block-of img l n f v r p b w of at e0 e1;
       records = records-write img f r k p b w u (blocks-once img l n f v of) at below (records-fit img l n f v of w)
           changes;
       places = places-stay img l n f
@@ -121,12 +133,12 @@ piece-written img l n f v r s e k pos p text w u of at room low high start end b
 -- the whole write in one block
 pub leaves-written : (img : Image) (l : Layout) (n : ℕ) (f : File) (v : RelFile) (r s e k pos : ℕ) (p : Place)
     (text : List ℕ) → IsImage img → IsImage (put img p (patched s e text (sector img p))) → IsFileOf img l n f v
-    → IsCleanLayout img l → slice_get f.blocks r ≡ Some p → e ≤ 254 → 1 ≤ pos → pos ≤ record_length f.slot
+    → slice_get f.blocks r ≡ Some p → e ≤ 254 → 1 ≤ pos → pos ≤ record_length f.slot
     → 254 * r + s ≡ k * record_length f.slot + (pos - 1) → 254 * r + e ≡ k * record_length f.slot + record_length f.slot
     → k < record_count (length f.blocks) f.last (record_length f.slot)
     → LeavesRecords img (put img p (patched s e text (sector img p))) l n (with_written (record_length f.slot) (k + 1)
     pos text (records img f)) v
-leaves-written img l n f v r s e k pos p text w u of clean at room low high start end below =
+leaves-written img l n f v r s e k pos p text w u of at room low high start end below =
     let L : ℕ = record_length f.slot in
     let order : s ≤ e = omega (arith, start, end, low, high) in
     let long = sector-long img p w in
@@ -137,7 +149,7 @@ leaves-written img l n f v r s e k pos p text w u of clean at room low high star
     = ap (set (records img f) k) (piece-written img l n f v r s e k pos p text w u of at room low high start end below
     ∙ ap (written L pos text) (sym (record-at img f k [] below)))
     ∙ ap (λ (i : ℕ). set (records img f) i (written L pos text (get_or (records img f) i []))) (sym index) in
-    subst P same (leaves-block img l n f v r k p (patched s e text (sector img p)) w u of clean at
+    subst P same (leaves-block img l n f v r k p (patched s e text (sector img p)) w u of at
     (patched-low s e text (sector img p) 0 long order room (omega arith)) (patched-low s e text (sector img p) 1 long
     order room (omega arith)) below
     (patched-changes img f r s e k p text w order room (omega (arith, start)) (omega (arith, end))))

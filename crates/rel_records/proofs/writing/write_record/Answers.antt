@@ -1,5 +1,6 @@
 -- The file grows where it has to, and then the record is written.
 use Rattle.std.proofs.Common.{arith}
+use Rattle.rel_records.proofs.lemmas.Usable.{still-usable}
 use Rattle.rel_records.proofs.lemmas.writing.Puts.{passes}
 use Rattle.rel_records.proofs.lemmas.writing.Recorded.{growth-refused, put-fails, put-told}
 use Rattle.rel_records.specs.Calls.{WritesRecord}
@@ -10,7 +11,7 @@ write_there-requires g c =
     let (l, n, f, of) = c.requires.of in
     let h = (c.in_ok-grow_to.ensures.file l n f of).ok in
     record {
-      clean = (h.layout, h.clean);
+      usable = still-usable _ _ l h.layout of.layout c.requires.usable h.clean;
       of = (h.layout, n, h.file, h.of);
       low = c.requires.number;
       high = c.in_ok-grow_to.ensures.there;

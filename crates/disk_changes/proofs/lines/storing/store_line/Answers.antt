@@ -22,7 +22,7 @@ returns-in_default g c = λ l n f of h x is can there.
     subst (λ (ys : List NewRecord). StoresLines S g.W.Write.contents c.args.disk.now c.args.disk.now c.args.out.now
     c.args.out.now l n f v v ys (Ok tt))
     (if-not_last c.args.last.now.places.items c.args.place x other)
-    (none-stored S g.W.Write.contents l n f c.args.disk.now c.args.out.now v c.requires.clean of)
+    (none-stored S g.W.Write.contents l n f c.args.disk.now c.args.out.now v of)
 
 pub store_record-requires-clause-high : goal.store_record-requires-clause-high
 store_record-requires-clause-high g c =

@@ -3,7 +3,7 @@ use Rattle.std.proofs.Common.{Ok, Err, Result, [], arith, refl, sym, subst, ap, 
 use Rattle.std.proofs.lemmas.Result.{err_from_is_err_and}
 use Rattle.line_text.specs.scripts.Lines.{lines}
 use Rattle.disk_changes.proofs.lemmas.lines.Composed.{none-stored}
-use Rattle.disk_changes.proofs.lemmas.lines.LinesStored.{all-stored, next-clean, next-file, next-line, one-failed, one-more}
+use Rattle.disk_changes.proofs.lemmas.lines.LinesStored.{all-stored, next-usable, next-file, next-line, one-failed, one-more}
 use Rattle.disk_changes.specs.lines.Stores.{last_ones}
 use Rattle.disk_changes.specs.lines.Storing.{StoresLines}
 use Rattle.command_faults.specs.declared.faults.CommandFault.{CommandFault}
@@ -22,19 +22,19 @@ loop-line-init g c = record {
         kept = [];
         ones = refl;
         stores = none-stored g.D.Sectors.history g.W.Write.contents k n f c.args.disk.now c.args.out.now c.args.file.now
-            c.requires.clean of;
+            of;
       };
 }
 
-pub store_line-requires-clause-clean : goal.store_line-requires-clause-clean
-store_line-requires-clause-clean g c =
+pub store_line-requires-clause-usable : goal.store_line-requires-clause-usable
+store_line-requires-clause-usable g c =
     let (k, n, f, of) = c.requires.of in
     let (h, xs, are, reach, tells) = c.requires.lines in
-    next-clean g.D.Sectors.history g.W.Write.contents c.args.disk.now c.loop-line.disk c.args.out.now c.loop-line.out k
+    next-usable g.D.Sectors.history g.W.Write.contents c.args.disk.now c.loop-line.disk c.args.out.now c.loop-line.out k
     n f c.args.file.now c.loop-line.file h xs of reach
     c.args.last.now.places.items tells c.in-Some.line.now (lines c.in-Some.more.now) (lines c.loop-line.rest.now)
     c.loop-line.place
-    (c.loop-line.invariant.storing k n f of h xs are reach tells) c.in-Some.ensures.0
+    (c.loop-line.invariant.storing k n f of h xs are reach tells) c.in-Some.ensures.0 c.requires.usable
 
 pub store_line-requires-clause-of : goal.store_line-requires-clause-of
 store_line-requires-clause-of g c =

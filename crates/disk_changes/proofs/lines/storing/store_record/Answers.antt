@@ -29,7 +29,7 @@ returns-then-is_err g c = λ l n f of.
     let q = c.requires in
     not-read g.D.Sectors.history c.args.disk.now c.read_record.new.disk l n f c.args.file.now
     (new_record c.args.number c.args.bytes.now)
-    q.clean of q.low q.high q.short c.read_record.new.text.items c.read_record.result c.read_record.ensures
+    of q.low q.high q.short c.read_record.new.text.items c.read_record.result c.read_record.ensures
     (sym c.is_err.ensures.value ∙ c.if-is_err.true)
 
 pub returns-then-eq : goal.returns-then-eq
@@ -39,7 +39,7 @@ returns-then-eq g c = λ l n f of.
     ∙ ap trimmed c.as_slice.ensures.value in
     not-stored g.D.Sectors.history c.args.disk.now c.read_record.new.disk l n f c.args.file.now
     (new_record c.args.number c.args.bytes.now)
-    q.clean of q.low q.high q.short c.read_record.new.text.items c.read_record.result c.read_record.ensures
+    of q.low q.high q.short c.read_record.new.text.items c.read_record.result c.read_record.ensures
     (sym c.is_err.ensures.value ∙ c.if-is_err.false)
     (same-trimmed c.trim.result.now c.trim-2.result.now c.read_record.new.text.items c.args.bytes.now c.eq.result text
     c.trim-2.ensures c.eq.ensures c.if-eq.true)
@@ -51,7 +51,7 @@ returns-then-is_err-2 g c = λ l n f of.
     ∙ ap trimmed c.as_slice.ensures.value in
     not-written g.D.Sectors.history c.args.disk.now c.read_record.new.disk l n f c.args.file.now
     (new_record c.args.number c.args.bytes.now)
-    q.clean of q.low q.high q.short c.read_record.new.text.items c.read_record.result c.read_record.ensures
+    of q.low q.high q.short c.read_record.new.text.items c.read_record.result c.read_record.ensures
     (sym c.is_err.ensures.value ∙ c.if-is_err.false)
     c.write_record.new.disk c.write_record.new.file c.write_record.result c.write_record.ensures
     (other-trimmed c.trim.result.now c.trim-2.result.now c.read_record.new.text.items c.args.bytes.now c.eq.result text
@@ -65,7 +65,7 @@ returns g c = λ l n f of.
     ∙ ap trimmed c.as_slice.ensures.value in
     is-stored g.D.Sectors.history c.args.disk.now c.read_record.new.disk l n f c.args.file.now
     (new_record c.args.number c.args.bytes.now)
-    q.clean of q.low q.high q.short c.read_record.new.text.items c.read_record.result c.read_record.ensures
+    of q.low q.high q.short c.read_record.new.text.items c.read_record.result c.read_record.ensures
     (sym c.is_err.ensures.value ∙ c.if-is_err.false)
     c.write_record.new.disk c.write_record.new.file c.write_record.result c.write_record.ensures
     (other-trimmed c.trim.result.now c.trim-2.result.now c.read_record.new.text.items c.args.bytes.now c.eq.result text

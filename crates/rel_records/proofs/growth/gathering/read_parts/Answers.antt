@@ -58,7 +58,7 @@ returns-clause-ok g c l n f of =
     let S = g.D.Sectors.history in
     let first = c.in_ok-read_places.ensures.reads.image in
     let second = c.in_ok-read.ensures.reads.image ∙ first in
-    is-at (S.image c.args.disk.now) l n f c.args.file.now _ _ c.index-deref-len.result c.requires.clean of
+    is-at (S.image c.args.disk.now) l n f c.args.file.now _ _ c.index-deref-len.result c.requires.usable of
     c.requires.map refl refl refl (c.in_ok-read_places.ensures.sides l n f of)
     (c.in_ok-read_places.ensures.blocks l n f of)
     (omega (

@@ -1,5 +1,5 @@
 -- One write after another.
-use Rattle.std.proofs.Common.{arith, refl, ◌∙◌, ap, ◌<◌, ◌%◌, length, ◌∷◌, subst, sym}
+use Rattle.std.proofs.Common.{arith, refl, ◌∙◌, ap, ◌<◌, ◌%◌, List, length, ◌∷◌, ◌++◌, subst, sym}
 use Rattle.std.specs.Prelude.{nat_eq}
 use Rattle.rel_records.proofs.lemmas.steps.Added.{added, counting-moments, linking-moments, prepared-moments}
 use Rattle.rel_records.proofs.lemmas.steps.LaidOut.{few-sides, sides-once, some-sides, step-of}
@@ -7,6 +7,7 @@ use Rattle.disk_layout.specs.Map.{IsMapOf}
 use Rattle.disk_layout.specs.Directory.{map_place}
 use Rattle.disk_layout.specs.Layout.{owners}
 use Rattle.d64_image.specs.Images.{Sector}
+use Rattle.d64_image.specs.declared.place.Place.{Place}
 use Rattle.rel_records.proofs.growth.steps.add_block.Goals as goal
 use Rattle.rel_records.proofs.lemmas.steps.Sided.{counted_once}
 use Rattle.rel_records.proofs.lemmas.Told.{not-done}
@@ -101,8 +102,9 @@ returns-clause-file g c l n f at up =
 pub lay_out-fresh-requires-clause-map : goal.lay_out-fresh-requires-clause-map
 lay_out-fresh-requires-clause-map g c =
     let (l, n, f, at) = c.requires.at in
-    let P : Sector → Type 0 = λ b. IsMapOf b (map_place ∷ owners l) in
-    (map_place ∷ owners l, subst P (sym at.map) at.clean.map)
+    let taken : List Place = at.strays ++ map_place ∷ owners l in
+    let P : Sector → Type 0 = λ b. IsMapOf b taken in
+    (taken, subst P (sym at.map) at.clean.map)
 
 pub returns-clause-reads : goal.returns-clause-reads
 returns-clause-reads g c = omega
