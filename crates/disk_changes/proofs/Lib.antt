@@ -1,4 +1,5 @@
 pub mod lemmas
+pub mod BesideArt
 pub mod Copied
 pub mod Deleted
 pub mod Judged

@@ -2,6 +2,7 @@
 //! it isn't made. Nothing is read or written.
 #![tactic(auto)]
 
+mod art;
 mod changes;
 mod changing;
 mod copying;
