@@ -12,4 +12,5 @@ pub mod SidesBuilt
 pub mod Slots
 pub mod StoredRecords
 pub mod Undeleted
+pub mod UnsoundArt
 pub mod Usable
