@@ -6,6 +6,7 @@ pub mod Judged
 pub mod MadeFile
 pub mod Put
 pub mod Renamed
+pub mod RecordCopies
 pub mod Repaired
 pub mod ShopFiles
 pub mod SidesBuilt

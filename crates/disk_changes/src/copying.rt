@@ -1,10 +1,12 @@
 //! A file of another image copied into an image.
-ghost use Rattle.std.specs.Prelude.{◌≡◌, ◌≤◌, ◌⊎◌, ◌↔◌, ℕ, IfErr, IfOk, IsTrue, List, length};
+ghost use Rattle.std.specs.Prelude.{◌≡◌, ◌≤◌, ◌⊎◌, ◌↔◌, ℕ, IfErr, IfOk, IsTrue, List, MatchOption, length};
 ghost use Rattle.d64_image.specs.Memory.{disk_image, sectors_in};
 ghost use Rattle.disk_changes.specs.Copies.{HasLockOf, IsCopied, IsCopyOf, IsCopyRefusal, IsNoCopyOf, IsUnlockedFor};
 ghost use Rattle.disk_changes.specs.Copies.{IsNoRecordCopyOf, IsNoTextOf, IsRecordCopyOf, IsTextOf};
 ghost use Rattle.disk_changes.specs.Copies.{plain_type as plain_type_of};
+ghost use Rattle.disk_layout.specs.Layout.{record_length};
 ghost use Rattle.file_changes.specs.Deletes.{IsLocked};
+ghost use Rattle.rel_records.specs.File.{IsLength};
 
 use crate::changes::{Changed, Lock};
 use crate::locking::relocked;
@@ -96,6 +98,17 @@ fn records_text(alloc: Global, source: &[u8], name: &[u8]) -> Result<Vec<u8>, Co
     }
 }
 
+/// The record length of an entry, if a relative file can have it.
+fn record_size(entry: &Slot) -> Option<u8>
+    ensures { MatchOption result (¬ (IsLength (record_length entry.now)))
+        (λ size. (size ≡ record_length entry.now) × IsLength size) }
+{
+    match EntryView::new(&entry.bytes).record_length() {
+        0 | 255 => None,
+        size => Some(size),
+    }
+}
+
 /// The image with a new relative file of this name, in which these lines are stored, and which has the record length and the lock
 /// of an entry. `NoFile` if that record length is none.
 fn record_copy(
@@ -109,10 +122,9 @@ fn record_copy(
     ensures ok { IfOk result (IsRecordCopyOf entry.now text.now to.now image.now) }
     ensures err { IfErr result (IsNoRecordCopyOf entry.now text.now to.now image.now) }
 {
-    let size = EntryView::new(&entry.bytes).record_length();
-    if size == 0 || size == 255 {
+    let Some(size) = record_size(entry) else {
         return Err(CommandFault::NoFile);
-    }
+    };
     let first = made(alloc, image, to, size, Loss::Refused)?;
     let second = stored(alloc, first.disk.bytes(), to, text, Loss::Refused)?;
     let disk = with_lock_of(alloc, entry, to, second)?;

@@ -78,7 +78,8 @@ sized-done (changes.Title id name) image made is = is.before.size
 sized-done (changes.Lock lock name) image made is = is.before.size
 sized-done (changes.Delete name) image made is = is.before.taken.0
 sized-done (changes.Undelete kind name) image made is = is.retyped.before.size
-sized-done (changes.CopyFile source name to) image made is = is.copy.put.before.taken.0
+sized-done (changes.CopyFile source name to) image made is =
+    ⊎_elim (λ plain. plain.put.before.taken.0) (λ records. records.3.new.before.taken.0) is.copy
 sized-done changes.Sort image made is = is.before.size
 sized-done (changes.Put name kind content) image made is = is.before.taken.0
 sized-done (changes.Make name L cut) image made is = is.before.taken.0
