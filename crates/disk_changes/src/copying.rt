@@ -4,7 +4,7 @@ ghost use Rattle.d64_image.specs.Memory.{disk_image, sectors_in};
 ghost use Rattle.disk_changes.specs.Copies.{HasLockOf, IsCopied, IsCopyOf, IsCopyRefusal, IsNoCopyOf, IsUnlockedFor};
 ghost use Rattle.disk_changes.specs.Copies.{IsNoRecordCopyOf, IsNoTextOf, IsRecordCopyOf, IsTextOf};
 ghost use Rattle.disk_changes.specs.Copies.{plain_type as plain_type_of};
-ghost use Rattle.disk_layout.specs.Layout.{record_length};
+ghost use Rattle.disk_layout.specs.Layout.{is_rel, record_length};
 ghost use Rattle.file_changes.specs.Deletes.{IsLocked};
 ghost use Rattle.rel_records.specs.File.{IsLength};
 
@@ -35,6 +35,13 @@ fn plain_type(entry: &Slot) -> Option<FileType>
         3 => Some(FileType::Usr),
         _ => None,
     }
+}
+
+/// Whether the entry is that of a closed relative file.
+fn is_relative(entry: &Slot) -> bool
+    ensures { IsTrue result ↔ IsTrue (is_rel entry.now) }
+{
+    EntryView::new(&entry.bytes).is_relative()
 }
 
 /// Whether the file of a closed entry is locked.
@@ -165,9 +172,8 @@ pub(crate) fn copied(
     ensures err { IfErr result (IsCopyRefusal source.now name.now to.now image.now) }
 {
     let (entry, content) = whole_file(alloc, source, name)?;
-    if EntryView::new(&entry.bytes).is_relative() {
-        relative_copy(alloc, &entry, source, name, to, image)
-    } else {
-        copy_of(alloc, &entry, content.as_slice(), to, image)
+    if is_relative(&entry) {
+        return relative_copy(alloc, &entry, source, name, to, image);
     }
+    copy_of(alloc, &entry, content.as_slice(), to, image)
 }
