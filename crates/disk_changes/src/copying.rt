@@ -158,8 +158,8 @@ fn relative_copy(
     record_copy(alloc, entry, text.as_slice(), to, image)
 }
 
-/// The image with a copy of the first closed file of that name of another image, which gets the name `to`. Of a relative file its
-/// records are copied, otherwise its bytes.
+/// The image with a copy of the first closed file of that name of another image, which gets the name `to`: of its records if it
+/// is relative, otherwise of its bytes.
 pub(crate) fn copied(
     alloc: Global,
     image: &[u8],
