@@ -39,7 +39,7 @@ module _ (source name to image : List ℕ) where
     never : IsNoCopyAs entry content source name to image why → ⊥
     never (inl plain) = no-copy plain
     never (inr (relative, inl unread)) = text unread
-    never (inr (relative, inr (given, is, no))) = no-records given no
+    never (inr (relative, inr (given, is, unmade))) = no-records given unmade
 
   no-output : IsCopyRefusal source name to image faults.File → ⊥
   no-output (inl why) = why

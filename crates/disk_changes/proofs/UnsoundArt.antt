@@ -1,5 +1,5 @@
 -- A sound disk has no directory art at 18/0: its first block would belong to the map and to it.
-use Rattle.std.proofs.Common.{◌≡◌, ◌∙◌, ◌&&◌, ◌||◌, ◌∷◌, [], ◌++◌, Bool, IsFalse, List, ap, arith, false, map, nat_eq, refl, subst, sym, true, ℕ}
+use Rattle.std.proofs.Common.{◌≡◌, ◌∙◌, ◌&&◌, ◌||◌, ◌∷◌, [], ◌++◌, Bool, IsFalse, List, false, map, nat_eq, refl, subst, sym, true, ℕ}
 use Rattle.std.specs.Prelude.{Contains, slice_index}
 use Rattle.std.specs.List.{list_any}
 use Rattle.std.proofs.lemmas.Bool.{eqb-true}
@@ -13,7 +13,7 @@ use Rattle.disk_layout.proofs.lemmas.layouts.Layouts.{IsDirectory-one}
 use Rattle.disk_layout.proofs.lemmas.lists.Once.{Contains-here, Contains-there, all-in}
 use Rattle.disk_layout.specs.Chain.{IsChain, Leads}
 use Rattle.disk_layout.specs.Directory.{map_place, type_byte}
-use Rattle.disk_layout.specs.Layout.{File, HasChain, IsFile, IsLayout, IsSound, Layout, count_field, is_rel_type}
+use Rattle.disk_layout.specs.Layout.{File, IsFile, IsSound, count_field, is_rel_type}
 use Rattle.disk_layout.specs.declared.slot.Slot.{Slot}
 use Rattle.file_rescues.specs.rescue.Art.{starts_nowhere}
 
