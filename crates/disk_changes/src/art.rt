@@ -67,11 +67,7 @@ fn put_track(disk: &mut MemDisk, entry: &Slot, track: u8)
         return;
     }
     let mut bytes = *disk.sector(entry.sector);
-    overwrite(
-        &mut bytes,
-        32 * entry.number as usize + TRACK_AT,
-        &[track],
-    );
+    overwrite(&mut bytes, 32 * entry.number as usize + TRACK_AT, &[track]);
     let _ = disk.write(entry.sector, &bytes);
 }
 

@@ -22,11 +22,7 @@ use command_faults::CommandFault;
 use std::alloc::Global;
 
 /// What comes of a change of an image as it is.
-fn change_plain(
-    alloc: Global,
-    what: &Change<'_>,
-    image: &[u8],
-) -> Result<Changed, CommandFault>
+fn change_plain(alloc: Global, what: &Change<'_>, image: &[u8]) -> Result<Changed, CommandFault>
     requires fit { IsFit what.now }
     ensures ok { IfOk result (IsDone what.now image.now) }
     ensures err { IfErr result (IsBarred what.now image.now) }

@@ -12,7 +12,7 @@ next : (track : ℕ) (start img after : Image) (all : List Slot) (n : ℕ) (s : 
     → with_tracks track after (drop (n + 1) all) ≡ with_tracks track start all
 next track start img after all n s inside is before put =
     let cut : drop n all ≡ s ∷ drop (n + 1) all =
-        rw add-one (drop-cons all n s inside ∙ ap (λ (x : Slot). x ∷ drop (suc n) all) (sym is)) in
+    rw add-one (drop-cons all n s inside ∙ ap (λ (x : Slot). x ∷ drop (suc n) all) (sym is)) in
     ap (λ (i : Image). with_tracks track i (drop (n + 1) all)) put
     ∙ sym (ap (with_tracks track img) cut) ∙ before
 
