@@ -41,7 +41,10 @@ fn keyed(byte: u8) -> u8 {
 
 /// Prints what to type in place of a name that has small letters.
 fn print_keyed<E: Write>(name: &[u8], err: &mut E) -> io::Result<()> {
-    write!(err, "ledger: no key of a C64 gives these small letters; as c1541 writes them, type '")?;
+    write!(
+        err,
+        "ledger: no key of a C64 gives these small letters; as c1541 writes them, type '"
+    )?;
     for &byte in name {
         let bytes = [keyed(byte)];
         write!(err, "{}", Text(&bytes))?;
