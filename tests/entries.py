@@ -7,7 +7,8 @@ PROGRAM is what `tools/program` prints. A disk gets up to 40 programs. Some are 
 them back: both disks have the very bytes of the one before. `title` makes the disk that `cc1541 -n -i` makes. After `sort` cc1541 lists
 the names in order, and `check` prints OK; after `lock` it shows the lock, after `unlock` the disk is as it was. Last some are locked, and
 `copy-file` copies all to an empty disk: to the bytes that `put` and `lock` of what `bytes` prints make, and cc1541 lists them with their
-locks. The first difference ends the script with status 1."""
+locks. A relative file's copy has the bytes that `make` and `store` of its records make, and cc1541 lists both disks alike. The
+first difference ends the script with status 1."""
 
 import random
 import re
@@ -102,6 +103,24 @@ class Disk:
         want(self.listed(copy) == [(name, name in locked) for name in order], f"copies of {order}: {self.listed(copy)}")
         return len(order)
 
+    def see_records_copied(self):
+        old, copy, stored, lines = (self.folder / it for it in ("records.d64", "rel.d64", "stored.d64", "lines"))
+        length, count = self.draw.randint(1, 254), self.draw.randint(1, 300)
+        texts = ["".join(self.draw.choice(LETTERS) for _ in range(self.draw.randint(1, min(length, 40)))) for _ in range(count)]
+        lines.write_text("".join(f'{number},"{text}"\n' for number, text in enumerate(texts, 1)))
+        for image in (old, copy, stored):
+            sure(self.program, "new", image, "--name", "RECORDS", "--id", "26")
+        for image in (old, stored):
+            sure(self.program, "make", image, "CARDS", "--length", length)
+            sure(self.program, "store", image, "CARDS", lines)
+        sure(self.program, "copy-file", old, "CARDS", copy)
+        want(copy.read_bytes() == stored.read_bytes(), f"a copy of {count} records of {length} bytes: not the disk of make and store")
+        want(sure(self.program, "check", copy) == ["OK"], "a copy of records: check isn't OK")
+        taken = []
+        for image in (old, copy):
+            taken.append(cc1541("-a", image))
+        want(taken[0] == taken[1], f"a copy of {count} records of {length} bytes: cc1541 lists another file")
+
 
 def main(program, disks=20, seed=1):
     draw, undeleted, copied = random.Random(seed), 0, 0
@@ -113,6 +132,7 @@ def main(program, disks=20, seed=1):
             disk.see_sorted()
             disk.see_locked()
             copied += disk.see_copied()
+            disk.see_records_copied()
     print(f"entries: {disks} disks, {undeleted} files undeleted, {copied} copied, {disks} titles, orders and locks, as cc1541 has them: no difference")
 
 

@@ -166,8 +166,8 @@ pub(crate) const COPY_FILE: Subcommand = Subcommand {
     about: "Copy a file of another image to the disk",
     more: "\
 It puts the first closed file of FROM that has this name on the disk of IMAGE,
-with its type and its lock, and prints COPIED. FROM is only read. A relative
-file isn't copied (NO FILE): use records, make and store.
+with its type and its lock, and prints COPIED. FROM is only read. The records
+of a relative file are copied, as by records, make and store.
 
 Exit status:
   0  the copy is on the disk

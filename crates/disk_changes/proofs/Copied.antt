@@ -2,9 +2,12 @@
 use Rattle.std.proofs.Common.{◌≡◌, List, inl, inr, ℕ}
 use Rattle.command_faults.specs.declared.faults.CommandFault.{CommandFault}
 use Rattle.command_faults.specs.declared.faults.CommandFault.TheVariants as faults
-use Rattle.disk_changes.specs.Copies.{IsCopyRefusal, IsNoCopyOf}
+use Rattle.damaged_files.specs.declared.sides.planning.Loss.TheVariants.{Refused}
+use Rattle.disk_changes.specs.Copies.{IsCopyRefusal, IsNoCopyAs, IsNoCopyOf, IsNoRecordCopyOf, IsNoTextOf}
 use Rattle.disk_changes.specs.Locks.{IsLockRefusal}
+use Rattle.disk_changes.specs.Makes.{IsMakeRefusal}
 use Rattle.disk_changes.specs.Puts.{IsPutRefusal}
+use Rattle.disk_changes.specs.Stores.{IsStoreRefusal}
 use Rattle.disk_layout.specs.declared.slot.Slot.{Slot}
 use Rattle.file_changes.specs.declared.file_type.FileType.{FileType}
 use Rattle.file_rescues.specs.Whole.{IsWholeFile}
@@ -12,27 +15,41 @@ use Rattle.file_rescues.specs.Whole.{IsWholeFile}
 module _ (source name to image : List ℕ) where
   -- the other image has a file that isn't copied
   pub not-copied : (entry : Slot) (content : List ℕ) → IsWholeFile source name entry content → (why : CommandFault)
-      → IsNoCopyOf entry content to image why → IsCopyRefusal source name to image why
+      → IsNoCopyAs entry content source name to image why → IsCopyRefusal source name to image why
   not-copied entry content whole faults.NoMemory because = inl whole.file.size
   not-copied entry content whole _ because = inr (entry, content, whole, because)
 
   -- what is no reason at any step is none
-  never : (entry : Slot) (content : List ℕ) (why : CommandFault) → (why ≡ faults.NoFile → ⊥)
-      → ((kind : FileType) → IsPutRefusal image to kind content why → ⊥) → ((bytes : List ℕ) → IsLockRefusal bytes to why → ⊥)
-      → IsNoCopyOf entry content to image why → ⊥
-  never entry content why none put lock (inl (is, relative)) = none is
-  never entry content why none put lock (inr (kind, at, inl refused)) = put kind refused
-  never entry content why none put lock (inr (kind, at, inr (first, was, (locked, bytes, same, refused)))) = lock bytes refused
+  module _ (entry : Slot) (content : List ℕ) (why : CommandFault) (none : why ≡ faults.NoFile → ⊥)
+      (put : (kind : FileType) → IsPutRefusal image to kind content why → ⊥) (text : IsNoTextOf source name why → ⊥)
+      (make : IsMakeRefusal image to Refused why → ⊥)
+      (store : (bytes given : List ℕ) → IsStoreRefusal bytes to given Refused why → ⊥)
+      (lock : (bytes : List ℕ) → IsLockRefusal bytes to why → ⊥) where
+    no-copy : IsNoCopyOf entry content to image why → ⊥
+    no-copy (inl (is, relative)) = none is
+    no-copy (inr (kind, at, inl refused)) = put kind refused
+    no-copy (inr (kind, at, inr (first, was, (locked, bytes, same, refused)))) = lock bytes refused
+
+    no-records : (given : List ℕ) → IsNoRecordCopyOf entry given to image why → ⊥
+    no-records given (inl (is, size)) = none is
+    no-records given (inr (inl refused)) = make refused
+    no-records given (inr (inr (first, new, bytes, held, inl refused))) = store bytes given refused
+    no-records given (inr (inr (first, new, bytes, held, inr (second, filled, (locked, after, same, refused))))) = lock after refused
+
+    never : IsNoCopyAs entry content source name to image why → ⊥
+    never (inl plain) = no-copy plain
+    never (inr (relative, inl unread)) = text unread
+    never (inr (relative, inr (given, is, unmade))) = no-records given unmade
 
   no-output : IsCopyRefusal source name to image faults.File → ⊥
   no-output (inl why) = why
-  no-output (inr (entry, content, whole, because)) =
-      never entry content faults.File (λ is. cc) (λ kind why. why) (λ bytes why. why) because
+  no-output (inr (entry, content, whole, because)) = never entry content faults.File (λ is. cc) (λ kind why. why) (λ why. why)
+      (λ why. why) (λ bytes given why. why) (λ bytes why. why) because
 
   no-device : IsCopyRefusal source name to image faults.Device → ⊥
   no-device (inl why) = why
-  no-device (inr (entry, content, whole, because)) =
-      never entry content faults.Device (λ is. cc) (λ kind why. why) (λ bytes why. why) because
+  no-device (inr (entry, content, whole, because)) = never entry content faults.Device (λ is. cc) (λ kind why. why) (λ why. why)
+      (λ why. why) (λ bytes given why. why) (λ bytes why. why) because
 
   -- what refuses a copy in memory is neither the output nor the device
   pub copied-in-memory : (IsCopyRefusal source name to image faults.File → ⊥) × (IsCopyRefusal source name to image faults.Device → ⊥)

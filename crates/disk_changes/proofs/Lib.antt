@@ -1,14 +1,17 @@
 pub mod lemmas
+pub mod BesideArt
 pub mod Copied
 pub mod Deleted
 pub mod Judged
 pub mod MadeFile
 pub mod Put
 pub mod Renamed
+pub mod RecordCopies
 pub mod Repaired
 pub mod ShopFiles
 pub mod SidesBuilt
 pub mod Slots
 pub mod StoredRecords
 pub mod Undeleted
+pub mod UnsoundArt
 pub mod Usable

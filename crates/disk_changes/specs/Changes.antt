@@ -1,5 +1,6 @@
 -- What comes of a change to an image, or why it isn't made. Our own.
-use Rattle.std.specs.Prelude.{◌≤◌, List, length, ℕ}
+use Rattle.std.specs.Prelude.{◌≡◌, ◌≤◌, ◌⊎◌, Bool, List, false, length, true, ℕ}
+use Rattle.disk_changes.specs.Art.{IsAside, IsBesideArt}
 use Rattle.disk_changes.specs.Copies.{IsCopied, IsCopyRefusal}
 use Rattle.disk_changes.specs.Deletes.{IsDeleteRefusal, IsDeleted}
 use Rattle.disk_changes.specs.Locks.{IsLockRefusal, IsLockSet}
@@ -34,32 +35,48 @@ IsFit (changes.Store name text cut) = Unit {0}
 IsFit (changes.Repair free cut) = Unit {0}
 IsFit (changes.Rebuild free cut) = Unit {0}
 
--- the change was made
+-- the change was made of an image as it is
+abbrev pub IsDone : Change → (image : List ℕ) → Changed → Type 0
+IsDone (changes.Rename from to) image made = IsRenamed image from.now to.now made
+IsDone (changes.Title id name) image made = IsTitled image name.now id made
+IsDone (changes.Lock lock name) image made = IsLockSet image name.now lock made
+IsDone (changes.Delete name) image made = IsDeleted image name.now made
+IsDone (changes.Undelete kind name) image made = IsUndeleted image name.now kind made
+IsDone changes.Sort image made = IsSorted image made
+IsDone (changes.Put name kind content) image made = IsPut image name.now kind content.now made
+IsDone (changes.CopyFile source name to) image made = IsCopied source.now name.now to.now image made
+IsDone (changes.Make name L cut) image made = IsMade image name.now L cut made
+IsDone (changes.Store name text cut) image made = IsStored image name.now text.now cut made
+IsDone (changes.Repair free cut) image made = IsRepaired image free cut made
+IsDone (changes.Rebuild free cut) image made = IsRebuilt image free cut made
+
+-- it wasn't, for this reason
+abbrev pub IsBarred : Change → (image : List ℕ) → CommandFault → Type 0
+IsBarred (changes.Rename from to) image why = IsRenameRefusal image from.now to.now why
+IsBarred (changes.Title id name) image why = IsUnsoundOrShort image why
+IsBarred (changes.Lock lock name) image why = IsLockRefusal image name.now why
+IsBarred (changes.Delete name) image why = IsDeleteRefusal image name.now why
+IsBarred (changes.Undelete kind name) image why = IsUndeleteRefusal image name.now kind why
+IsBarred changes.Sort image why = IsSortRefusal image why
+IsBarred (changes.Put name kind content) image why = IsPutRefusal image name.now kind content.now why
+IsBarred (changes.CopyFile source name to) image why = IsCopyRefusal source.now name.now to.now image why
+IsBarred (changes.Make name L cut) image why = IsMakeRefusal image name.now cut why
+IsBarred (changes.Store name text cut) image why = IsStoreRefusal image name.now text.now cut why
+IsBarred (changes.Repair free cut) image why = IsRepairRefusal image why
+IsBarred (changes.Rebuild free cut) image why = IsRebuildRefusal image why
+
+-- it neither moves directory art nor says of a disk with art that it is in order
+abbrev pub leaves_art : Change → Bool
+leaves_art changes.Sort = false
+leaves_art (changes.Repair free cut) = false
+leaves_art (changes.Rebuild free cut) = false
+leaves_art _ = true
+
+-- the change was made, of the image as it is or with its art put aside
 abbrev pub IsChanged : Change → (image : List ℕ) → Changed → Type 0
-IsChanged (changes.Rename from to) image made = IsRenamed image from.now to.now made
-IsChanged (changes.Title id name) image made = IsTitled image name.now id made
-IsChanged (changes.Lock lock name) image made = IsLockSet image name.now lock made
-IsChanged (changes.Delete name) image made = IsDeleted image name.now made
-IsChanged (changes.Undelete kind name) image made = IsUndeleted image name.now kind made
-IsChanged changes.Sort image made = IsSorted image made
-IsChanged (changes.Put name kind content) image made = IsPut image name.now kind content.now made
-IsChanged (changes.CopyFile source name to) image made = IsCopied source.now name.now to.now image made
-IsChanged (changes.Make name L cut) image made = IsMade image name.now L cut made
-IsChanged (changes.Store name text cut) image made = IsStored image name.now text.now cut made
-IsChanged (changes.Repair free cut) image made = IsRepaired image free cut made
-IsChanged (changes.Rebuild free cut) image made = IsRebuilt image free cut made
+IsChanged what image made = IsDone what image made ⊎ ((leaves_art what ≡ true) × IsBesideArt (IsDone what) image made)
 
 -- it wasn't, for this reason
 abbrev pub IsRefused : Change → (image : List ℕ) → CommandFault → Type 0
-IsRefused (changes.Rename from to) image why = IsRenameRefusal image from.now to.now why
-IsRefused (changes.Title id name) image why = IsUnsoundOrShort image why
-IsRefused (changes.Lock lock name) image why = IsLockRefusal image name.now why
-IsRefused (changes.Delete name) image why = IsDeleteRefusal image name.now why
-IsRefused (changes.Undelete kind name) image why = IsUndeleteRefusal image name.now kind why
-IsRefused changes.Sort image why = IsSortRefusal image why
-IsRefused (changes.Put name kind content) image why = IsPutRefusal image name.now kind content.now why
-IsRefused (changes.CopyFile source name to) image why = IsCopyRefusal source.now name.now to.now image why
-IsRefused (changes.Make name L cut) image why = IsMakeRefusal image name.now cut why
-IsRefused (changes.Store name text cut) image why = IsStoreRefusal image name.now text.now cut why
-IsRefused (changes.Repair free cut) image why = IsRepairRefusal image why
-IsRefused (changes.Rebuild free cut) image why = IsRebuildRefusal image why
+IsRefused what image why = IsBarred what image why
+    ⊎ ((leaves_art what ≡ true) × (bytes : List ℕ) × IsAside image bytes × IsBarred what bytes why)

@@ -1,19 +1,27 @@
 -- What comes of copying a file of another image into an image (1541 User's Guide, directory format). Our own.
-use Rattle.std.specs.Prelude.{◌≡◌, ◌⊎◌, ◌%◌, List, None, Option, Some, codes, if◌then◌else◌, length, nat_eq, ℕ}
+use Rattle.std.specs.Prelude.{◌≡◌, ◌≢◌, ◌⊎◌, ◌%◌, IsTrue, List, None, Option, Some, codes, if◌then◌else◌, length, nat_eq, ℕ}
 use Rattle.command_faults.specs.declared.faults.CommandFault.{CommandFault}
 use Rattle.command_faults.specs.declared.faults.CommandFault.TheVariants as faults
 use Rattle.d64_image.specs.Memory.{disk_image, sectors_in}
 use Rattle.d64_image.specs.declared.mem_disk.MemDisk.{MemDisk}
+use Rattle.damaged_files.specs.cut.Told.{IsToldOfImage}
+use Rattle.damaged_files.specs.declared.sides.planning.Loss.TheVariants.{Refused}
 use Rattle.disk_changes.specs.Locks.{IsLockRefusal, IsLockSet}
+use Rattle.disk_changes.specs.Makes.{IsMade, IsMakeRefusal}
 use Rattle.disk_changes.specs.Puts.{IsPut, IsPutRefusal}
+use Rattle.disk_changes.specs.Stores.{IsStored, IsStoreRefusal}
 use Rattle.disk_changes.specs.declared.changes.Changed.{Changed}
 use Rattle.disk_changes.specs.declared.changes.Lock.TheVariants.{Set}
 use Rattle.disk_layout.specs.Directory.{type_byte}
+use Rattle.disk_layout.specs.Layout.{File, is_rel, record_length}
+use Rattle.disk_layout.specs.Records.{records}
 use Rattle.disk_layout.specs.declared.slot.Slot.{Slot}
 use Rattle.file_changes.specs.Deletes.{IsLocked}
 use Rattle.file_changes.specs.declared.file_type.FileType.{FileType}
 use Rattle.file_changes.specs.declared.file_type.FileType.TheVariants.{Prg, Seq, Usr}
+use Rattle.file_rescues.specs.Records.{HasNoReached, HasNoRecordFile, IsReachedFile, IsRecordFile, records_text}
 use Rattle.file_rescues.specs.Whole.{IsNoWholeFile, IsWholeFile}
+use Rattle.rel_records.specs.File.{IsLength}
 
 -- the type of a file that isn't relative, by the low half of its type byte
 abbrev pub plain_type : Slot → Option FileType
@@ -41,27 +49,76 @@ pub record IsCopyOf (entry : Slot) (content to image : List ℕ) (made : Changed
   pub lock : HasLockOf entry to first made.disk
   pub text : made.text.items ≡ codes "COPIED\n"
 
+-- the text is the lines of the records of the first closed relative file of that name, and that isn't cut short
+abbrev pub IsTextOf : (source name text : List ℕ) → Type 0
+IsTextOf source name text = (file : File) × (is : IsRecordFile source name file) × IsToldOfImage source (Some is.number) None
+    × (text ≡ records_text (records (sectors_in source) file))
+
+-- A relative file with the entry's record length is made on the disk that comes of it, these lines are stored in it, and it is
+-- locked if the entry is; and what is printed.
+pub record IsRecordCopyOf (entry : Slot) (given to image : List ℕ) (made : Changed) : Type 0 where
+  pub length_is : IsLength (record_length entry)
+  pub first : Changed
+  pub new : IsMade image to (record_length entry) Refused first
+  pub bytes : List ℕ
+  pub held : sectors_in bytes ≡ disk_image first.disk
+  pub second : Changed
+  pub filled : IsStored bytes to given Refused second
+  pub lock : HasLockOf entry to second made.disk
+  pub text : made.text.items ≡ codes "COPIED\n"
+
+-- the file with this entry is relative, and its records are copied so; or its bytes are
+abbrev pub IsCopyAs : Slot → (content source name to image : List ℕ) → Changed → Type 0
+IsCopyAs entry content source name to image made = IsCopyOf entry content to image made
+    ⊎ (IsTrue (is_rel entry) × (given : List ℕ) × IsTextOf source name given × IsRecordCopyOf entry given to image made)
+
 -- The first closed file of that name of the other image is copied so.
 pub record IsCopied (source name to image : List ℕ) (made : Changed) : Type 0 where
   pub entry : Slot
   pub content : List ℕ
   pub file : IsWholeFile source name entry content
-  pub copy : IsCopyOf entry content to image made
+  pub copy : IsCopyAs entry content source name to image made
 
 -- the file that was put there isn't locked, for this reason
 abbrev pub IsUnlockedFor : Slot → (to : List ℕ) → Changed → CommandFault → Type 0
 IsUnlockedFor entry to first why =
     IsLocked entry × (bytes : List ℕ) × (sectors_in bytes ≡ disk_image first.disk) × IsLockRefusal bytes to why
 
--- why the file with this entry isn't copied: it is relative, or has no type; or it isn't put on the disk, or not locked there
+-- why the file with this entry isn't copied by its bytes: it has no type, or is relative; or it isn't put on the disk, or not
+-- locked there
 abbrev pub IsNoCopyOf : Slot → (content to image : List ℕ) → CommandFault → Type 0
 IsNoCopyOf entry content to image why = ((why ≡ faults.NoFile) × (plain_type entry ≡ None))
     ⊎ ((kind : FileType) × (plain_type entry ≡ Some kind) × (IsPutRefusal image to kind content why
     ⊎ ((first : Changed) × IsPut image to kind content first × IsUnlockedFor entry to first why)))
+
+-- why the records of a file aren't all there: as they aren't all printed
+abbrev pub IsNoTextOf : (source name : List ℕ) → CommandFault → Type 0
+IsNoTextOf source name faults.ImageSize = length source ≢ 174848
+IsNoTextOf source name faults.NoMemory = length source ≡ 174848
+IsNoTextOf source name (faults.Layout fault) =
+    HasNoReached (sectors_in source) name fault ⊎ IsReachedFile (sectors_in source) name fault
+IsNoTextOf source name faults.NoFile = HasNoRecordFile source name
+IsNoTextOf source name (faults.Short p) =
+    (file : File) × (is : IsRecordFile source name file) × IsToldOfImage source (Some is.number) (Some p)
+IsNoTextOf source name _ = ⊥
+
+-- why these records aren't copied: the entry's record length is none; or the file isn't made, or not filled, or not locked
+abbrev pub IsNoRecordCopyOf : Slot → (given to image : List ℕ) → CommandFault → Type 0
+IsNoRecordCopyOf entry given to image why = ((why ≡ faults.NoFile) × ¬ (IsLength (record_length entry)))
+    ⊎ (IsMakeRefusal image to Refused why
+    ⊎ ((first : Changed) × IsMade image to (record_length entry) Refused first × (bytes : List ℕ)
+    × (sectors_in bytes ≡ disk_image first.disk) × (IsStoreRefusal bytes to given Refused why
+    ⊎ ((second : Changed) × IsStored bytes to given Refused second × IsUnlockedFor entry to second why))))
+
+-- why the file with this entry isn't copied
+abbrev pub IsNoCopyAs : Slot → (content source name to image : List ℕ) → CommandFault → Type 0
+IsNoCopyAs entry content source name to image why = IsNoCopyOf entry content to image why
+    ⊎ (IsTrue (is_rel entry) × (IsNoTextOf source name why
+    ⊎ ((given : List ℕ) × IsTextOf source name given × IsNoRecordCopyOf entry given to image why)))
 
 -- why no file is copied: the other image has none of that name that is whole, or it isn't copied
 abbrev pub IsCopyRefusal : (source name to image : List ℕ) → CommandFault → Type 0
 IsCopyRefusal source name to image faults.NoMemory = (length source ≡ 174848) ⊎ (length image ≡ 174848)
 IsCopyRefusal source name to image why = IsNoWholeFile source name why
     ⊎ ((entry : Slot) × (content : List ℕ) × IsWholeFile source name entry content
-    × IsNoCopyOf entry content to image why)
+    × IsNoCopyAs entry content source name to image why)

@@ -1,5 +1,6 @@
 pub mod lines
 pub mod mended
+pub mod Art
 pub mod Changes
 pub mod Copies
 pub mod Deletes

@@ -41,7 +41,7 @@ pub enum Change<'a> {
         kind: FileType,
         content: &'a [u8],
     },
-    /// A copy of the first closed file with this name of another image, PRG, SEQ or USR, which gets the name `to`.
+    /// A copy of the first closed file with this name of another image, PRG, SEQ, USR or REL, which gets the name `to`.
     CopyFile {
         source: &'a [u8],
         name: &'a [u8],

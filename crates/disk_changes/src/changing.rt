@@ -1,7 +1,10 @@
 //! A change, as a function of an image's bytes.
-ghost use Rattle.std.specs.Prelude.{IfErr, IfOk};
-ghost use Rattle.disk_changes.specs.Changes.{IsChanged, IsFit, IsRefused};
+ghost use Rattle.std.specs.Prelude.{◌≡◌, IfErr, IfOk, true};
+ghost use Rattle.disk_changes.specs.Art.{IsBesideArt};
+ghost use Rattle.disk_changes.specs.Changes.{IsBarred, IsChanged, IsDone, IsFit, IsRefused};
+ghost use Rattle.disk_changes.specs.Changes.{leaves_art as leaves_art_of};
 
+use crate::art::{MAP_TRACK, NO_TRACK, disk_with_art, put_tracks};
 use crate::changes::{Change, Changed};
 use crate::copying::copied;
 use crate::deleting::deleted;
@@ -18,12 +21,11 @@ use crate::undeleting::undeleted;
 use command_faults::CommandFault;
 use std::alloc::Global;
 
-/// The disk that comes of a change to that of the image, and what is printed; or why the change isn't made. Nothing is
-/// read or written.
-pub fn change(alloc: Global, what: &Change<'_>, image: &[u8]) -> Result<Changed, CommandFault>
+/// What comes of a change of an image as it is.
+fn change_plain(alloc: Global, what: &Change<'_>, image: &[u8]) -> Result<Changed, CommandFault>
     requires fit { IsFit what.now }
-    ensures ok { IfOk result (IsChanged what.now image.now) }
-    ensures err { IfErr result (IsRefused what.now image.now) }
+    ensures ok { IfOk result (IsDone what.now image.now) }
+    ensures err { IfErr result (IsBarred what.now image.now) }
 {
     match *what {
         Change::Rename { from, to } => renamed(alloc, image, from, to),
@@ -42,5 +44,59 @@ pub fn change(alloc: Global, what: &Change<'_>, image: &[u8]) -> Result<Changed,
         Change::Store { name, text, cut } => stored(alloc, image, name, text, cut),
         Change::Repair { free, cut } => repaired(alloc, image, free, cut),
         Change::Rebuild { free, cut } => rebuilt(alloc, image, free, cut),
+    }
+}
+
+/// Whether a change neither moves directory art nor says of a disk with art that it is in order.
+fn leaves_art(what: &Change<'_>) -> bool
+    ensures { result ≡ leaves_art_of what.now }
+{
+    !matches!(
+        *what,
+        Change::Sort | Change::Repair { .. } | Change::Rebuild { .. }
+    )
+}
+
+/// What comes of a change while the directory art at 18/0 is aside. If there is none, the change is refused for this reason.
+fn change_beside_art(
+    alloc: Global,
+    what: &Change<'_>,
+    image: &[u8],
+    fault: CommandFault,
+) -> Result<Changed, CommandFault>
+    requires fit { IsFit what.now }
+    requires leaves { leaves_art_of what.now ≡ true }
+    requires barred { IsBarred what.now image.now fault }
+    ensures ok { IfOk result (IsBesideArt (IsDone what.now) image.now) }
+    ensures err { IfErr result (IsRefused what.now image.now) }
+{
+    let Some((mut disk, entries)) = disk_with_art(alloc, image) else {
+        return Err(fault);
+    };
+    put_tracks(&mut disk, entries.as_slice(), NO_TRACK);
+    let mut made = change_plain(alloc, what, disk.bytes())?;
+    put_tracks(&mut made.disk, entries.as_slice(), MAP_TRACK);
+    Ok(made)
+}
+
+/// The disk that comes of a change to that of the image, and what is printed; or why the change isn't made. Nothing is
+/// read or written.
+///
+/// Directory art at 18/0 makes a disk unsound (`OwnedTwice`). If the disk is refused for such a fault, the art is put aside: its
+/// first block becomes none. The change is made so, and then it is 18/0 again. `Sort` and the repairs refuse such a disk.
+pub fn change(alloc: Global, what: &Change<'_>, image: &[u8]) -> Result<Changed, CommandFault>
+    requires fit { IsFit what.now }
+    ensures ok { IfOk result (IsChanged what.now image.now) }
+    ensures err { IfErr result (IsRefused what.now image.now) }
+{
+    match change_plain(alloc, what, image) {
+        Ok(made) => Ok(made),
+        Err(fault) => {
+            if matches!(fault, CommandFault::Layout(_)) && leaves_art(what) {
+                change_beside_art(alloc, what, image, fault)
+            } else {
+                Err(fault)
+            }
+        }
     }
 }

@@ -1,12 +1,14 @@
-//! Laws of records that are stored, and of repairs, each the contract of a function that does nothing.
+//! Laws of records that are stored, of repairs, and of directory art, each the contract of a function that does nothing.
 ghost use Rattle.std.specs.Prelude.{◌≡◌, ◌≤◌, ◌⊎◌, ◌++◌, ℕ, Bool, List, [], drop, length};
 ghost use Rattle.std.specs.Io.KnownBytes.{Appends};
 ghost use Rattle.line_text.specs.bytes.Texts.{AreBytes};
 ghost use Rattle.d64_image.specs.History.{WritesNothing};
 ghost use Rattle.d64_image.specs.Images.{Image};
 ghost use Rattle.d64_image.specs.Memory.{sectors_in};
-ghost use Rattle.disk_layout.specs.Layout.{File, record_length};
+ghost use Rattle.disk_layout.specs.Layout.{File, IsSound, record_length};
 ghost use Rattle.disk_layout.specs.Records.{records};
+ghost use Rattle.disk_layout.specs.declared.slot.Slot.{Slot};
+ghost use Rattle.disk_changes.specs.Art.{HasArt};
 ghost use Rattle.disk_changes.specs.lines.ColumnLines.{plain_text};
 ghost use Rattle.file_rescues.specs.Forms.{HasPositions, records_as};
 ghost use Rattle.file_rescues.specs.Printed.{AreRecordsPrinted};
@@ -119,4 +121,9 @@ pub fn stored_again_is_quiet<D: Sectors, W: Write>()
         → D.history.image c ≡ D.history.image b → IsStoredDisk D.history image name text a b
         → IsStoreDone D.history W.contents again name text c d before out
         → Appends (W.contents before) (W.contents out) [] }
+{}
+
+/// A sound disk has no directory art at 18/0, so a change is made of it as it is.
+pub fn sound_disks_have_no_art()
+    ensures { (image : List ℕ) (entries : List Slot) → IsSound (sectors_in image) → ¬ (HasArt image entries) }
 {}

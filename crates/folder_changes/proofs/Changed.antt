@@ -6,7 +6,7 @@ use Rattle.command_faults.specs.Outputs.{HandsPart}
 use Rattle.d64_image.specs.Images.{Image}
 use Rattle.d64_image.specs.Memory.{disk_image, sectors_in}
 use Rattle.disk_changes.proofs.Copied.{copied-in-memory}
-use Rattle.disk_changes.specs.Changes.{IsChanged, IsRefused}
+use Rattle.disk_changes.specs.Changes.{IsBarred, IsChanged, IsDone, IsRefused}
 use Rattle.disk_changes.specs.declared.changes.Change.{Change}
 use Rattle.disk_changes.specs.declared.changes.Change.TheVariants as changes
 use Rattle.disk_changes.specs.declared.changes.Changed.{Changed}
@@ -54,33 +54,44 @@ printed contents Is Refuses before after made is (Ok left) all part output = (ma
 printed contents Is Refuses before after made is (Err fault) all part output =
     subst (λ (s : CommandFault). IsToldAs contents Is Refuses before after (Err s)) (sym output) (made, is, part)
 
--- what refuses a change in memory is neither the output nor the device
+-- what bars a change in memory is neither the output nor the device
+barred-in-memory : (what : Change) (image : List ℕ) → (IsBarred what image faults.File → ⊥) × (IsBarred what image faults.Device → ⊥)
+barred-in-memory (changes.Rebuild free cut) image =
+    (λ why. ⊎_elim (λ w. w) (λ w. w.2) why, λ why. ⊎_elim (λ w. w) (λ w. w.2) why)
+barred-in-memory (changes.Undelete kind name) image =
+    (λ why. ⊎_elim (λ w. w) (λ w. w.2) why, λ why. ⊎_elim (λ w. w) (λ w. w.2) why)
+barred-in-memory (changes.CopyFile source name to) image = copied-in-memory source.now name.now to.now image
+barred-in-memory changes.Sort image = (λ why. ⊎_elim (λ w. w) (λ w. w.3) why, λ why. ⊎_elim (λ w. w) (λ w. w.3) why)
+barred-in-memory _ image = (λ why. why, λ why. why)
+
+-- and so it is with art aside
 pub in-memory : (what : Change) (image : List ℕ) → (IsRefused what image faults.File → ⊥) × (IsRefused what image faults.Device → ⊥)
-in-memory (changes.Rebuild free cut) image =
-    (λ why. ⊎_elim (λ w. w) (λ w. w.2) why, λ why. ⊎_elim (λ w. w) (λ w. w.2) why)
-in-memory (changes.Undelete kind name) image =
-    (λ why. ⊎_elim (λ w. w) (λ w. w.2) why, λ why. ⊎_elim (λ w. w) (λ w. w.2) why)
-in-memory (changes.CopyFile source name to) image = copied-in-memory source.now name.now to.now image
-in-memory changes.Sort image = (λ why. ⊎_elim (λ w. w) (λ w. w.3) why, λ why. ⊎_elim (λ w. w) (λ w. w.3) why)
-in-memory _ image = (λ why. why, λ why. why)
+in-memory what image = (
+  λ why. ⊎_elim (barred-in-memory what image).0 (λ w. (barred-in-memory what w.1).0 w.3) why,
+  λ why. ⊎_elim (barred-in-memory what image).1 (λ w. (barred-in-memory what w.1).1 w.3) why,
+)
 
 -- an image that is changed has the size of one
+sized-done : (what : Change) (image : List ℕ) (made : Changed) → IsDone what image made → length image ≡ 174848
+sized-done (changes.Rename from to) image made is = is.before.size
+sized-done (changes.Title id name) image made is = is.before.size
+sized-done (changes.Lock lock name) image made is = is.before.size
+sized-done (changes.Delete name) image made is = is.before.taken.0
+sized-done (changes.Undelete kind name) image made is = is.retyped.before.size
+sized-done (changes.CopyFile source name to) image made is =
+    ⊎_elim (λ plain. plain.put.before.taken.0) (λ records. records.3.new.before.taken.0) is.copy
+sized-done changes.Sort image made is = is.before.size
+sized-done (changes.Put name kind content) image made is = is.before.taken.0
+sized-done (changes.Make name L cut) image made is = is.before.taken.0
+sized-done (changes.Store name text cut) image made is = is.before.taken.0
+sized-done (changes.Repair free cut) image made is = is.before.0
+sized-done (changes.Rebuild free cut) image made is = ⊎_elim (λ w. w.built.0) (λ w. w.size) is
+
 pub sized : (what : Change) (image : List ℕ) (made : Changed) → IsChanged what image made → length image ≡ 174848
-sized (changes.Rename from to) image made is = is.before.size
-sized (changes.Title id name) image made is = is.before.size
-sized (changes.Lock lock name) image made is = is.before.size
-sized (changes.Delete name) image made is = is.before.taken.0
-sized (changes.Undelete kind name) image made is = is.retyped.before.size
-sized (changes.CopyFile source name to) image made is = is.copy.put.before.taken.0
-sized changes.Sort image made is = is.before.size
-sized (changes.Put name kind content) image made is = is.before.taken.0
-sized (changes.Make name L cut) image made is = is.before.taken.0
-sized (changes.Store name text cut) image made is = is.before.taken.0
-sized (changes.Repair free cut) image made is = is.before.0
-sized (changes.Rebuild free cut) image made is = ⊎_elim (λ w. w.built.0) (λ w. w.size) is
+sized what image made is = ⊎_elim (sized-done what image made) (λ w. w.1.aside.art.size) is
 
 -- each change may want memory
-no-memory : (what : Change) (image : List ℕ) → length image ≡ 174848 → IsRefused what image faults.NoMemory
+no-memory : (what : Change) (image : List ℕ) → length image ≡ 174848 → IsBarred what image faults.NoMemory
 no-memory (changes.Rebuild free cut) image size = inl size
 no-memory (changes.Undelete kind name) image size = inl size
 no-memory (changes.CopyFile source name to) image size = inr size
@@ -94,7 +105,7 @@ pub unplaced : {W D : Type 0} (h : FolderHistory D) (contents : W → Option (Li
     → IsToldAs contents (IsMade h what image old new) (IsLeft h what image old new) w w (Err fault)
 unplaced h contents what image old new w fault size (inl (is, same)) =
     subst (λ (f : CommandFault). IsToldAs contents (IsMade h what image old new) (IsLeft h what image old new) w w (Err f))
-    (sym is) ((no-memory what image size, same), refl)
+    (sym is) ((inl (no-memory what image size), same), refl)
 unplaced h contents what image old new w fault size (inr (is, failed)) =
     subst (λ (f : CommandFault). IsToldAs contents (IsMade h what image old new) (IsLeft h what image old new) w w (Err f))
     (sym is) refl

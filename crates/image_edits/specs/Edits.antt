@@ -1,5 +1,6 @@
 -- What comes of a change of an image's files, as the words ask for it. Our own.
-use Rattle.std.specs.Prelude.{◌≡◌, ◌≤◌, ⊤, ℕ, Bool, List, Some, false, length, take, true}
+use Rattle.std.specs.Prelude.{◌≡◌, ◌≤◌, ◌⊎◌, ⊤, ℕ, Bool, List, Some, false, length, take, true}
+use Rattle.disk_changes.specs.Art.{IsAside, IsBesideArt}
 use Rattle.disk_changes.specs.Copies.{IsCopied, IsCopyRefusal}
 use Rattle.disk_changes.specs.Deletes.{IsDeleteRefusal, IsDeleted}
 use Rattle.disk_changes.specs.Locks.{IsLockRefusal, IsLockSet}
@@ -68,34 +69,51 @@ IsTextFor rights stands host (edits.CopyFile from loss name to) text =
     OfImage rights stands host from.now (λ all. text ≡ take 174849 all)
 IsTextFor rights stands host _ text = ⊤
 
--- the change was made
-abbrev pub IsEdited : Edit → (text image : List ℕ) → Changed → Type 0
-IsEdited (edits.Repair loss unowned) text image made = IsRepaired image (frees unowned) loss made
-IsEdited (edits.RepairSides loss unowned) text image made = IsRebuilt image (frees unowned) loss made
-IsEdited (edits.Make size loss name) text image made = IsMade image (name_bytes name) size loss made
-IsEdited (edits.Rename loss from to) text image made = IsRenamed image (name_bytes from) (name_bytes to) made
-IsEdited (edits.Title id loss name) text image made = IsTitled image (name_bytes name) id made
-IsEdited (edits.Lock lock loss name) text image made = IsLockSet image (name_bytes name) lock made
-IsEdited (edits.Delete loss name) text image made = IsDeleted image (name_bytes name) made
-IsEdited (edits.Undelete kind loss name) text image made = IsUndeleted image (name_bytes name) kind made
-IsEdited (edits.Sort loss) text image made = IsSorted image made
-IsEdited (edits.Put file kind loss name) text image made = IsPut image (name_bytes name) kind text made
-IsEdited (edits.CopyFile from loss name to) text image made = IsCopied text (name_bytes name) (name_bytes to) image made
-IsEdited (edits.Store records columns loss name) text image made =
+-- the change was made of an image as it is
+abbrev pub IsDone : Edit → (text image : List ℕ) → Changed → Type 0
+IsDone (edits.Repair loss unowned) text image made = IsRepaired image (frees unowned) loss made
+IsDone (edits.RepairSides loss unowned) text image made = IsRebuilt image (frees unowned) loss made
+IsDone (edits.Make size loss name) text image made = IsMade image (name_bytes name) size loss made
+IsDone (edits.Rename loss from to) text image made = IsRenamed image (name_bytes from) (name_bytes to) made
+IsDone (edits.Title id loss name) text image made = IsTitled image (name_bytes name) id made
+IsDone (edits.Lock lock loss name) text image made = IsLockSet image (name_bytes name) lock made
+IsDone (edits.Delete loss name) text image made = IsDeleted image (name_bytes name) made
+IsDone (edits.Undelete kind loss name) text image made = IsUndeleted image (name_bytes name) kind made
+IsDone (edits.Sort loss) text image made = IsSorted image made
+IsDone (edits.Put file kind loss name) text image made = IsPut image (name_bytes name) kind text made
+IsDone (edits.CopyFile from loss name to) text image made = IsCopied text (name_bytes name) (name_bytes to) image made
+IsDone (edits.Store records columns loss name) text image made =
     IsStored image (name_bytes name) text loss made
 
 -- it wasn't, for this reason
-abbrev pub IsUnedited : Edit → (text image : List ℕ) → CommandFault → Type 0
-IsUnedited (edits.Repair loss unowned) text image why = IsRepairRefusal image why
-IsUnedited (edits.RepairSides loss unowned) text image why = IsRebuildRefusal image why
-IsUnedited (edits.Make size loss name) text image why = IsMakeRefusal image (name_bytes name) loss why
-IsUnedited (edits.Rename loss from to) text image why = IsRenameRefusal image (name_bytes from) (name_bytes to) why
-IsUnedited (edits.Title id loss name) text image why = IsUnsoundOrShort image why
-IsUnedited (edits.Lock lock loss name) text image why = IsLockRefusal image (name_bytes name) why
-IsUnedited (edits.Delete loss name) text image why = IsDeleteRefusal image (name_bytes name) why
-IsUnedited (edits.Undelete kind loss name) text image why = IsUndeleteRefusal image (name_bytes name) kind why
-IsUnedited (edits.Sort loss) text image why = IsSortRefusal image why
-IsUnedited (edits.Put file kind loss name) text image why = IsPutRefusal image (name_bytes name) kind text why
-IsUnedited (edits.CopyFile from loss name to) text image why = IsCopyRefusal text (name_bytes name) (name_bytes to) image why
-IsUnedited (edits.Store records columns loss name) text image why =
+abbrev pub IsBarred : Edit → (text image : List ℕ) → CommandFault → Type 0
+IsBarred (edits.Repair loss unowned) text image why = IsRepairRefusal image why
+IsBarred (edits.RepairSides loss unowned) text image why = IsRebuildRefusal image why
+IsBarred (edits.Make size loss name) text image why = IsMakeRefusal image (name_bytes name) loss why
+IsBarred (edits.Rename loss from to) text image why = IsRenameRefusal image (name_bytes from) (name_bytes to) why
+IsBarred (edits.Title id loss name) text image why = IsUnsoundOrShort image why
+IsBarred (edits.Lock lock loss name) text image why = IsLockRefusal image (name_bytes name) why
+IsBarred (edits.Delete loss name) text image why = IsDeleteRefusal image (name_bytes name) why
+IsBarred (edits.Undelete kind loss name) text image why = IsUndeleteRefusal image (name_bytes name) kind why
+IsBarred (edits.Sort loss) text image why = IsSortRefusal image why
+IsBarred (edits.Put file kind loss name) text image why = IsPutRefusal image (name_bytes name) kind text why
+IsBarred (edits.CopyFile from loss name to) text image why = IsCopyRefusal text (name_bytes name) (name_bytes to) image why
+IsBarred (edits.Store records columns loss name) text image why =
     IsStoreRefusal image (name_bytes name) text loss why
+
+-- it neither moves directory art nor says of a disk with art that it is in order
+abbrev pub leaves_art : Edit → Bool
+leaves_art (edits.Sort loss) = false
+leaves_art (edits.Repair loss unowned) = false
+leaves_art (edits.RepairSides loss unowned) = false
+leaves_art _ = true
+
+-- the change was made, of the image as it is or with its directory art put aside
+abbrev pub IsEdited : Edit → (text image : List ℕ) → Changed → Type 0
+IsEdited edit text image made =
+    IsDone edit text image made ⊎ ((leaves_art edit ≡ true) × IsBesideArt (IsDone edit text) image made)
+
+-- it wasn't, for this reason
+abbrev pub IsUnedited : Edit → (text image : List ℕ) → CommandFault → Type 0
+IsUnedited edit text image why = IsBarred edit text image why
+    ⊎ ((leaves_art edit ≡ true) × (bytes : List ℕ) × IsAside image bytes × IsBarred edit text bytes why)

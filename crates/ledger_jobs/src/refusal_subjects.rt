@@ -154,8 +154,7 @@ fn about_fault(fault: CommandFault) -> Advice {
 const ONE_IMAGE: &str =
     "FROM and IMAGE have to be two files; `bytes` and `put` copy a file on one disk";
 
-const NO_SOURCE: &str =
-    "it has no closed PRG, SEQ or USR file of this name; `records`, `make` and `store` copy a relative one";
+const NO_SOURCE: &str = "it has no closed PRG, SEQ, USR or REL file of this name";
 
 /// What a refusal of a file's copy between these two images is about: of many it isn't known which of them it is.
 fn about_copy(from: &str, image: &str, fault: CommandFault) -> Advice {

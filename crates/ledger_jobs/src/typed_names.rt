@@ -2,8 +2,13 @@
 
 use crate::jobs::Job;
 use image_edits::Edit;
+use line_text::Text;
 use opened_files::Name;
-use std::io::Write;
+use std::io::{self, Write};
+
+/// What is said of a name in which a drive reads a byte as something else.
+const OTHERWISE: &str =
+    "a drive reads $ * ? , : in a name otherwise, so LOAD may not find this one";
 
 /// The name that a job gives a file.
 fn given_name<'j>(job: &'j Job<'_>) -> Option<&'j Name> {
@@ -24,15 +29,27 @@ fn is_read_otherwise(byte: &u8) -> bool {
     matches!(byte, b'$' | b'*' | b'?' | b',' | b':')
 }
 
-/// What is said of a name that a C64 can't ask for.
-fn said_of_name(name: &[u8]) -> Option<&'static str> {
-    if name.iter().any(|byte| byte.is_ascii_lowercase()) {
-        return Some("no key of a C64 gives these small letters; type its letters as capitals");
+/// The byte of a letter as c1541 writes it: a small one has the byte of its capital, a capital that of the shifted letter. Other bytes
+/// stay.
+fn keyed(byte: u8) -> u8 {
+    match byte {
+        b'a'..=b'z' => byte & 0xDF,
+        b'A'..=b'Z' => byte | 0x80,
+        _ => byte,
     }
-    if name.iter().any(is_read_otherwise) {
-        return Some("a drive reads $ * ? , : in a name otherwise, so LOAD may not find this one");
+}
+
+/// Prints what to type in place of a name that has small letters.
+fn print_keyed<E: Write>(name: &[u8], err: &mut E) -> io::Result<()> {
+    write!(
+        err,
+        "ledger: no key of a C64 gives these small letters; as c1541 writes them, type '"
+    )?;
+    for &byte in name {
+        let bytes = [keyed(byte)];
+        write!(err, "{}", Text(&bytes))?;
     }
-    None
+    writeln!(err, "'")
 }
 
 /// Prints that a C64 can't ask for the name that a job gives a file, if it can't.
@@ -40,7 +57,10 @@ pub(crate) fn warn_of_name<E: Write>(job: &Job<'_>, err: &mut E) {
     let Some(name) = given_name(job) else {
         return;
     };
-    if let Some(said) = said_of_name(name.as_bytes()) {
-        let _ = writeln!(err, "ledger: {said}");
+    let name = name.as_bytes();
+    if name.iter().any(|byte| byte.is_ascii_lowercase()) {
+        let _ = print_keyed(name, err);
+    } else if name.iter().any(is_read_otherwise) {
+        let _ = writeln!(err, "ledger: {OTHERWISE}");
     }
 }

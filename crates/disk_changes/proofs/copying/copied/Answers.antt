@@ -1,9 +1,24 @@
 -- The file that was found was copied, or not.
-use Rattle.std.proofs.Common.{List, subst, ℕ}
+use Rattle.std.proofs.Common.{List, inl, inr, subst, ℕ}
 use Rattle.std.proofs.lemmas.Result.{IfErr-weaker, IfOk-weaker}
 use Rattle.disk_changes.proofs.Copied.{not-copied}
 use Rattle.disk_changes.specs.Copies.{IsCopyOf, IsNoCopyOf}
 use Rattle.disk_changes.proofs.copying.copied.Goals as goal
+
+pub returns-then-is_relative-clause-ok : goal.returns-then-is_relative-clause-ok
+returns-then-is_relative-clause-ok c = IfOk-weaker c.relative_copy.result _ _
+    (λ made is. record {
+      entry = c.in_ok-entry.entry;
+      content = c.in_ok-entry.content.items;
+      file = c.in_ok-entry.ensures.ok;
+      copy = inr (c.is_relative.ensures.0 c.if-is_relative.true, is.0, is.1, is.2);
+    }) c.relative_copy.ensures.ok
+
+pub returns-then-is_relative-clause-err : goal.returns-then-is_relative-clause-err
+returns-then-is_relative-clause-err c = IfErr-weaker c.relative_copy.result _ _
+    (λ why no. not-copied c.args.source.now c.args.name.now c.args.to.now c.args.image.now c.in_ok-entry.entry
+    c.in_ok-entry.content.items c.in_ok-entry.ensures.ok why (inr (c.is_relative.ensures.0 c.if-is_relative.true, no)))
+    c.relative_copy.ensures.err
 
 pub returns-clause-ok : goal.returns-clause-ok
 returns-clause-ok c = IfOk-weaker c.copy_of.result _ _
@@ -11,13 +26,13 @@ returns-clause-ok c = IfOk-weaker c.copy_of.result _ _
       entry = c.in_ok-entry.entry;
       content = c.in_ok-entry.content.items;
       file = c.in_ok-entry.ensures.ok;
-      copy = subst (λ (bytes : List ℕ). IsCopyOf c.in_ok-entry.entry bytes c.args.to.now c.args.image.now made)
-          c.as_slice.ensures.value is;
+      copy = inl (subst (λ (bytes : List ℕ). IsCopyOf c.in_ok-entry.entry bytes c.args.to.now c.args.image.now made)
+          c.as_slice.ensures.value is);
     }) c.copy_of.ensures.ok
 
 pub returns-clause-err : goal.returns-clause-err
 returns-clause-err c = IfErr-weaker c.copy_of.result _ _
     (λ why no. not-copied c.args.source.now c.args.name.now c.args.to.now c.args.image.now c.in_ok-entry.entry
     c.in_ok-entry.content.items c.in_ok-entry.ensures.ok why
-    (subst (λ (bytes : List ℕ). IsNoCopyOf c.in_ok-entry.entry bytes c.args.to.now c.args.image.now why) c.as_slice.ensures.value no))
+    (inl (subst (λ (bytes : List ℕ). IsNoCopyOf c.in_ok-entry.entry bytes c.args.to.now c.args.image.now why) c.as_slice.ensures.value no)))
     c.copy_of.ensures.err
