@@ -37,7 +37,7 @@ module _ (source name to image : List ℕ) where
     no-records given (inr (inr (first, new, bytes, held, inr (second, filled, (locked, after, same, refused))))) = lock after refused
 
     never : IsNoCopyAs entry content source name to image why → ⊥
-    never (inl plain) = no-copy plain
+    never (inl (plain, because)) = no-copy because
     never (inr (relative, inl unread)) = text unread
     never (inr (relative, inr (given, is, unmade))) = no-records given unmade
 

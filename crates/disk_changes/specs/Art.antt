@@ -1,11 +1,14 @@
 -- Directory art at 18/0, the sector of the map, which no sound disk has; it is put aside while a disk is changed. Our own.
-use Rattle.std.specs.Prelude.{◌≡◌, ◌&&◌, ◌+◌, ◌*◌, ◌∷◌, [], Bool, List, if◌then◌else◌, length, nat_eq, slice_index, true, ℕ}
+use Rattle.std.specs.Prelude.{◌≡◌, ◌⊎◌, ◌&&◌, ◌+◌, ◌*◌, ◌∷◌, [], Bool, List, false, if◌then◌else◌, length, nat_eq, slice_index, true}
+use Rattle.std.specs.Prelude.{ℕ}
 use Rattle.std.specs.List.{list_any}
 use Rattle.d64_image.specs.Images.{Image}
 use Rattle.d64_image.specs.Memory.{disk_image, sectors_in}
 use Rattle.d64_image.specs.declared.place.Place.{Place}
 use Rattle.disk_changes.specs.declared.changes.Changed.{Changed}
 use Rattle.disk_layout.specs.Directory.{IsDirectory}
+use Rattle.disk_layout.specs.Fault.{HoldsOfDirectory, nowhere}
+use Rattle.disk_layout.specs.declared.faults.Fault.{Fault}
 use Rattle.disk_layout.specs.declared.slot.Slot.{Slot}
 use Rattle.file_changes.specs.Patches.{patched}
 use Rattle.file_rescues.specs.rescue.Art.{is_art}
@@ -30,7 +33,12 @@ pub record HasArt (image : List ℕ) (entries : List Slot) : Type 0 where
   pub directory : IsDirectory (sectors_in image) sectors entries
   pub some : list_any is_on_map entries ≡ true
 
--- and the bytes are the image in which its first block is none, as if it began nowhere
+-- its directory has none, or can't be read
+abbrev pub HasNoArt : (image : List ℕ) → Type 0
+HasNoArt image = ((entries : List Slot) × (sectors : List Place) × IsDirectory (sectors_in image) sectors entries
+    × (list_any is_on_map entries ≡ false)) ⊎ ((fault : Fault) × HoldsOfDirectory nowhere (sectors_in image) fault)
+
+-- the bytes are the image in which its art begins nowhere: its first block is none
 pub record IsAside (image bytes : List ℕ) : Type 0 where
   pub entries : List Slot
   pub art : HasArt image entries

@@ -1,6 +1,7 @@
 -- What comes of a change to an image, or why it isn't made. Our own.
 use Rattle.std.specs.Prelude.{◌≡◌, ◌≤◌, ◌⊎◌, Bool, List, false, length, true, ℕ}
-use Rattle.disk_changes.specs.Art.{IsAside, IsBesideArt}
+use Rattle.command_faults.specs.Faults.{IsLoadFault}
+use Rattle.disk_changes.specs.Art.{HasNoArt, IsAside, IsBesideArt}
 use Rattle.disk_changes.specs.Copies.{IsCopied, IsCopyRefusal}
 use Rattle.disk_changes.specs.Deletes.{IsDeleteRefusal, IsDeleted}
 use Rattle.disk_changes.specs.Locks.{IsLockRefusal, IsLockSet}
@@ -18,6 +19,7 @@ use Rattle.disk_changes.specs.declared.changes.Change.{Change}
 use Rattle.disk_changes.specs.declared.changes.Change.TheVariants as changes
 use Rattle.disk_changes.specs.declared.changes.Changed.{Changed}
 use Rattle.command_faults.specs.declared.faults.CommandFault.{CommandFault}
+use Rattle.command_faults.specs.declared.faults.CommandFault.TheVariants as faults
 use Rattle.rel_records.specs.File.{IsLength}
 
 -- the name that a file gets fits an entry, and so does the length of its records
@@ -76,7 +78,16 @@ leaves_art _ = true
 abbrev pub IsChanged : Change → (image : List ℕ) → Changed → Type 0
 IsChanged what image made = IsDone what image made ⊎ ((leaves_art what ≡ true) × IsBesideArt (IsDone what) image made)
 
--- it wasn't, for this reason
+-- the layout has a fault
+abbrev pub is_layout : CommandFault → Bool
+is_layout (faults.Layout fault) = true
+is_layout _ = false
+
+-- it is no help to put art aside: the layout has no fault, the change doesn't leave art, or there is none
+abbrev pub IsFinal : Change → (image : List ℕ) → CommandFault → Type 0
+IsFinal what image why = (is_layout why ≡ false) ⊎ ((leaves_art what ≡ false) ⊎ HasNoArt image)
+
+-- it wasn't, for this reason: of the image as it is, or with its art put aside, for which there may have been no memory
 abbrev pub IsRefused : Change → (image : List ℕ) → CommandFault → Type 0
-IsRefused what image why = IsBarred what image why
-    ⊎ ((leaves_art what ≡ true) × (bytes : List ℕ) × IsAside image bytes × IsBarred what bytes why)
+IsRefused what image why = (IsBarred what image why × IsFinal what image why) ⊎ (IsLoadFault image why
+    ⊎ ((leaves_art what ≡ true) × (bytes : List ℕ) × IsAside image bytes × IsBarred what bytes why))

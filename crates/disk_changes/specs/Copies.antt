@@ -69,7 +69,7 @@ pub record IsRecordCopyOf (entry : Slot) (given to image : List ℕ) (made : Cha
 
 -- the file with this entry is relative, and its records are copied so; or its bytes are
 abbrev pub IsCopyAs : Slot → (content source name to image : List ℕ) → Changed → Type 0
-IsCopyAs entry content source name to image made = IsCopyOf entry content to image made
+IsCopyAs entry content source name to image made = (¬ (IsTrue (is_rel entry)) × IsCopyOf entry content to image made)
     ⊎ (IsTrue (is_rel entry) × (given : List ℕ) × IsTextOf source name given × IsRecordCopyOf entry given to image made)
 
 -- The first closed file of that name of the other image is copied so.
@@ -84,8 +84,7 @@ abbrev pub IsUnlockedFor : Slot → (to : List ℕ) → Changed → CommandFault
 IsUnlockedFor entry to first why =
     IsLocked entry × (bytes : List ℕ) × (sectors_in bytes ≡ disk_image first.disk) × IsLockRefusal bytes to why
 
--- why the file with this entry isn't copied by its bytes: it has no type, or is relative; or it isn't put on the disk, or not
--- locked there
+-- why the file with this entry isn't copied by its bytes: it has no such type; or it isn't put on the disk, or not locked there
 abbrev pub IsNoCopyOf : Slot → (content to image : List ℕ) → CommandFault → Type 0
 IsNoCopyOf entry content to image why = ((why ≡ faults.NoFile) × (plain_type entry ≡ None))
     ⊎ ((kind : FileType) × (plain_type entry ≡ Some kind) × (IsPutRefusal image to kind content why
@@ -112,7 +111,7 @@ IsNoRecordCopyOf entry given to image why = ((why ≡ faults.NoFile) × ¬ (IsLe
 
 -- why the file with this entry isn't copied
 abbrev pub IsNoCopyAs : Slot → (content source name to image : List ℕ) → CommandFault → Type 0
-IsNoCopyAs entry content source name to image why = IsNoCopyOf entry content to image why
+IsNoCopyAs entry content source name to image why = (¬ (IsTrue (is_rel entry)) × IsNoCopyOf entry content to image why)
     ⊎ (IsTrue (is_rel entry) × (IsNoTextOf source name why
     ⊎ ((given : List ℕ) × IsTextOf source name given × IsNoRecordCopyOf entry given to image why)))
 

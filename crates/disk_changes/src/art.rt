@@ -1,13 +1,14 @@
 //! Directory art at 18/0, the sector of the map, put aside while a disk is changed.
-ghost use Rattle.std.specs.Prelude.{◌≡◌, ◌<◌, Contains, IfSome};
+ghost use Rattle.std.specs.Prelude.{◌≡◌, ◌<◌, Contains, IfErr, IfOk, MatchOption};
+ghost use Rattle.command_faults.specs.Faults.{IsLoadFault};
 ghost use Rattle.std.specs.List.{list_any};
 ghost use Rattle.d64_image.specs.Memory.{disk_image, sectors_in};
 ghost use Rattle.disk_changes.specs.Art as art;
-ghost use Rattle.disk_changes.specs.Art.{HasArt, with_track, with_tracks};
+ghost use Rattle.disk_changes.specs.Art.{HasArt, HasNoArt, with_track, with_tracks};
 ghost use Rattle.disk_layout.specs.declared.slot.Slot.{Slot};
 
 use arrayvec::ArrayVec;
-use command_faults::load;
+use command_faults::{CommandFault, load};
 use d64_image::{MemDisk, Sectors};
 use disk_layout::{Slot, read_directory};
 use file_changes::overwrite;
@@ -40,22 +41,25 @@ fn has_art(entries: &[Slot]) -> bool
     entries.iter().any(|entry| is_on_map(entry))
 }
 
-/// The disk of an image, and the entries of its directory, if one of them is directory art at 18/0.
-pub(crate) fn disk_with_art(alloc: Global, image: &[u8]) -> Option<(MemDisk, Entries)>
-    ensures art { IfSome result (λ disk. HasArt image.now disk.1.items) }
-    ensures same { IfSome result (λ disk. disk_image disk.0 ≡ sectors_in image.now) }
+/// The disk of an image, and the entries of its directory, if one of them is directory art at 18/0. An error is that of `load`.
+pub(crate) fn disk_with_art(
+    alloc: Global,
+    image: &[u8],
+) -> Result<Option<(MemDisk, Entries)>, CommandFault>
+    ensures found { IfOk result (λ found. MatchOption found (HasNoArt image.now) (λ disk.
+        HasArt image.now disk.1.items × (disk_image disk.0 ≡ sectors_in image.now))) }
+    ensures err { IfErr result (IsLoadFault image.now) }
 {
-    let Ok(mut disk) = load(alloc, image) else {
-        return None;
-    };
+    let mut disk = load(alloc, image)?;
     let mut entries = ArrayVec::new();
     let Ok(()) = read_directory(&mut disk, &mut entries) else {
-        return None;
+        return Ok(None);
     };
-    if !has_art(entries.as_slice()) {
-        return None;
+    if has_art(entries.as_slice()) {
+        Ok(Some((disk, entries)))
+    } else {
+        Ok(None)
     }
-    Some((disk, entries))
 }
 
 /// Writes the track of an entry's first block, if it is directory art at 18/0.

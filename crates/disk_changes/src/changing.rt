@@ -2,7 +2,7 @@
 ghost use Rattle.std.specs.Prelude.{◌≡◌, IfErr, IfOk, true};
 ghost use Rattle.disk_changes.specs.Art.{IsBesideArt};
 ghost use Rattle.disk_changes.specs.Changes.{IsBarred, IsChanged, IsDone, IsFit, IsRefused};
-ghost use Rattle.disk_changes.specs.Changes.{leaves_art as leaves_art_of};
+ghost use Rattle.disk_changes.specs.Changes.{is_layout as is_layout_of, leaves_art as leaves_art_of};
 
 use crate::art::{MAP_TRACK, NO_TRACK, disk_with_art, put_tracks};
 use crate::changes::{Change, Changed};
@@ -57,6 +57,13 @@ fn leaves_art(what: &Change<'_>) -> bool
     )
 }
 
+/// Whether the disk was refused for a fault of its layout.
+fn is_layout(fault: &CommandFault) -> bool
+    ensures { result ≡ is_layout_of fault.now }
+{
+    matches!(*fault, CommandFault::Layout(_))
+}
+
 /// What comes of a change while the directory art at 18/0 is aside. If there is none, the change is refused for this reason.
 fn change_beside_art(
     alloc: Global,
@@ -70,7 +77,7 @@ fn change_beside_art(
     ensures ok { IfOk result (IsBesideArt (IsDone what.now) image.now) }
     ensures err { IfErr result (IsRefused what.now image.now) }
 {
-    let Some((mut disk, entries)) = disk_with_art(alloc, image) else {
+    let Some((mut disk, entries)) = disk_with_art(alloc, image)? else {
         return Err(fault);
     };
     put_tracks(&mut disk, entries.as_slice(), NO_TRACK);
@@ -92,7 +99,7 @@ pub fn change(alloc: Global, what: &Change<'_>, image: &[u8]) -> Result<Changed,
     match change_plain(alloc, what, image) {
         Ok(made) => Ok(made),
         Err(fault) => {
-            if matches!(fault, CommandFault::Layout(_)) && leaves_art(what) {
+            if is_layout(&fault) && leaves_art(what) {
                 change_beside_art(alloc, what, image, fault)
             } else {
                 Err(fault)

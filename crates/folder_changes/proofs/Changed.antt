@@ -67,8 +67,8 @@ barred-in-memory _ image = (λ why. why, λ why. why)
 -- and so it is with art aside
 pub in-memory : (what : Change) (image : List ℕ) → (IsRefused what image faults.File → ⊥) × (IsRefused what image faults.Device → ⊥)
 in-memory what image = (
-  λ why. ⊎_elim (barred-in-memory what image).0 (λ w. (barred-in-memory what w.1).0 w.3) why,
-  λ why. ⊎_elim (barred-in-memory what image).1 (λ w. (barred-in-memory what w.1).1 w.3) why,
+  λ why. ⊎_elim (λ w. (barred-in-memory what image).0 w.0) (λ rest. ⊎_elim (λ load. load) (λ w. (barred-in-memory what w.1).0 w.3) rest) why,
+  λ why. ⊎_elim (λ w. (barred-in-memory what image).1 w.0) (λ rest. ⊎_elim (λ load. load) (λ w. (barred-in-memory what w.1).1 w.3) rest) why,
 )
 
 -- an image that is changed has the size of one
@@ -79,7 +79,7 @@ sized-done (changes.Lock lock name) image made is = is.before.size
 sized-done (changes.Delete name) image made is = is.before.taken.0
 sized-done (changes.Undelete kind name) image made is = is.retyped.before.size
 sized-done (changes.CopyFile source name to) image made is =
-    ⊎_elim (λ plain. plain.put.before.taken.0) (λ records. records.3.new.before.taken.0) is.copy
+    ⊎_elim (λ plain. plain.1.put.before.taken.0) (λ records. records.3.new.before.taken.0) is.copy
 sized-done changes.Sort image made is = is.before.size
 sized-done (changes.Put name kind content) image made is = is.before.taken.0
 sized-done (changes.Make name L cut) image made is = is.before.taken.0
@@ -90,14 +90,6 @@ sized-done (changes.Rebuild free cut) image made is = ⊎_elim (λ w. w.built.0)
 pub sized : (what : Change) (image : List ℕ) (made : Changed) → IsChanged what image made → length image ≡ 174848
 sized what image made is = ⊎_elim (sized-done what image made) (λ w. w.1.aside.art.size) is
 
--- each change may want memory
-no-memory : (what : Change) (image : List ℕ) → length image ≡ 174848 → IsBarred what image faults.NoMemory
-no-memory (changes.Rebuild free cut) image size = inl size
-no-memory (changes.Undelete kind name) image size = inl size
-no-memory (changes.CopyFile source name to) image size = inr size
-no-memory changes.Sort image size = inl size
-no-memory _ image size = size
-
 -- nothing is printed of a change that isn't put in place
 pub unplaced : {W D : Type 0} (h : FolderHistory D) (contents : W → Option (List ℕ)) (what : Change) (image : List ℕ) (old new : D)
     (w : W) (fault : CommandFault) → length image ≡ 174848
@@ -105,7 +97,7 @@ pub unplaced : {W D : Type 0} (h : FolderHistory D) (contents : W → Option (Li
     → IsToldAs contents (IsMade h what image old new) (IsLeft h what image old new) w w (Err fault)
 unplaced h contents what image old new w fault size (inl (is, same)) =
     subst (λ (f : CommandFault). IsToldAs contents (IsMade h what image old new) (IsLeft h what image old new) w w (Err f))
-    (sym is) ((inl (no-memory what image size), same), refl)
+    (sym is) ((inr (inl size), same), refl)
 unplaced h contents what image old new w fault size (inr (is, failed)) =
     subst (λ (f : CommandFault). IsToldAs contents (IsMade h what image old new) (IsLeft h what image old new) w w (Err f))
     (sym is) refl

@@ -26,7 +26,7 @@ returns-clause-ok c = IfOk-weaker c.copy_of.result _ _
       entry = c.in_ok-entry.entry;
       content = c.in_ok-entry.content.items;
       file = c.in_ok-entry.ensures.ok;
-      copy = inl (subst (λ (bytes : List ℕ). IsCopyOf c.in_ok-entry.entry bytes c.args.to.now c.args.image.now made)
+      copy = inl (λ relative. absurd (cc (c.is_relative.ensures.1 relative, c.if-is_relative.false)), subst (λ (bytes : List ℕ). IsCopyOf c.in_ok-entry.entry bytes c.args.to.now c.args.image.now made)
           c.as_slice.ensures.value is);
     }) c.copy_of.ensures.ok
 
@@ -34,5 +34,5 @@ pub returns-clause-err : goal.returns-clause-err
 returns-clause-err c = IfErr-weaker c.copy_of.result _ _
     (λ why no. not-copied c.args.source.now c.args.name.now c.args.to.now c.args.image.now c.in_ok-entry.entry
     c.in_ok-entry.content.items c.in_ok-entry.ensures.ok why
-    (inl (subst (λ (bytes : List ℕ). IsNoCopyOf c.in_ok-entry.entry bytes c.args.to.now c.args.image.now why) c.as_slice.ensures.value no)))
+    (inl (λ relative. absurd (cc (c.is_relative.ensures.1 relative, c.if-is_relative.false)), subst (λ (bytes : List ℕ). IsNoCopyOf c.in_ok-entry.entry bytes c.args.to.now c.args.image.now why) c.as_slice.ensures.value no)))
     c.copy_of.ensures.err
