@@ -26,8 +26,11 @@ returns-clause-ok c = IfOk-weaker c.copy_of.result _ _
       entry = c.in_ok-entry.entry;
       content = c.in_ok-entry.content.items;
       file = c.in_ok-entry.ensures.ok;
-      copy = inl (λ relative. absurd (cc (c.is_relative.ensures.1 relative, c.if-is_relative.false)), subst (λ (bytes : List ℕ). IsCopyOf c.in_ok-entry.entry bytes c.args.to.now c.args.image.now made)
-          c.as_slice.ensures.value is);
+      copy = inl (
+        λ relative. absurd (cc (c.is_relative.ensures.1 relative, c.if-is_relative.false)),
+        subst (λ (bytes : List ℕ). IsCopyOf c.in_ok-entry.entry bytes c.args.to.now c.args.image.now made)
+            c.as_slice.ensures.value is,
+      );
     }) c.copy_of.ensures.ok
 
 pub returns-clause-err : goal.returns-clause-err
