@@ -1,19 +1,8 @@
 -- What comes of a change of an image's files, as the words ask for it. Our own.
-use Rattle.std.specs.Prelude.{◌≡◌, ◌≤◌, ◌⊎◌, ⊤, ℕ, Bool, List, Some, false, length, take, true}
-use Rattle.disk_changes.specs.Art.{IsAside, IsBesideArt}
-use Rattle.disk_changes.specs.Copies.{IsCopied, IsCopyRefusal}
-use Rattle.disk_changes.specs.Deletes.{IsDeleteRefusal, IsDeleted}
-use Rattle.disk_changes.specs.Locks.{IsLockRefusal, IsLockSet}
-use Rattle.disk_changes.specs.Makes.{IsMade, IsMakeRefusal}
-use Rattle.disk_changes.specs.Puts.{IsPut, IsPutRefusal}
-use Rattle.disk_changes.specs.Rebuilds.{IsRebuildRefusal, IsRebuilt}
-use Rattle.disk_changes.specs.Renames.{IsRenameRefusal, IsRenamed}
-use Rattle.disk_changes.specs.Repairs.{IsRepairRefusal, IsRepaired}
-use Rattle.disk_changes.specs.Judged.{IsUnsoundOrShort}
-use Rattle.disk_changes.specs.Sorts.{IsSortRefusal, IsSorted}
-use Rattle.disk_changes.specs.Stores.{IsStoreRefusal, IsStored}
-use Rattle.disk_changes.specs.Titles.{IsTitled}
-use Rattle.disk_changes.specs.Undeletes.{IsUndeleteRefusal, IsUndeleted}
+use Rattle.std.specs.Prelude.{◌≡◌, ◌≤◌, ⊤, ℕ, Bool, List, Some, false, length, take, true}
+use Rattle.disk_changes.specs.Changes.{IsChanged, IsRefused}
+use Rattle.disk_changes.specs.declared.changes.Change.{Change}
+use Rattle.disk_changes.specs.declared.changes.Change.TheVariants as changes
 use Rattle.disk_changes.specs.declared.changes.Changed.{Changed}
 use Rattle.command_faults.specs.declared.faults.CommandFault.{CommandFault}
 use Rattle.image_file.specs.paths.Standing.{Stands}
@@ -69,51 +58,29 @@ IsTextFor rights stands host (edits.CopyFile from loss name to) text =
     OfImage rights stands host from.now (λ all. text ≡ take 174849 all)
 IsTextFor rights stands host _ text = ⊤
 
--- the change was made of an image as it is
-abbrev pub IsDone : Edit → (text image : List ℕ) → Changed → Type 0
-IsDone (edits.Repair loss unowned) text image made = IsRepaired image (frees unowned) loss made
-IsDone (edits.RepairSides loss unowned) text image made = IsRebuilt image (frees unowned) loss made
-IsDone (edits.Make size loss name) text image made = IsMade image (name_bytes name) size loss made
-IsDone (edits.Rename loss from to) text image made = IsRenamed image (name_bytes from) (name_bytes to) made
-IsDone (edits.Title id loss name) text image made = IsTitled image (name_bytes name) id made
-IsDone (edits.Lock lock loss name) text image made = IsLockSet image (name_bytes name) lock made
-IsDone (edits.Delete loss name) text image made = IsDeleted image (name_bytes name) made
-IsDone (edits.Undelete kind loss name) text image made = IsUndeleted image (name_bytes name) kind made
-IsDone (edits.Sort loss) text image made = IsSorted image made
-IsDone (edits.Put file kind loss name) text image made = IsPut image (name_bytes name) kind text made
-IsDone (edits.CopyFile from loss name to) text image made = IsCopied text (name_bytes name) (name_bytes to) image made
-IsDone (edits.Store records columns loss name) text image made =
-    IsStored image (name_bytes name) text loss made
+-- the change that an edit asks for, if this is its text
+abbrev pub Asks : Edit → (text : List ℕ) → Change → Type 0
+Asks (edits.Repair loss unowned) text (changes.Repair free cut) = (free ≡ frees unowned) × (cut ≡ loss)
+Asks (edits.RepairSides loss unowned) text (changes.Rebuild free cut) = (free ≡ frees unowned) × (cut ≡ loss)
+Asks (edits.Make size loss name) text (changes.Make new L cut) = (new.now ≡ name_bytes name) × (L ≡ size) × (cut ≡ loss)
+Asks (edits.Rename loss from to) text (changes.Rename old new) = (old.now ≡ name_bytes from) × (new.now ≡ name_bytes to)
+Asks (edits.Title id loss name) text (changes.Title new_id new) = (new_id ≡ id) × (new.now ≡ name_bytes name)
+Asks (edits.Lock lock loss name) text (changes.Lock way of) = (way ≡ lock) × (of.now ≡ name_bytes name)
+Asks (edits.Delete loss name) text (changes.Delete of) = of.now ≡ name_bytes name
+Asks (edits.Undelete kind loss name) text (changes.Undelete as of) = (as ≡ kind) × (of.now ≡ name_bytes name)
+Asks (edits.Sort loss) text changes.Sort = ⊤
+Asks (edits.Put file kind loss name) text (changes.Put new as content) =
+    (new.now ≡ name_bytes name) × (as ≡ kind) × (content.now ≡ text)
+Asks (edits.CopyFile from loss name to) text (changes.CopyFile source of new) =
+    (source.now ≡ text) × (of.now ≡ name_bytes name) × (new.now ≡ name_bytes to)
+Asks (edits.Store records columns loss name) text (changes.Store of lines cut) =
+    (of.now ≡ name_bytes name) × (lines.now ≡ text) × (cut ≡ loss)
+Asks _ text _ = ⊥
 
--- it wasn't, for this reason
-abbrev pub IsBarred : Edit → (text image : List ℕ) → CommandFault → Type 0
-IsBarred (edits.Repair loss unowned) text image why = IsRepairRefusal image why
-IsBarred (edits.RepairSides loss unowned) text image why = IsRebuildRefusal image why
-IsBarred (edits.Make size loss name) text image why = IsMakeRefusal image (name_bytes name) loss why
-IsBarred (edits.Rename loss from to) text image why = IsRenameRefusal image (name_bytes from) (name_bytes to) why
-IsBarred (edits.Title id loss name) text image why = IsUnsoundOrShort image why
-IsBarred (edits.Lock lock loss name) text image why = IsLockRefusal image (name_bytes name) why
-IsBarred (edits.Delete loss name) text image why = IsDeleteRefusal image (name_bytes name) why
-IsBarred (edits.Undelete kind loss name) text image why = IsUndeleteRefusal image (name_bytes name) kind why
-IsBarred (edits.Sort loss) text image why = IsSortRefusal image why
-IsBarred (edits.Put file kind loss name) text image why = IsPutRefusal image (name_bytes name) kind text why
-IsBarred (edits.CopyFile from loss name to) text image why = IsCopyRefusal text (name_bytes name) (name_bytes to) image why
-IsBarred (edits.Store records columns loss name) text image why =
-    IsStoreRefusal image (name_bytes name) text loss why
-
--- it neither moves directory art nor says of a disk with art that it is in order
-abbrev pub leaves_art : Edit → Bool
-leaves_art (edits.Sort loss) = false
-leaves_art (edits.Repair loss unowned) = false
-leaves_art (edits.RepairSides loss unowned) = false
-leaves_art _ = true
-
--- the change was made, of the image as it is or with its directory art put aside
+-- the change that it asks for was made
 abbrev pub IsEdited : Edit → (text image : List ℕ) → Changed → Type 0
-IsEdited edit text image made =
-    IsDone edit text image made ⊎ ((leaves_art edit ≡ true) × IsBesideArt (IsDone edit text) image made)
+IsEdited edit text image made = (what : Change) × Asks edit text what × IsChanged what image made
 
 -- it wasn't, for this reason
 abbrev pub IsUnedited : Edit → (text image : List ℕ) → CommandFault → Type 0
-IsUnedited edit text image why = IsBarred edit text image why
-    ⊎ ((leaves_art edit ≡ true) × (bytes : List ℕ) × IsAside image bytes × IsBarred edit text bytes why)
+IsUnedited edit text image why = (what : Change) × Asks edit text what × IsRefused what image why

@@ -1,11 +1,9 @@
 //! A change of an image's files, as the words ask for it, over its bytes and over those at a path.
 ghost use Rattle.std.specs.Prelude.{◌≡◌, ◌⊎◌, IfErr, IfOk, List, ℕ, take, vec_items};
 ghost use Rattle.command_faults.specs.declared.faults.CommandFault.TheVariants.{NoMemory};
-ghost use Rattle.disk_changes.specs.Changes.{IsChanged, IsFit, IsRefused};
-ghost use Rattle.disk_changes.specs.declared.changes.Changed.{Changed};
-ghost use Rattle.command_faults.specs.declared.faults.CommandFault.{CommandFault};
+ghost use Rattle.disk_changes.specs.Changes.{IsFit};
 ghost use Rattle.image_edits.specs.Columns.{text_in};
-ghost use Rattle.image_edits.specs.Edits.{IsEdited, IsFitEdit, IsTextFor, IsUnedited, loss_of};
+ghost use Rattle.image_edits.specs.Edits.{Asks, IsFitEdit, IsTextFor, loss_of};
 ghost use Rattle.opened_files.specs.HostFiles.{IsUnbegun, IsUnread, OfImage, OfText};
 ghost use Rattle.image_edits.specs.EditRuns.{IsEditOver};
 ghost use Rattle.opened_files.specs.Losses.{IsAwayFault, IsNear};
@@ -46,8 +44,7 @@ impl Edit<'_> {
     pub fn change<'n>(&'n self, text: &'n [u8]) -> Change<'n>
         requires fit { IsFitEdit self.now }
         ensures fit { IsFit result }
-        ensures made { (image : List ℕ) (made : Changed) → IsChanged result image made → IsEdited self.now text.now image made }
-        ensures refused { (image : List ℕ) (why : CommandFault) → IsRefused result image why → IsUnedited self.now text.now image why }
+        ensures asks { Asks self.now text.now result }
     {
         match *self {
             Edit::Repair { loss, unowned } => {

@@ -39,8 +39,8 @@ returns g c =
         c.show_change.result,
         c.change_end.ensures,
         (
-          told-weaker g.W.Write.contents _ _ _ _ c.args.out.now c.show_change.new.out (c.change-what.ensures.made image)
-              (c.change-what.ensures.refused image) c.show_change.result c.show_change.ensures.0,
+          told-weaker g.W.Write.contents _ _ _ _ c.args.out.now c.show_change.new.out (λ made is. (c.change-what.result, c.change-what.ensures.asks, is))
+              (λ why is. (c.change-what.result, c.change-what.ensures.asks, is)) c.show_change.result c.show_change.ensures.0,
           c.show_change.ensures.1,
         ),
       ),

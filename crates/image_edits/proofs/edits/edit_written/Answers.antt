@@ -38,7 +38,7 @@ returns g c =
       (
         run.0,
         run.1,
-        told-weaker g.W.Write.contents _ _ _ _ old new (λ made is. (c.change-what.ensures.made image made is.0, is.1))
-            (c.change-what.ensures.refused image) run.0 run.2,
+        told-weaker g.W.Write.contents _ _ _ _ old new (λ made is. ((c.change-what.result, c.change-what.ensures.asks, is.0), is.1))
+            (λ why is. (c.change-what.result, c.change-what.ensures.asks, is)) run.0 run.2,
       ),
     )) c.change_taken.ensures)

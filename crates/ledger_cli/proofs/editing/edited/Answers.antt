@@ -5,5 +5,5 @@ use Rattle.ledger_cli.proofs.editing.edited.Goals as goal
 pub returns : goal.returns
 returns g c =
     job-weaker g.F.Seek.stream_position g.F.Seek.stream_bytes g.F.Write.contents g.W.Write.contents _ _ _ _
-    (c.change.ensures.made c.args.image.now) (c.change.ensures.refused c.args.image.now) c.args.effect c.args.file
+    (λ made is. (c.change.result, c.change.ensures.asks, is)) (λ why is. (c.change.result, c.change.ensures.asks, is)) c.args.effect c.args.file
     c.change_over.result.0 c.args.out.now c.change_over.new.out c.change_over.result.1 c.change_over.ensures
