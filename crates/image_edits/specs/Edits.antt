@@ -67,10 +67,10 @@ Asks (edits.Rename loss from to) text (changes.Rename old new) = (old.now ≡ na
 Asks (edits.Title id loss name) text (changes.Title new_id new) = (new_id ≡ id) × (new.now ≡ name_bytes name)
 Asks (edits.Lock lock loss name) text (changes.Lock way of) = (way ≡ lock) × (of.now ≡ name_bytes name)
 Asks (edits.Delete loss name) text (changes.Delete of) = of.now ≡ name_bytes name
-Asks (edits.Undelete kind loss name) text (changes.Undelete as of) = (as ≡ kind) × (of.now ≡ name_bytes name)
+Asks (edits.Undelete kind loss name) text (changes.Undelete new of) = (new ≡ kind) × (of.now ≡ name_bytes name)
 Asks (edits.Sort loss) text changes.Sort = ⊤
-Asks (edits.Put file kind loss name) text (changes.Put new as content) =
-    (new.now ≡ name_bytes name) × (as ≡ kind) × (content.now ≡ text)
+Asks (edits.Put file kind loss name) text (changes.Put new type content) =
+    (new.now ≡ name_bytes name) × (type ≡ kind) × (content.now ≡ text)
 Asks (edits.CopyFile from loss name to) text (changes.CopyFile source of new) =
     (source.now ≡ text) × (of.now ≡ name_bytes name) × (new.now ≡ name_bytes to)
 Asks (edits.Store records columns loss name) text (changes.Store of lines cut) =
