@@ -71,7 +71,7 @@ impl Display for ErrorLine<'_> {
 /// The entry that has the sector, if this is drawn.
 fn entry_with(drawing: Option<&Drawing>, place: Place) -> Option<&Slot>
     ensures { option_map (λ slot. slot.now) result
-        ≡ entry_at (option_map (λ drawn. drawn_in drawn.now) drawing) place }
+        ≡ entry_at (option_map (λ drawn. drawn_in drawn.now) drawing.entry) place }
 {
     match drawing {
         Some(drawing) => drawing.entry_with(place),
@@ -87,7 +87,7 @@ pub(crate) fn print_errors<E: Write>(
     drawing: Option<&Drawing>,
 ) -> Result<(), CommandFault>
     ensures ok { OnOk result (Appends (E.contents err.old) (E.contents err.new)
-        (errors_text image.now (option_map (λ drawn. drawn_in drawn.now) drawing))) }
+        (errors_text image.now (option_map (λ drawn. drawn_in drawn.now) drawing.entry))) }
     ensures err { IfErr result (λ fault. fault ≡ faults.File) }
 {
     for index in 0..SECTORS {
