@@ -4,7 +4,8 @@ use Rattle.std.specs.Prelude.{take, vec_items}
 use Rattle.std.proofs.lemmas.Result.{err_from_is_err_and}
 use Rattle.image_edits.proofs.ChangedOver.{away-as}
 use Rattle.folder_changes.proofs.Changed.{told-weaker}
-use Rattle.image_edits.specs.Edits.{IsTextFor, loss_of}
+use Rattle.disk_changes.specs.Changes.{IsChanged, IsRefused}
+use Rattle.image_edits.specs.Edits.{IsEdited, IsTextFor, IsUnedited, loss_of}
 use Rattle.opened_files.proofs.Near.{not-near}
 use Rattle.opened_files.specs.HostFiles.{OfImage}
 use Rattle.opened_files.specs.Losses.{IsNear}
@@ -39,7 +40,9 @@ returns g c =
         c.show_change.result,
         c.change_end.ensures,
         (
-          told-weaker g.W.Write.contents _ _ _ _ c.args.out.now c.show_change.new.out (λ made is. (c.change-what.result, c.change-what.ensures.asks, is))
+          told-weaker g.W.Write.contents (IsChanged c.change-what.result image) (IsEdited c.args.edit.now c.as_slice.result.now image)
+              (IsRefused c.change-what.result image) (IsUnedited c.args.edit.now c.as_slice.result.now image) c.args.out.now
+              c.show_change.new.out (λ made is. (c.change-what.result, c.change-what.ensures.asks, is))
               (λ why is. (c.change-what.result, c.change-what.ensures.asks, is)) c.show_change.result c.show_change.ensures.0,
           c.show_change.ensures.1,
         ),
