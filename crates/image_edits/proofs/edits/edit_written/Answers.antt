@@ -4,7 +4,10 @@ use Rattle.std.specs.Prelude.{take}
 use Rattle.std.proofs.lemmas.Result.{err_from_is_err_and}
 use Rattle.image_edits.proofs.ChangedOver.{away-as, run-weaker}
 use Rattle.folder_changes.proofs.Changed.{told-weaker}
-use Rattle.image_edits.specs.Edits.{IsTextFor, loss_of}
+use Rattle.disk_changes.specs.Changes.{IsChanged, IsRefused}
+use Rattle.disk_changes.specs.declared.changes.Changed.{Changed}
+use Rattle.image_edits.specs.Changes.{IsChangedAt}
+use Rattle.image_edits.specs.Edits.{IsEdited, IsTextFor, IsUnedited, loss_of}
 use Rattle.opened_files.proofs.Near.{not-near}
 use Rattle.opened_files.specs.HostFiles.{OfWritten}
 use Rattle.image_log.specs.life.Tags.{SaysLogAway}
@@ -27,6 +30,10 @@ returns g c =
     let image = c.as_slice-2.result.now in
     let old = c.args.out.now in
     let new = c.change_taken.new.out in
+    let what = c.change-what.result in
+    let edit = c.args.edit.now in
+    let text = c.as_slice.result.now in
+    let At : Changed → Type 0 = IsChangedAt g.R.HostFiles.rights g.R.HostImages.changed c.args.rt.now c.args.path.now image in
     inl (run-weaker old new c.change_taken.result _ _
     (λ run. (
       image,
@@ -38,7 +45,8 @@ returns g c =
       (
         run.0,
         run.1,
-        told-weaker g.W.Write.contents _ _ _ _ old new (λ made is. ((c.change-what.result, c.change-what.ensures.asks, is.0), is.1))
-            (λ why is. (c.change-what.result, c.change-what.ensures.asks, is)) run.0 run.2,
+        told-weaker g.W.Write.contents (λ made. IsChanged what image made × At made) (λ made. IsEdited edit text image made × At made)
+            (IsRefused what image) (IsUnedited edit text image) old new (λ made is. ((what, c.change-what.ensures.asks, is.0), is.1))
+            (λ why is. (what, c.change-what.ensures.asks, is)) run.0 run.2,
       ),
     )) c.change_taken.ensures)
