@@ -25,9 +25,16 @@ fn is_of_geos(image: &[u8]) -> bool {
     }
 }
 
-/// What the files of the image at a path lack, as its shop is now, and whether it is a disk of GEOS. None also if another
-/// program has the image alone, if the image can't be read, and for standard input.
-fn shortfall_at<F, R>(rt: &R, path: &str) -> Option<(Shortfall, bool)>
+/// What the files of an image lack, and whether it is a disk of GEOS.
+#[derive(Clone, Copy)]
+struct Lack {
+    shortfall: Shortfall,
+    of_geos: bool,
+}
+
+/// What the files of the image at a path lack, as its shop is now. None also if another program has the image alone, if the
+/// image can't be read, and for standard input.
+fn shortfall_at<F, R>(rt: &R, path: &str) -> Option<Lack>
 where
     F: Read + Locks + OpenFile + Drop,
     R: HostFiles<File = F> + AllocGlobal,
@@ -37,8 +44,17 @@ where
         return None;
     }
     let image = image_of_file(rt, path).ok()?;
-    let lack = shortfall_in(rt.alloc(), image.as_slice()).unwrap_or_default()?;
-    Some((lack, is_of_geos(image.as_slice())))
+    let shortfall = shortfall_in(rt.alloc(), image.as_slice()).unwrap_or_default()?;
+    let of_geos = is_of_geos(image.as_slice());
+    Some(Lack { shortfall, of_geos })
+}
+
+/// Prints what the files of an image lack.
+fn print_lack<E: Write>(err: &mut E, lack: Lack) {
+    if lack.of_geos && matches!(lack.shortfall, Shortfall::Short(_)) {
+        let _ = writeln!(err, "{}", CommandFault::Geos);
+    }
+    let _ = writeln!(err, "{}", lack.shortfall);
 }
 
 /// Prints for a person, after the verdict of a check, what the fault means that it found, and what to do. Then it prints
@@ -62,13 +78,9 @@ where
     if let Some(fault) = found {
         tell_of(err, image, said_of_fault(fault));
     }
-    let Some((lack, of_geos)) = shortfall_at(rt, image) else {
-        return;
-    };
-    if let (Shortfall::Short(_), true) = (lack, of_geos) {
-        let _ = writeln!(err, "{}", CommandFault::Geos);
+    if let Some(lack) = shortfall_at(rt, image) {
+        print_lack(err, lack);
     }
-    let _ = writeln!(err, "{lack}");
 }
 
 /// Prints for a person, before an image is played, where its first file is cut short.
@@ -79,7 +91,10 @@ where
     E: Write,
     requires { MayReadImage R.rights rt.now image.now }
 {
-    if let Some((lack @ Shortfall::Short(_), _)) = shortfall_at(rt, image) {
+    let Some(lack) = shortfall_at(rt, image) else {
+        return;
+    };
+    if let lack @ Shortfall::Short(_) = lack.shortfall {
         let image = ShownPath(image);
         let _ = writeln!(err, "ledger: {image}: {lack}; {CUT_SHORT}");
     }
