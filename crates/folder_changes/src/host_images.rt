@@ -9,6 +9,7 @@ use crate::image_changing::change_image;
 use crate::image_replacing::put_image_in;
 use command_faults::CommandFault;
 use disk_changes::Change;
+use image_file::PlainFiles;
 use image_log::{HostLogs, ImageFolder, LogNames};
 use std::alloc::Global;
 use std::io::{self, Write};
@@ -55,7 +56,7 @@ pub trait HostImages: HostLogs {
         ensures { IfOk result (λ ended. OnOk ended (replaced self.now (string_bytes names.now.image) image.now)) };
 }
 
-impl<R: HostLogs> HostImages for R {
+impl<R: HostLogs + PlainFiles> HostImages for R {
     fn change_at<W: Write>(
         &self,
         alloc: Global,

@@ -3,3 +3,4 @@ pub(crate) mod host;
 pub(crate) mod mounts;
 pub(crate) mod names;
 pub(crate) mod opening;
+pub(crate) mod system;

@@ -14,7 +14,7 @@ use Rattle.ledger_jobs.specs.declared.jobs.Job.TheVariants as jobs
 use Rattle.image_looks.specs.declared.kinds.Look.TheVariants as looks
 use Rattle.ledger_cli.specs.declared.faults.JobFault.TheVariants as faults
 use Rattle.ledger_cli.specs.Names.{HasName, HasNoId, HasNoName, IsIdOf, IsMakingJob, IsNamedJob, IsPuttingJob, IsRecordsJob}
-use Rattle.ledger_cli.specs.Names.{IsFileCopyingJob, IsRenamingJob, IsStoringJob, IsTitlingJob}
+use Rattle.ledger_cli.specs.Names.{IsRenamingJob, IsStoringJob, IsTitlingJob}
 use Rattle.ledger_cli.specs.declared.faults.JobFault.{JobFault}
 
 -- the job that is made of the name is that of the subcommand, or its name is none
@@ -93,17 +93,6 @@ renaming-met found rows image r is by-image (inl (from, to, same, old, new, fit)
 renaming-met found rows image r is by-image (inr (same, missing)) =
     let P : Result Job JobFault → Type 0 = λ j. MatchResult j (IsJob found) (IsNoJob [] found) × IfOk j IsFit in
     subst P (sym same) ((refl, inr (inr (inr (inr (inl (record { rows = rows; is = is; holds = missing })))))), tt)
-
--- what copies a file of another image is that of `copy-file`, or one of its names is none
-pub file-copying-met : (found : Option (Text × List Row)) (rows : List Row) (image : Bor Text) (r : Result Job JobFault)
-    → found ≡ Some (codes "copy-file", rows) → image.now ≡ value (codes "IMAGE") rows
-    → IsFileCopyingJob rows image r → MatchResult r (IsJob found) (IsNoJob [] found) × IfOk r IsFit
-file-copying-met found rows image r is by-image (inl (from, name, to, same, by-from, at, new, fit)) =
-    let P : Result Job JobFault → Type 0 = λ j. MatchResult j (IsJob found) (IsNoJob [] found) × IfOk j IsFit in
-    subst P (sym same) (record { rows = rows; is = is; holds = (by-image, (at, new, by-from, refl), refl) }, fit)
-file-copying-met found rows image r is by-image (inr (same, missing)) =
-    let P : Result Job JobFault → Type 0 = λ j. MatchResult j (IsJob found) (IsNoJob [] found) × IfOk j IsFit in
-    subst P (sym same) ((refl, inl (inr (inr (inr (record { rows = rows; is = is; holds = missing }))))), tt)
 
 -- the job that is made of a disk's name and ID is that of the subcommand, or one of them is none
 pub titling-met : (found : Option (Text × List Row)) (rows : List Row) (make : Name → List ℕ → Job) (r : Result Job JobFault)

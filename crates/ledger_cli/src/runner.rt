@@ -5,11 +5,9 @@ ghost use Rattle.command_faults.specs.declared.faults.CommandFault.TheVariants a
 ghost use Rattle.ledger_jobs.specs.Jobs.{IsFit};
 ghost use Rattle.ledger_cli.specs.declared.runner.Audience.TheVariants.{Person, Program, Waiting};
 
-use crate::faults::JobFault;
-use crate::other_words::other_word;
 use crate::progress::{Watched, is_long};
+use crate::word_refusals::{print_meaning, refuse, refuse_words};
 use crate::words::command_line;
-use clap::error::ErrorKind as WordsKind;
 use command_faults::CommandFault;
 use disk_layout::Fault;
 use image_edits::do_trim;
@@ -60,98 +58,6 @@ impl Audience {
             Audience::Program => Audience::Person,
             Audience::Person | Audience::Waiting => self,
         }
-    }
-}
-
-/// Reports a failure of the system, and returns its exit status.
-fn refuse<E: Write>(err: &mut E, error: &io::Error) -> u8 {
-    end(Err(CommandFault::of_io(error)), err).status
-}
-
-/// Prints which command does what a word of another program asks for, if one of these texts is such a word.
-fn explain_other_word<E: Write>(texts: &[&str], err: &mut E) -> io::Result<()> {
-    match other_word(texts) {
-        Some((word, commands)) => writeln!(err, "ledger: {word} is {commands} here"),
-        None => Ok(()),
-    }
-}
-
-/// Prints what the words may be. What `clap` refuses it explains itself, but no word of another program.
-fn explain_words<E: Write>(fault: &JobFault, texts: &[&str], err: &mut E) {
-    let _ = match fault {
-        JobFault::Words(error) if error.kind() == WordsKind::InvalidSubcommand =>
-            explain_other_word(texts, err),
-        JobFault::Words(_) => Ok(()),
-        JobFault::Tills => writeln!(err, "ledger: TILLS is 1 to 64"),
-        JobFault::Length => writeln!(err, "ledger: BYTES is 1 to 254"),
-        JobFault::Sector => writeln!(
-            err,
-            "ledger: T/S is a track and a sector that it has, such as 17/4"
-        ),
-        JobFault::Images => writeln!(
-            err,
-            "ledger: give one image, alone or with --svg; or up to 400 with --sheet; or two with --compare"
-        ),
-        JobFault::Name => writeln!(
-            err,
-            "ledger: a name has 1 to 16 bytes; one that isn't plain text is a backslash and two digits, such as \\c1"
-        ),
-        JobFault::Id => writeln!(
-            err,
-            "ledger: ID has two bytes; one that isn't plain text is a backslash and two digits, such as \\c1"
-        ),
-        JobFault::Flags => writeln!(err, "ledger: give --fields or --at, not both"),
-        JobFault::Kind => writeln!(
-            err,
-            "ledger: TYPE is prg, seq or usr; of a deleted file, rel too"
-        ),
-        JobFault::Positions => writeln!(
-            err,
-            "ledger: POSITIONS are up to 32 numbers of 1 to 254, which rise from 1, such as 1,25,49"
-        ),
-    };
-}
-
-/// Prints a text on the output, as a job does.
-fn print_text<R: Files + Print>(rt: &R, text: &[u8]) -> io::Result<()> {
-    let failures = Failures::none();
-    Print::write_all(&NotedRuntime::new(rt, &[], &failures), text)
-}
-
-/// Prints what `clap` says of the words: help on the output, and why they are refused on standard error.
-fn print_words<R, E>(rt: &R, said: &clap::Error, err: &mut E) -> io::Result<()>
-where
-    R: Files + Print + AllocGlobal,
-    E: Write,
-{
-    let mut text = Vec::new(rt.alloc());
-    write!(text, "{said}")?;
-    if said.use_stderr() {
-        return err.write_all(text.as_slice());
-    }
-    print_text(rt, text.as_slice())
-}
-
-/// Reports why the words ask for nothing, or prints the help that they ask for, and returns the exit status.
-fn refuse_words<R, E>(rt: &R, fault: &JobFault, texts: &[&str], err: &mut E) -> u8
-where
-    R: Files + Print + AllocGlobal,
-    E: Write,
-{
-    let status = fault.status();
-    let ended = match fault {
-        // If memory ran out, there may be no text.
-        JobFault::Words(_) if status == CommandFault::NoMemory.status() => {
-            return end(Err(CommandFault::NoMemory), err).status;
-        }
-        JobFault::Words(error) => print_words(rt, error, err),
-        _ => writeln!(err, "{fault}"),
-    };
-    explain_words(fault, texts, err);
-    match ended {
-        // Help that can't be printed is an output that failed.
-        Err(error) if status == 0 => refuse(err, &error),
-        _ => status,
     }
 }
 
@@ -223,6 +129,38 @@ fn awaited(
     }
 }
 
+/// Prints for a person what a job is going to replace or lose.
+fn announce_job<F, R, E>(rt: &R, job: &Job<'_>, err: &mut E)
+where
+    F: EndedFile + Read + Locks + OpenFile + Drop,
+    R: Files<File = F> + AllocGlobal,
+    E: Write,
+{
+    let unkept = Failures::none();
+    announce(&NotedRuntime::new(rt, &[], &unkept), job, err);
+}
+
+/// Prints for a person more about how a job ended, of which this call failed first.
+fn explain_end<F, R, E>(
+    rt: &R,
+    job: &Job<'_>,
+    ended: Result<Option<Fault>, CommandFault>,
+    cause: Option<Failure<'_>>,
+    err: &mut E,
+)
+where
+    F: EndedFile + Read + Locks + OpenFile + Drop,
+    R: Files<File = F> + AllocGlobal,
+    E: Write,
+{
+    let unkept = Failures::none();
+    let host = NotedRuntime::new(rt, &[], &unkept);
+    match ended {
+        Err(refusal) => explain(&host, job, refusal, cause, err),
+        Ok(found) => tell_verdict(&host, job, found, err),
+    }
+}
+
 /// Does a job over an output that is gathered, and returns the exit status. If the job isn't done, a person reads more
 /// about why.
 fn obey_job<F, R, E>(rt: &R, job: &Job<'_>, told: Audience, err: &mut E) -> u8
@@ -233,7 +171,7 @@ where
     requires { IsFit job.now }
 {
     if told != Audience::Program {
-        announce(rt, job, err);
+        announce_job(rt, job, err);
     }
     let failures = Failures::none();
     let ended = awaited(
@@ -241,12 +179,8 @@ where
         failures.cause(),
     );
     let status = end(ended, err).status;
-    if told == Audience::Program {
-        return status;
-    }
-    match ended {
-        Err(refusal) => explain(rt, job, refusal, failures.cause(), err),
-        Ok(found) => tell_verdict(rt, job, found, err),
+    if told != Audience::Program {
+        explain_end(rt, job, ended, failures.cause(), err);
     }
     status
 }
@@ -286,23 +220,6 @@ fn word_after_help(alloc: Global, texts: &[&str]) -> Result<String, AllocError> 
         }
     }
     Ok(word)
-}
-
-/// Prints what a word means that the program prints, and returns the exit status.
-fn print_meaning<R, E>(rt: &R, word: &str, meaning: &str, err: &mut E) -> u8
-where
-    R: Files + Print + AllocGlobal,
-    E: Write,
-{
-    let mut text = Vec::new(rt.alloc());
-    let ended = match writeln!(text, "{word}: {meaning}") {
-        Ok(()) => print_text(rt, text.as_slice()),
-        failed => failed,
-    };
-    match ended {
-        Ok(()) => 0,
-        Err(error) => refuse(err, &error),
-    }
 }
 
 /// Does what these words ask for, and returns the exit status.

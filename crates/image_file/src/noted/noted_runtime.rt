@@ -1,5 +1,5 @@
-//! A runtime over which a job is done, and which keeps why a call of it failed.
-ghost use Rattle.std.specs.Prelude.{◌≡◌};
+//! The files of the system, by their paths, and why a call about one of them failed.
+ghost use Rattle.std.specs.Prelude.{◌≡◌, true};
 
 use crate::inputs::HostInput;
 use crate::noted::failures::Failures;
@@ -7,15 +7,18 @@ use crate::noted::limits::{OUTPUT, SizeLimit, StreamRoom};
 use crate::noted::noted_file::NotedFile;
 use crate::noted::noted_reader::NotedReader;
 use crate::noted::subjects::Subject;
-use crate::paths::host::{HostFiles, PlainFiles, folder_of};
+use crate::paths::host::{HostFiles, PlainFiles};
+use crate::paths::mounts::is_mount_point;
+use crate::paths::system::{folder_of, give_free_name, is_named, resolved, sync_folder};
 use std::alloc::{Allocator, Global};
 use std::fmt::Display;
-use std::fs::Metadata;
+use std::fs::{File, Metadata, OpenOptions};
 use std::io::{self, BufRead, Lines};
+use std::os::unix::fs::OpenOptionsExt;
 use std::rt::Files;
 
-/// A runtime that hands calls on to another, and keeps those that fail. A call that would make a file, or that of standard
-/// output, longer than the limit of the process isn't made, and fails.
+/// A host whose files are those of a runtime of the system. It keeps the calls that fail. A call that would make a file, or that
+/// of standard output, longer than the limit of the process isn't made, and fails.
 #[derive(Drop)]
 pub struct NotedRuntime<'n, 'a, R> {
     rt: &'n R,
@@ -83,50 +86,57 @@ impl<R: Alloc> Alloc for NotedRuntime<'_, '_, R> {
     }
 }
 
-impl<'n, 'a, R: HostFiles> HostFiles for NotedRuntime<'n, 'a, R> {
+impl<'n, 'a, R: Files> HostFiles for NotedRuntime<'n, 'a, R> {
     type File = NotedFile<'n, 'a, R::File>;
 
-    ghost rights = { record {
-      may = λ noted how path. R.HostFiles.rights.may noted.rt.now how path;
-      leads = λ noted from to. R.HostFiles.rights.leads noted.rt.now from to;
-    } };
+    // A runtime of the system keeps no list of rights: all calls are allowed.
+    ghost rights = { record { may = λ _ _ _. true; leads = λ _ _ _. true } };
 
     fn look_at(&self, path: &str) -> io::Result<Metadata> {
-        self.noted(path, self.rt.look_at(path))
+        self.noted(path, self.rt.metadata(path))
     }
 
     fn is_named(&self, path: &str) -> io::Result<bool> {
-        self.noted(path, self.rt.is_named(path))
+        self.noted(path, is_named(self.rt, path))
     }
 
     fn resolve(&self, alloc: Global, path: &str) -> io::Result<String> {
-        self.rt.resolve(alloc, path)
+        resolved(self.rt, alloc, path)
     }
 
     fn sync_folder_of(&self, path: &str) -> io::Result<()> {
-        self.noted(folder_of(path), self.rt.sync_folder_of(path))
+        self.noted(folder_of(path), sync_folder(self.rt, folder_of(path)))
     }
 
     fn open_to_read(&self, path: &str) -> io::Result<NotedFile<'n, 'a, R::File>> {
-        self.opened(path, self.rt.open_to_read(path))
+        self.opened(path, File::open(self.rt, path))
     }
 
     fn open_to_change(&self, path: &str) -> io::Result<NotedFile<'n, 'a, R::File>> {
-        let file = self.opened(path, self.rt.open_to_change(path))?;
+        let opened = OpenOptions::new()
+            .read(true)
+            .write(true)
+            .open(self.rt, path);
+        let file = self.opened(path, opened)?;
         file.see_length()?;
         Ok(file)
     }
 
     fn open_to_write(&self, path: &str) -> io::Result<NotedFile<'n, 'a, R::File>> {
-        self.opened(path, self.rt.open_to_write(path))
+        self.opened(path, OpenOptions::new().write(true).open(self.rt, path))
     }
 
     fn make_file(&self, path: &str, mode: u32) -> io::Result<NotedFile<'n, 'a, R::File>> {
-        self.opened(path, self.rt.make_file(path, mode))
+        let made = OpenOptions::new()
+            .write(true)
+            .create_new(true)
+            .mode(mode)
+            .open(self.rt, path);
+        self.opened(path, made)
     }
 
     fn make_folder(&self, path: &str) -> io::Result<()> {
-        self.noted(path, self.rt.make_folder(path))
+        self.noted(path, self.rt.create_dir(path))
     }
 
     fn rename(&self, from: &str, to: &str) -> io::Result<()> {
@@ -134,23 +144,23 @@ impl<'n, 'a, R: HostFiles> HostFiles for NotedRuntime<'n, 'a, R> {
     }
 
     fn remove(&self, path: &str) -> io::Result<()> {
-        self.noted(path, self.rt.remove(path))
+        self.noted(path, self.rt.remove_file(path))
     }
 
     fn give_free_name(&self, from: &str, to: &str) -> io::Result<()> {
-        self.noted(to, self.rt.give_free_name(from, to))
+        self.noted(to, give_free_name(self.rt, from, to))
     }
 
     fn remove_folder(&self, path: &str) -> io::Result<()> {
-        self.noted(path, self.rt.remove_folder(path))
+        self.noted(path, self.rt.remove_dir(path))
     }
 
     fn is_mounted(&self, alloc: Global, path: &str) -> io::Result<bool> {
-        self.noted(path, self.rt.is_mounted(alloc, path))
+        self.noted(path, is_mount_point(self.rt, alloc, path))
     }
 }
 
-impl<R: PlainFiles> PlainFiles for NotedRuntime<'_, '_, R> {}
+impl<R: Files> PlainFiles for NotedRuntime<'_, '_, R> {}
 
 impl<'n, 'a, R: HostInput> HostInput for NotedRuntime<'n, 'a, R> {
     type Given = NotedReader<'n, 'a, R::Given>;

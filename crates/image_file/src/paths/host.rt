@@ -4,12 +4,9 @@ ghost use Rattle.image_file.specs.paths.Rights.{Look, Make, May, Read as ToRead,
 ghost use Rattle.image_file.specs.paths.Standing.{AreOf, IsMissing, Stands, Unsaid};
 ghost use Rattle.image_file.specs.paths.Traces.{Traces, untraced};
 
-use crate::paths::mounts::is_mount_point;
 use std::alloc::Global;
-use std::fs::{File, Metadata, OpenFile, OpenOptions};
-use std::io::{self, ErrorKind, Read, Seek};
-use std::os::unix::fs::OpenOptionsExt;
-use std::rt::Files;
+use std::fs::{Metadata, OpenFile};
+use std::io::{self, Read, Seek};
 
 /// The files of a host. Each call says what it does with the file at a path, and needs the right to do that. So code that
 /// is proved over any host does nothing with a file but what its own contract has rights for.
@@ -103,111 +100,3 @@ pub trait HostFiles {
 
 /// A host whose images and logs are its files, of which it says nothing but what each call says.
 pub trait PlainFiles: HostFiles {}
-
-impl<R: Files> PlainFiles for R {}
-
-/// The folder in which the file at a path stands.
-pub(crate) fn folder_of(path: &str) -> &str {
-    match path.rsplit_once('/') {
-        None => ".",
-        Some(("", _)) => "/",
-        Some((folder, _)) => folder,
-    }
-}
-
-/// A path as a text of its own.
-fn copied(alloc: Global, path: &str) -> io::Result<String> {
-    let mut copy = String::new(alloc);
-    copy.push_str(path)?;
-    Ok(copy)
-}
-
-/// Gives what stands at a path another name, at which nothing stood when that was looked at.
-fn rename_free<R: Files>(rt: &R, from: &str, to: &str) -> io::Result<()> {
-    match rt.symlink_metadata(to) {
-        Err(error) if error.kind() == ErrorKind::NotFound => rt.rename(from, to),
-        Err(error) => Err(error),
-        Ok(_) => Err(ErrorKind::AlreadyExists.into()),
-    }
-}
-
-// A runtime of the system keeps no list of rights: all calls are allowed.
-impl<R: Files> HostFiles for R {
-    type File = R::File;
-
-    ghost rights = { record { may = λ _ _ _. true; leads = λ _ _ _. true } };
-
-    fn look_at(&self, path: &str) -> io::Result<Metadata> {
-        self.metadata(path)
-    }
-
-    fn is_named(&self, path: &str) -> io::Result<bool> {
-        match self.symlink_metadata(path) {
-            Ok(_) => Ok(true),
-            Err(error) if error.kind() == ErrorKind::NotFound => Ok(false),
-            Err(error) => Err(error),
-        }
-    }
-
-    fn resolve(&self, alloc: Global, path: &str) -> io::Result<String> {
-        match self.canonicalize(alloc, path) {
-            Ok(found) => Ok(found.into_string()),
-            Err(error) => match error.kind() {
-                ErrorKind::NotFound | ErrorKind::Unsupported => copied(alloc, path),
-                _ => Err(error),
-            },
-        }
-    }
-
-    fn sync_folder_of(&self, path: &str) -> io::Result<()> {
-        File::open(self, folder_of(path))?.sync_all()
-    }
-
-    fn open_to_read(&self, path: &str) -> io::Result<R::File> {
-        File::open(self, path)
-    }
-
-    fn open_to_change(&self, path: &str) -> io::Result<R::File> {
-        OpenOptions::new().read(true).write(true).open(self, path)
-    }
-
-    fn open_to_write(&self, path: &str) -> io::Result<R::File> {
-        OpenOptions::new().write(true).open(self, path)
-    }
-
-    fn make_file(&self, path: &str, mode: u32) -> io::Result<R::File> {
-        OpenOptions::new()
-            .write(true)
-            .create_new(true)
-            .mode(mode)
-            .open(self, path)
-    }
-
-    fn make_folder(&self, path: &str) -> io::Result<()> {
-        self.create_dir(path)
-    }
-
-    fn rename(&self, from: &str, to: &str) -> io::Result<()> {
-        self.rename(from, to)
-    }
-
-    fn remove(&self, path: &str) -> io::Result<()> {
-        self.remove_file(path)
-    }
-
-    fn give_free_name(&self, from: &str, to: &str) -> io::Result<()> {
-        match self.hard_link(from, to) {
-            Ok(()) => self.remove_file(from),
-            Err(error) if error.kind() == ErrorKind::AlreadyExists => Err(error),
-            Err(_) => rename_free(self, from, to),
-        }
-    }
-
-    fn remove_folder(&self, path: &str) -> io::Result<()> {
-        self.remove_dir(path)
-    }
-
-    fn is_mounted(&self, alloc: Global, path: &str) -> io::Result<bool> {
-        is_mount_point(self, alloc, path)
-    }
-}
