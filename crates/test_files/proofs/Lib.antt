@@ -4,4 +4,7 @@ pub mod Ends
 pub mod Noted
 pub mod SnapshotRights
 pub mod SnapshotPremises
+pub mod KnownFolders
+pub mod KnownImages
+pub mod KnownServices
 pub mod OneFile

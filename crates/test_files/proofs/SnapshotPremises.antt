@@ -14,7 +14,7 @@ use Rattle.test_files.specs.declared.snapshots.host.Snapshot.{Snapshot}
 image-other : image_path ≡ standard_input → ⊥
 image-other e = false≢true (ap (bytes_eq standard_input) e ∙ refl)
 
-text-other : text_path ≡ standard_input → ⊥
+pub text-other : text_path ≡ standard_input → ⊥
 text-other e = false≢true (ap (bytes_eq standard_input) e ∙ refl)
 
 no-log : (host : Snapshot) → host.quiet ≡ true → (image : List ℕ) → bytes_eq image_path image ≡ true

@@ -6,4 +6,6 @@ pub mod Shops
 pub mod WholeShops
 pub mod Noted
 pub mod Snapshots
+pub mod KnownFolders
+pub mod KnownServices
 pub mod OneFile

@@ -15,7 +15,9 @@ pub use disk_file::{DiskFile, Lock};
 pub use noting::{NotedLines, NotedReplies, RecordedReply};
 pub use runs::play_in_file;
 pub use snapshots::host::Snapshot;
-pub use snapshots::jobs::{do_over, made_images_are_told, premises_are_met};
+pub use snapshots::jobs::{
+    do_over, made_images_are_told, premises_are_met, services_land, trim_over,
+};
 pub use snapshots::open_file::SnapshotFile;
 pub use snapshots::store::Store;
 pub use whole_file::WholeFile;

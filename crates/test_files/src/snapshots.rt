@@ -2,5 +2,7 @@
 
 pub(crate) mod host;
 pub(crate) mod jobs;
+pub(crate) mod known_folder;
+pub(crate) mod known_images;
 pub(crate) mod open_file;
 pub(crate) mod store;

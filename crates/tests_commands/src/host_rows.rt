@@ -4,11 +4,12 @@ ghost use Rattle.ledger_jobs.specs.Jobs.{IsFit};
 
 use crate::comparing::same_at;
 use crate::images::formatted;
-use image_file::HostFiles;
+use image_file::{Failures, HostFiles, NotedRuntime};
+use image_log::{LogFolder, LogRoom, MemFolder, begin, image_room, sectors_of};
 use ledger_cli::{Job, job, run};
 use std::io::Cursor;
 use std::process::Abort;
-use test_files::{Snapshot, Store, do_over};
+use test_files::{IMAGE_BYTES, Snapshot, Store, do_over, trim_over};
 
 /// What stands at a path once a job is done.
 #[derive(Clone, Copy)]
@@ -194,6 +195,15 @@ static WRITING: [Row; 10] = [
     ),
 ];
 
+/// A job that reads a log, which stands at `s.txt`.
+static SALVAGING: Row = (
+    &["ledger", "copy", "--log", "s.txt", "b.d64"],
+    b"",
+    b"COPIED\nCOMMITS 1\nLEFT 0\n",
+    "b.d64",
+    Then::Image,
+);
+
 /// What a job makes of an image over bytes.
 fn made(rt: &(impl AllocGlobal + Abort), job: &Job<'_>, image: &[u8], script: &[u8]) -> Vec<u8>
     requires { IsFit job.now }
@@ -222,9 +232,33 @@ fn with_cards(rt: &(impl AllocGlobal + Abort)) -> Vec<u8> {
     made(rt, &job, image.as_slice(), b"")
 }
 
-/// Does the job of a row over a host that has this image.
-fn see_done(rt: &(impl AllocGlobal + Abort), row: &Row, quiet: bool, image: &[u8]) {
-    let &(words, script, prints, path, then) = row;
+/// The bytes of a log that was begun for an image.
+fn log_of(rt: &(impl AllocGlobal + Abort), image: &[u8]) -> Vec<u8> {
+    if image.len() != IMAGE_BYTES {
+        panic!(rt; "no image");
+    }
+    let folder = MemFolder::new(rt.alloc(), sectors_of(image));
+    let mut folder = folder.expect(rt, "there is memory");
+    let mut now = image_room(rt.alloc()).expect(rt, "there is memory");
+    let mut base = image_room(rt.alloc()).expect(rt, "there is memory");
+    let mut shop = image_room(rt.alloc()).expect(rt, "there is memory");
+    let begun = begin(
+        &mut folder,
+        LogRoom::new(rt.alloc()).expect(rt, "there is memory"),
+        now.as_mut_slice(),
+        base.as_mut_slice(),
+        shop.as_mut_slice(),
+    );
+    same_at(rt, begun.is_ok(), true, "a log is begun");
+    let Ok(Some(log)) = folder.read_log() else {
+        panic!(rt; "no log");
+    };
+    log
+}
+
+/// Does the job of a row over a host that has this image, and these bytes at `s.txt`.
+fn see_done(rt: &(impl AllocGlobal + Abort), row: &Row, script: &[u8], quiet: bool, image: &[u8]) {
+    let &(words, _, prints, path, then) = row;
     let store = Store::new(rt.alloc());
     let added = store.add("a.d64", image).is_ok() && store.add("s.txt", script).is_ok();
     same_at(rt, added, true, words);
@@ -255,7 +289,7 @@ fn see_done(rt: &(impl AllocGlobal + Abort), row: &Row, quiet: bool, image: &[u8
 fn jobs_that_read_are_done_over_known_files(rt: HostRuntime) {
     let image = with_cards(&rt);
     for row in &READING {
-        see_done(&rt, row, true, image.as_slice());
+        see_done(&rt, row, row.1, true, image.as_slice());
     }
 }
 
@@ -263,19 +297,51 @@ fn jobs_that_read_are_done_over_known_files(rt: HostRuntime) {
 fn jobs_that_write_are_done_over_known_files(rt: HostRuntime) {
     let image = with_cards(&rt);
     for row in &WRITING {
-        see_done(&rt, row, false, image.as_slice());
+        see_done(&rt, row, row.1, false, image.as_slice());
     }
+}
+
+#[test]
+fn a_log_is_salvaged_over_known_files(rt: HostRuntime) {
+    let image = with_cards(&rt);
+    let log = log_of(&rt, image.as_slice());
+    see_done(&rt, &SALVAGING, log.as_slice(), true, image.as_slice());
+}
+
+// `trim` reports on standard error: it is a call of its own.
+#[test]
+fn an_image_of_40_tracks_is_trimmed_over_known_files(rt: HostRuntime) {
+    let image = with_cards(&rt);
+    let mut long = image.to_vec(rt.alloc()).expect(&rt, "there is memory");
+    long.resize(196_608, 0).expect(&rt, "there is memory");
+    let store = Store::new(rt.alloc());
+    let added = store.add("a.d64", long.as_slice()).is_ok();
+    same_at(&rt, added, true, "trim");
+    let host = Snapshot {
+        alloc: rt.alloc(),
+        image: long.as_slice(),
+        text: b"",
+        quiet: true,
+        store: &store,
+    };
+    let (mut out, mut err) = (Vec::new(rt.alloc()), Vec::new(rt.alloc()));
+    let ended = trim_over(&host, "a.d64", &mut out, &mut err);
+    same_at(&rt, ended, Ok(None), "trim");
+    let printed = (out.as_slice() == image.as_slice(), err.is_empty());
+    same_at(&rt, printed, (true, true), "trim");
 }
 
 // A name is looked at before its file is opened, and may lead nowhere by then. The folder of an image at the root is synced.
 #[test]
 fn paths_of_the_system(rt: HostRuntime) {
-    let opened = rt.open_to_change("no.d64").is_ok();
+    let failures = Failures::none();
+    let host = NotedRuntime::new(&rt, &[], &failures);
+    let opened = host.open_to_change("no.d64").is_ok();
     same_at(
         &rt,
-        (opened, rt.look_at("no.d64").is_ok()),
+        (opened, host.look_at("no.d64").is_ok()),
         (false, false),
         "none is made",
     );
-    same_at(&rt, rt.sync_folder_of("/a.d64").is_ok(), true, "the root");
+    same_at(&rt, host.sync_folder_of("/a.d64").is_ok(), true, "the root");
 }

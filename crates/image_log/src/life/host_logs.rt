@@ -69,10 +69,10 @@ pub trait HostLogs: HostFiles {
     /// `LogFolder::close_log`, before the file is closed.
     fn close_log<'a>(
         folder: &mut ImageFolder<'a, Self>,
-        file: &SystemLog<'a, Self>,
+        file: &mut SystemLog<'a, Self>,
     ) -> io::Result<()>
-        ensures returned { IsReturned (folders _ _ _) (logs _ _ _) folder.old folder.new file.now result }
-        ensures away { IsMissing Self.stands file.now.rt.now file.now.name.now → IsErr result };
+        ensures returned { IsReturned (folders _ _ _) (logs _ _ _) folder.old folder.new file.old result }
+        ensures away { IsMissing Self.stands file.old.rt.now file.old.name.now → IsErr result };
 
     /// `LogFolder::make_log`.
     fn make_log<'a>(folder: &mut ImageFolder<'a, Self>) -> io::Result<SystemLog<'a, Self>>
@@ -82,8 +82,8 @@ pub trait HostLogs: HostFiles {
         ensures acts { Acts (folders _ _ _) folder.old folder.new being_made IsMaking result };
 
     /// `LogFolder::leave_making`, before the file is closed.
-    fn leave_making<'a>(folder: &mut ImageFolder<'a, Self>, file: &SystemLog<'a, Self>)
-        ensures { IsGivenUp (folders _ _ _) folder.old folder.new ((logs _ _ _).has_failed file.now) };
+    fn leave_making<'a>(folder: &mut ImageFolder<'a, Self>, file: &mut SystemLog<'a, Self>)
+        ensures { IsGivenUp (folders _ _ _) folder.old folder.new ((logs _ _ _).has_failed file.old) };
 
     /// `LogFolder::name_log`.
     fn name_log<'a>(

@@ -23,9 +23,11 @@ use std::os::unix::fs::MetadataExt;
 /// hold, the host says. The tag stays until the log's name is removed.
 #[derive(Drop)]
 pub struct ImageFolder<'a, R: HostFiles> {
-    pub(crate) rt: &'a R,
+    /// The host.
+    pub rt: &'a R,
     pub(crate) names: &'a LogNames,
-    pub(crate) image: R::File,
+    /// The file of IMAGE.
+    pub image: R::File,
     // the file that is the log
     pub(crate) log: Option<Identity>,
     // whether IMAGE is tagged once its log has its name
@@ -87,12 +89,9 @@ impl<'a, R: HostFiles> ImageFolder<'a, R> {
     }
 
     /// An open file as the log, or as one in the making that hasn't its name yet.
-    pub(crate) fn log_of(
-        &self,
-        file: R::File,
-        identity: Identity,
-        named: bool,
-    ) -> SystemLog<'a, R> {
+    pub fn log_of(&self, file: R::File, identity: Identity, named: bool) -> SystemLog<'a, R>
+        ensures { result.file ≡ file }
+    {
         SystemLog {
             rt: self.rt,
             name: self.names.log(),
@@ -156,7 +155,8 @@ impl<'a, R: HostLogs> LogFolder<SystemLog<'a, R>> for ImageFolder<'a, R> {
     }
 
     fn close_log(&mut self, file: SystemLog<'a, R>) -> io::Result<()> {
-        R::close_log(self, &file)
+        let mut file = file;
+        R::close_log(self, &mut file)
     }
 
     fn make_log(&mut self) -> io::Result<SystemLog<'a, R>> {
@@ -164,7 +164,8 @@ impl<'a, R: HostLogs> LogFolder<SystemLog<'a, R>> for ImageFolder<'a, R> {
     }
 
     fn leave_making(&mut self, file: SystemLog<'a, R>) {
-        R::leave_making(self, &file)
+        let mut file = file;
+        R::leave_making(self, &mut file)
     }
 
     fn name_log(&mut self, file: &SystemLog<'a, R>) -> io::Result<()> {

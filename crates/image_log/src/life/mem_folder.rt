@@ -99,7 +99,7 @@ fn note_return(calls: &mut Vec<FolderCall>, lent: usize, file: MemLog) -> Result
 impl MemFolder {
     ghost use Rattle.std.specs.Prelude.{None, Some};
     ghost use Rattle.image_log.specs.life.FolderCalls.{began as began_with};
-    ghost use Rattle.image_log.specs.life.Folders.{IsReturned};
+    ghost use Rattle.image_log.specs.life.Folders.{AllLeft, IsReturned};
     ghost use Rattle.image_log.specs.Memory.{memory};
     ghost use Rattle.image_log.specs.life.MemFolders.{folder_in_memory};
 
@@ -108,6 +108,7 @@ impl MemFolder {
         requires sized { length image.now ≡ 683 }
         ensures held { IfOk result (λ folder. folder_in_memory.held folder ≡ Some (began_with image.now None)) }
         ensures unfailed { IfOk result (λ folder. folder_in_memory.has_failed folder ≡ false) }
+        ensures left { IfOk result (λ folder. AllLeft folder_in_memory folder (λ s. s ≡ began_with image.now None)) }
     {
         let Ok(first_image) = Vec::from_slice(alloc, image) else {
             return refused();
@@ -155,9 +156,10 @@ impl MemFolder {
         })
     }
 
-    /// Fails, since it can't be kept that this file was closed.
-    fn lose(&mut self, file: MemLog) -> io::Result<()>
-        ensures { IsReturned folder_in_memory memory self.old self.new file result }
+    /// Fails as this file is closed: it can't be kept that it was, or its name leads elsewhere.
+    pub fn lose(&mut self, file: MemLog) -> io::Result<()>
+        ensures returned { IsReturned folder_in_memory memory self.old self.new file result }
+        ensures err { IsErr result }
     {
         self.failed = true;
         match &self.lost {

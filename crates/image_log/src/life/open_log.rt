@@ -11,7 +11,8 @@ use std::io::{self, ErrorKind, Read, Seek, SeekFrom};
 /// trusted.
 #[derive(Drop)]
 pub struct OpenLog<F> {
-    pub(crate) file: F,
+    /// The file.
+    pub file: F,
 }
 
 /// Fills a buffer with a file's bytes from this place on. False if the file ends before.

@@ -70,7 +70,10 @@ where
         Ok(folder.log_of(file, identity, true))
     }
 
-    fn close_log<'a>(_folder: &mut ImageFolder<'a, R>, file: &SystemLog<'a, R>) -> io::Result<()> {
+    fn close_log<'a>(
+        _folder: &mut ImageFolder<'a, R>,
+        file: &mut SystemLog<'a, R>,
+    ) -> io::Result<()> {
         file.see_name()
     }
 
@@ -84,7 +87,7 @@ where
         Ok(folder.log_of(file, identity, false))
     }
 
-    fn leave_making<'a>(_folder: &mut ImageFolder<'a, R>, _file: &SystemLog<'a, R>) {}
+    fn leave_making<'a>(_folder: &mut ImageFolder<'a, R>, _file: &mut SystemLog<'a, R>) {}
 
     fn name_log<'a>(folder: &mut ImageFolder<'a, R>, file: &SystemLog<'a, R>) -> io::Result<()> {
         folder.see_log()?;

@@ -8,8 +8,10 @@ use std::io;
 /// The log in a folder of a host, open to be read. What it has, the host says.
 #[derive(Drop)]
 pub struct ReadLog<'a, R: HostFiles> {
-    pub(crate) rt: &'a R,
-    pub(crate) log: OpenLog<R::File>,
+    /// The host.
+    pub rt: &'a R,
+    /// The log's file.
+    pub log: OpenLog<R::File>,
 }
 
 impl<R: HostLogs> LogReader for ReadLog<'_, R> {

@@ -15,10 +15,12 @@ use std::io;
 /// long as a log. What it holds, the host says.
 #[derive(Drop)]
 pub struct SystemLog<'a, R: HostFiles> {
-    pub(crate) rt: &'a R,
-    // the log's name
-    pub(crate) name: &'a str,
-    pub(crate) file: R::File,
+    /// The host.
+    pub rt: &'a R,
+    /// The log's name.
+    pub name: &'a str,
+    /// The file.
+    pub file: R::File,
     // which file it is, as long as a log
     pub(crate) identity: Identity,
     // whether it has the name

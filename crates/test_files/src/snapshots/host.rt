@@ -1,18 +1,21 @@
 //! A host of files in memory that says what two of them held when it was made.
-ghost use Rattle.std.specs.Prelude.{◌≡◌, List, IfOk, IsErr, Some, ℕ, option_map};
+ghost use Rattle.std.specs.Prelude.{◌≡◌, List, IfOk, IsErr, Some, ℕ, option_map, true};
 ghost use Rattle.image_file.specs.paths.Standing.{AreOf, Holds, IsMissing};
+ghost use Rattle.test_files.specs.KnownFolders.{IsFreshAt, snapshot_traces};
 ghost use Rattle.test_files.specs.Snapshots.{left_of, snapshot_rights, snapshot_stands};
 
 use crate::snapshots::open_file::SnapshotFile;
 use crate::snapshots::store::Store;
-use image_file::{HostFiles, HostInput, PlainFiles};
+use d64_image::IMAGE_BYTES;
+use image_file::{HostFiles, HostInput};
+use image_log::{MemFolder, sectors_of};
 use std::alloc::{Allocator, Global};
 use std::fs::{Metadata, OpenFile};
 use std::io::{self, BufRead, ErrorKind, Lines};
 
 /// A host whose files are in a store, and all of which may be written. It says that `a.d64` and `s.txt` hold these bytes, as
-/// they did when it was made. If it is quiet, it says that `a.d64-log` isn't there, and none can be read. It says nothing of
-/// other paths. Standard input has the bytes of `s.txt`.
+/// they did when it was made, and so does the folder of each `a.d64` that is opened to be written. If it is quiet, it says that
+/// `a.d64-log` isn't there, and none can be read. It says nothing of other paths. Standard input has the bytes of `s.txt`.
 #[derive(Clone, Copy)]
 pub struct Snapshot<'a> {
     /// Memory.
@@ -46,7 +49,7 @@ impl<'a> Snapshot<'a> {
     fn found(&self, path: &str) -> io::Result<usize>
         ensures { IsMissing snapshot_stands self.now path.now → IsErr result }
     {
-        if self.quiet && path == "a.d64-log" {
+        if self.is_away(path) {
             return Err(ErrorKind::NotFound.into());
         }
         self.store.number_of(path).ok_or(ErrorKind::NotFound.into())
@@ -58,7 +61,36 @@ impl<'a> Snapshot<'a> {
         ensures bytes { IfOk result (λ file. AreOf snapshot_stands self.now path.now (left_of file)) }
     {
         let number = self.found(path)?;
-        Ok(SnapshotFile::new(self.store, number, self.said(path)))
+        Ok(SnapshotFile::new(self.alloc, self.store, number, self.said(path)))
+    }
+
+    /// The folder of the file at a path, in memory. It is that of `a.d64`, if that is as long as an image.
+    fn folder_of(&self, path: &str) -> io::Result<Option<MemFolder>>
+        ensures { IfOk result (IsFreshAt self.now path.now) }
+    {
+        if path != "a.d64" || self.image.len() != IMAGE_BYTES {
+            return Ok(None);
+        }
+        let folder = MemFolder::new(self.alloc, sectors_of(self.image))?;
+        Ok(Some(folder))
+    }
+
+    /// The file at a path, open to be written.
+    fn opened_to_write(&self, path: &str) -> io::Result<SnapshotFile<'a>>
+        ensures missing { IsMissing snapshot_stands self.now path.now → IsErr result }
+        ensures bytes { IfOk result (λ file. AreOf snapshot_stands self.now path.now (left_of file)) }
+        ensures opened { IfOk result (λ file. IsFreshAt self.now path.now file.folder) }
+    {
+        let file = self.opened(path)?;
+        let folder = self.folder_of(path)?;
+        Ok(file.in_folder(folder))
+    }
+
+    /// Whether it says that no file is at a path.
+    pub(crate) fn is_away(&self, path: &str) -> bool
+        ensures { IsMissing snapshot_stands self.now path.now → result ≡ true }
+    {
+        self.quiet && path == "a.d64-log"
     }
 
     /// The file that is made at a path.
@@ -104,15 +136,14 @@ impl<'a> HostInput for Snapshot<'a> {
     }
 }
 
-// It says nothing of the folders of its images.
-impl PlainFiles for Snapshot<'_> {}
-
 impl<'a> HostFiles for Snapshot<'a> {
     type File = SnapshotFile<'a>;
 
     ghost rights = { snapshot_rights };
 
     ghost stands = { snapshot_stands };
+
+    ghost traces = { snapshot_traces };
 
     fn look_at(&self, path: &str) -> io::Result<Metadata> {
         let number = self.found(path)?;
@@ -138,15 +169,16 @@ impl<'a> HostFiles for Snapshot<'a> {
     }
 
     fn open_to_change(&self, path: &str) -> io::Result<SnapshotFile<'a>> {
-        self.opened(path)
+        self.opened_to_write(path)
     }
 
     fn open_to_write(&self, path: &str) -> io::Result<SnapshotFile<'a>> {
-        self.opened(path)
+        self.opened_to_write(path)
     }
 
     fn make_file(&self, path: &str, _mode: u32) -> io::Result<SnapshotFile<'a>> {
-        Ok(SnapshotFile::new(self.store, self.made(path)?, None))
+        let number = self.made(path)?;
+        Ok(SnapshotFile::new(self.alloc, self.store, number, None))
     }
 
     fn make_folder(&self, path: &str) -> io::Result<()> {

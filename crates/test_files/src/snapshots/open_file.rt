@@ -1,9 +1,10 @@
 //! An open file of a store.
-ghost use Rattle.std.specs.Prelude.{◌≡◌, option_map};
+ghost use Rattle.std.specs.Prelude.{◌≡◌, ◌<◌, option_map};
 ghost use Rattle.test_files.specs.Snapshots.{left_of};
 
 use crate::snapshots::store::Store;
 use image_file::{EndedFile, Locks, WritesAt, read_image};
+use image_log::{MemFolder, MemLog};
 use std::alloc::Global;
 use std::fs::{Metadata, OpenFile, TryLockError};
 use std::io::{self, ErrorKind, Read, Seek, SeekFrom};
@@ -16,11 +17,25 @@ pub struct SnapshotFile<'a> {
     at: usize,
     /// What isn't read yet of that; None once another place was looked for, or written to.
     said: Option<&'a [u8]>,
+    /// The folder in which it is IMAGE, if that is known.
+    pub(crate) folder: Option<MemFolder>,
+    /// The log that it is, open to be written.
+    pub(crate) log: MemLog,
+    /// The bytes of the log that it is, open to be read.
+    pub(crate) read: Vec<u8>,
 }
+
+/// The number of no file.
+const NONE: usize = usize::MAX;
 
 impl<'a> SnapshotFile<'a> {
     /// The file with this number, which is said to hold these bytes.
-    pub(crate) fn new(store: &'a Store, number: usize, said: Option<&'a [u8]>) -> SnapshotFile<'a>
+    pub(crate) fn new(
+        alloc: Global,
+        store: &'a Store,
+        number: usize,
+        said: Option<&'a [u8]>,
+    ) -> SnapshotFile<'a>
         ensures { left_of result ≡ option_map (λ bytes. bytes.now) said.entry }
     {
         SnapshotFile {
@@ -28,7 +43,45 @@ impl<'a> SnapshotFile<'a> {
             number,
             at: 0,
             said,
+            folder: None,
+            log: MemLog::new(alloc),
+            read: Vec::new(alloc),
         }
+    }
+
+    /// A log beside the files of a store, open to be written.
+    pub(crate) fn of_log(alloc: Global, store: &'a Store, log: MemLog) -> SnapshotFile<'a>
+        ensures { result.log ≡ log }
+    {
+        let mut file = SnapshotFile::new(alloc, store, NONE, None);
+        file.log = log;
+        file
+    }
+
+    /// A log beside them, open to be read, with these bytes.
+    pub(crate) fn of_read(alloc: Global, store: &'a Store, bytes: Vec<u8>) -> SnapshotFile<'a>
+        ensures { result.read ≡ bytes }
+    {
+        let mut file = SnapshotFile::new(alloc, store, NONE, None);
+        file.read = bytes;
+        file
+    }
+
+    /// This file as IMAGE in a folder of which this is known.
+    pub(crate) fn in_folder(self, folder: Option<MemFolder>) -> SnapshotFile<'a>
+        ensures folder { result.folder ≡ folder }
+        ensures left { left_of result ≡ left_of self.entry }
+    {
+        let mut file = self;
+        file.folder = folder;
+        file
+    }
+
+    /// Writes a sector to the store too, in which the rows look for it.
+    pub(crate) fn show_sector(&self, index: usize, sector: &[u8; 256])
+        requires { index < 683 }
+    {
+        let _ = self.store.write_at(self.number, 256 * index, sector);
     }
 }
 

@@ -1,0 +1,80 @@
+-- A snapshot meets the premises of what is told of a service.
+use Rattle.std.proofs.Common.{◌≡◌, ◌∙◌, [], ◌∷◌, ℕ, List, ap, arith, inl, inr, refl, subst, sym}
+use Rattle.std.proofs.lemmas.Bool.{false≢true}
+use Rattle.std.proofs.lemmas.List.{take_all}
+use Rattle.std.specs.Prelude.{None, Ok, Option, Some, length, take}
+use Rattle.std.specs.declared.io.traits.Read.{Ghosts as ReadGhosts}
+use Rattle.std.specs.declared.io.traits.Seek.{Ghosts as SeekGhosts}
+use Rattle.d64_image.specs.Images.{Image}
+use Rattle.d64_image.specs.Memory.{sectors_in}
+use Rattle.host_session.specs.shop.Shop.{Shop}
+use Rattle.image_file.specs.declared.paths.host.HostFiles.{Ghosts as HostGhosts}
+use Rattle.image_log.specs.declared.life.mem_folder.MemFolder.{MemFolder}
+use Rattle.image_log.specs.life.FolderCalls.{began}
+use Rattle.image_log.specs.life.Folders.{Folder}
+use Rattle.image_log.specs.life.Shops.{GivesOneOf}
+use Rattle.line_server.specs.Scripts.{crlf_text}
+use Rattle.line_text.specs.scripts.Lines.{lines}
+use Rattle.shop_jobs.specs.KeptServices.{IsPlayKept, IsServiceAt, IsServiceKept}
+use Rattle.shop_jobs.specs.Replies.{IsShopOf}
+use Rattle.disk_layout.specs.declared.faults.Fault.{Fault}
+use Rattle.test_files.proofs.SnapshotPremises.{text-other}
+use Rattle.test_files.specs.KnownFolders.{IsFresh, held_in, left_in, snapshot_folders, snapshot_logs, snapshot_traces}
+use Rattle.test_files.specs.KnownServices.{HasServed}
+use Rattle.test_files.specs.Snapshots.{image_path, snapshot_rights, snapshot_stands, text_path}
+use Rattle.test_files.specs.declared.snapshots.host.Snapshot.{Snapshot}
+use Rattle.test_files.specs.declared.snapshots.open_file.SnapshotFile.{SnapshotFile}
+
+one-of : (image : Image) → GivesOneOf (image ∷ []) (began image None)
+one-of image = (image, (0, omega arith, refl), refl)
+
+-- the bytes of a host's image are those that were read of it
+whole : (host : Snapshot) (image : List ℕ) → length host.image.now ≡ 174848 → image ≡ take 174849 host.image.now
+    → image ≡ host.image.now
+whole host image size is = is ∙ take_all 174849 host.image.now (omega (arith, size))
+
+module _ {W : Type 0} (g : HostGhosts Snapshot SnapshotFile) (r : ReadGhosts SnapshotFile) (s : SeekGhosts SnapshotFile)
+    (contents : W → Option (List ℕ)) (host : Snapshot) (shop : Shop) (is : IsShopOf host.image.now shop) where
+  fresh-gives : (found : Option MemFolder) → IsFresh host found
+      → (held_in found ≡ Some (began (sectors_in host.image.now) None))
+      × ((t : Folder) → left_in found t → GivesOneOf (sectors_in host.image.now ∷ []) t)
+  fresh-gives found fresh = (
+    ap held_in fresh.1 ∙ fresh.2,
+    λ t may. subst (GivesOneOf (sectors_in host.image.now ∷ []))
+        (sym (fresh.3 t (subst (λ (o : Option MemFolder). left_in o t) fresh.1 may))) (one-of (sectors_in host.image.now)),
+  )
+
+  service : (input : List ℕ) (old new : W) (found : Option Fault)
+      → IsServiceAt g r s snapshot_logs snapshot_folders snapshot_stands snapshot_rights snapshot_traces contents (Some input)
+      host image_path old new (Ok found) → HasServed g r s contents shop input old new
+  service input old new found (image, of, begun, (folder, at, known), served) =
+      let image-is = whole host image is.0 (of host.image.now refl) in
+      let fresh = fresh-gives folder.image.folder (at.2 refl is.0) in
+      let stands = (known (sectors_in host.image.now) (began (sectors_in host.image.now) None) fresh.0
+      (one-of (sectors_in host.image.now)) fresh.1).0 in
+      let done = served.done shop (subst (λ (bytes : List ℕ). IsShopOf bytes shop) (sym image-is) is) in
+      record {
+        handled = served.handled;
+        rest = served.rest;
+        all = served.all input refl;
+        whole = served.whole;
+        lacks = served.lacks;
+        told = done.0;
+        folder = served.folder;
+        landed = done.2 stands;
+      }
+
+  pub served : (input : List ℕ) (old new : W) (found : Option Fault)
+      → IsServiceKept g r s snapshot_logs snapshot_folders snapshot_stands snapshot_rights snapshot_traces contents (Some input)
+      host image_path old new (Ok found) → HasServed g r s contents shop input old new
+  served input old new found (inl not) = absurd (false≢true not.0)
+  served input old new found (inr at) = service input old new found at
+
+  pub played : (old new : W) (found : Option Fault)
+      → IsPlayKept g r s snapshot_logs snapshot_folders snapshot_stands snapshot_rights snapshot_traces contents host
+      image_path text_path old new (Ok found) → HasServed g r s contents shop (crlf_text (lines host.text.now)) old new
+  played old new found (inl not) = absurd (false≢true not.0)
+  played old new found (inr (text, of, at)) =
+      service (crlf_text (lines host.text.now)) old new found
+      (subst (λ (t : List ℕ). IsServiceAt g r s snapshot_logs snapshot_folders snapshot_stands snapshot_rights snapshot_traces
+      contents (Some (crlf_text (lines t))) host image_path old new (Ok found)) (of text-other host.text.now refl) at)
