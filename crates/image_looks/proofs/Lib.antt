@@ -2,3 +2,4 @@ pub mod EachTold
 pub mod ExtractSaid
 pub mod Listed
 pub mod Looked
+pub mod NewFolders

@@ -1,12 +1,17 @@
 -- What comes of taking all files out of an image. All of it is our own.
-use Rattle.std.specs.Prelude.{◌≡◌, ◌⊎◌, ◌++◌, ⊤, List, ℕ, IsOk, MatchResult, None, Ok, Err, Option, Result, Some, codes}
+use Rattle.std.specs.Prelude.{◌≡◌, ◌⊎◌, ◌++◌, [], ⊤, List, ℕ, IsOk, MatchResult, None, Ok, Err, Option, Result, Some, codes, map}
 use Rattle.std.specs.Io.KnownBytes.{Appends}
 use Rattle.damaged_files.specs.cut.Told.{shortfall_text}
 use Rattle.damaged_files.specs.declared.cut.shortfalls.Shortfall.{Shortfall}
 use Rattle.disk_layout.specs.declared.faults.Fault.{Fault}
+use Rattle.file_rescues.specs.declared.rescue.mem_folder.MemFile.{MemFile}
 use Rattle.file_rescues.specs.rescue.Folders.{NewFile}
+use Rattle.file_rescues.specs.rescue.Memory.{file_in}
 use Rattle.file_rescues.specs.rescue.Rescues.{IsExtractFault, IsExtracted}
 use Rattle.file_rescues.specs.declared.rescue.choices.Choice.{Choice}
+use Rattle.image_file.specs.Remains.{Remains}
+use Rattle.image_file.specs.paths.Traces.{Traces}
+use Rattle.image_looks.specs.NewFolders.{AreMadeAt}
 use Rattle.line_text.specs.Handed.{AppendsPart}
 use Rattle.command_faults.specs.declared.faults.CommandFault.{CommandFault}
 use Rattle.command_faults.specs.declared.faults.CommandFault.TheVariants as faults
@@ -35,29 +40,25 @@ IsExtractTold contents None lack old new end =
     ((end ≡ Ok None) × Appends (contents old) (contents new) (extracted_text lack))
     ⊎ ((end ≡ Err faults.File) × AppendsPart (contents old) (contents new) (extracted_text lack))
 
--- The chosen files of the image were made in the folder, or not all for a fault. That was reported, with what is seen of
--- files that lack something; or all were made, and the folder failed as it was kept. Or there was no memory to see that, and nothing
--- was done.
-abbrev pub IsExtractEnd : {F W : Type 0} → (F → Option (List NewFile)) → (has_failed : F → Type 0) → (W → Option (List ℕ))
-    → Choice → (image : List ℕ) → F → F → W → W → JobEnd → Type 0
-IsExtractEnd files has_failed contents choice image folder left old new end =
-    ((end ≡ Err faults.NoMemory) × (left ≡ folder) × (new ≡ old))
-    ⊎ ((ended : Result (Option Fault) CommandFault) × (lack : Option Shortfall)
-    × MatchResult ended (IsExtracted files choice image folder left) (IsExtractFault files choice image folder left)
-    × IsSeen image lack × (IsExtractTold contents (refusal_of ended lack) lack old new end
-    ⊎ (IsOk ended × has_failed left × (end ≡ Err faults.File) × (new ≡ old))))
+-- a folder wasn't made, for this reason
+abbrev pub IsUnmade : CommandFault → Type 0
+IsUnmade fault = (fault ≡ faults.File) ⊎ (fault ≡ faults.PathExists)
 
--- the same, if nothing is known of the folder
-abbrev pub IsExtractSaid : {W : Type 0} → (W → Option (List ℕ)) → Choice → (image : List ℕ) → W → W → JobEnd → Type 0
-IsExtractSaid contents choice image old new end =
-    IsExtractEnd {F = Unit} (λ _. None) (λ _. ⊤) contents choice image tt tt old new end
+-- The chosen files of the image were gathered, or not all for a fault. If they were, the folder was made with them (`Made`), whatever
+-- is reported of them: what is seen of files that lack something. Or it couldn't be made, and nothing was printed. Or there was
+-- no memory to see that, and nothing was done.
+abbrev pub IsExtractRun : {W : Type 0} → (Made : List MemFile → Type 0) → (Failed : Type 0) → (W → Option (List ℕ)) → Choice
+    → (image : List ℕ) → W → W → JobEnd → Type 0
+IsExtractRun Made Failed contents choice image old new end =
+    ((end ≡ Err faults.NoMemory) × (new ≡ old))
+    ⊎ ((ended : Result (Option Fault) CommandFault) × (lack : Option Shortfall) × (files : List MemFile)
+    × MatchResult ended (IsExtracted {F = List NewFile} (λ all. Some all) choice image [] (map file_in files))
+    (IsExtractFault {F = List NewFile} (λ all. Some all) choice image [] (map file_in files)) × IsSeen image lack
+    × ((IsExtractTold contents (refusal_of ended lack) lack old new end × (IsOk ended → Made files))
+    ⊎ (IsOk ended × Failed × (fault : CommandFault) × (end ≡ Err fault) × IsUnmade fault × (new ≡ old))))
 
--- a run that fills a folder ended so, and its job with it; a folder that was there is refused
-abbrev pub IsFolderEnd : JobEnd → JobEnd → Type 0
-IsFolderEnd (Ok found) end = end ≡ Ok found
-IsFolderEnd (Err refusal) end = (end ≡ Err refusal) ⊎ (end ≡ Err faults.PathExists)
-
--- the files of an image were made in a folder that is made, or not, and its job ended so
-abbrev pub IsExtractedTo : {W : Type 0} → (W → Option (List ℕ)) → Choice → (image : List ℕ) → W → W → JobEnd → Type 0
-IsExtractedTo contents choice image old new end =
-    (ended : JobEnd) × IsExtractSaid contents choice image old new ended × IsFolderEnd ended end
+-- the files of an image were made so in a folder of a host
+abbrev pub IsExtractedTo : {H F W : Type 0} → Remains F → Traces H F → (W → Option (List ℕ)) → H → Choice
+    → (folder image : List ℕ) → W → W → JobEnd → Type 0
+IsExtractedTo remains traces contents host choice folder image old new end =
+    IsExtractRun (λ files. AreMadeAt remains traces host folder files) ⊤ contents choice image old new end

@@ -4,5 +4,6 @@ pub mod EachImage
 pub mod Extracts
 pub mod LookRuns
 pub mod Looks
+pub mod NewFolders
 pub mod Overviews
 pub mod SheetPages

@@ -1,8 +1,10 @@
 -- What a job that looks at images comes to over the bytes that the host says. Our own.
-use Rattle.std.specs.Prelude.{ℕ, List, Option, take}
+use Rattle.std.specs.Prelude.{◌≡◌, ◌⊎◌, ◌++◌, ℕ, List, Option, codes, take}
 use Rattle.file_rescues.specs.declared.rescue.choices.Choice.{Choice}
+use Rattle.image_file.specs.Remains.{Remains}
 use Rattle.image_file.specs.paths.Rights.{Rights}
 use Rattle.image_file.specs.paths.Standing.{Stands}
+use Rattle.image_file.specs.paths.Traces.{Traces}
 use Rattle.image_looks.specs.Comparisons.{IsComparingRun}
 use Rattle.disk_reports.specs.Descriptions.{heading_text}
 use Rattle.disk_reports.specs.declared.describing.DescriptionForm.{DescriptionForm}
@@ -29,11 +31,6 @@ module _ {H W : Type 0} (rights : Rights H) (stands : H → List ℕ → Stands)
       OfImage rights stands host after (λ second. RunEnds old new end
       (IsComparingRun contents before (take 174849 first) after (take 174849 second) old new end)))
 
-  -- its files were made in a folder that is made; nothing is said of that folder
-  abbrev pub IsExtractedFrom : Choice → List ℕ → W → W → JobEnd → Type 0
-  IsExtractedFrom choice path old new end = OfImage rights stands host path
-      (λ all. RunEnds old new end (IsExtractedTo contents choice (take 174849 all) old new end))
-
   -- the images at these paths were drawn on a sheet
   abbrev pub AreDrawnOnSheet : List (List ℕ) → W → W → JobEnd → Type 0
   AreDrawnOnSheet paths old new end =
@@ -49,3 +46,11 @@ module _ {H W : Type 0} (rights : Rights H) (stands : H → List ℕ → Stands)
   abbrev pub AreOverviewed : Look → List (List ℕ) → W → W → JobEnd → Type 0
   AreOverviewed what paths old new end =
       IsSeveralEnd (AreHandedOn (IsReadAt rights stands host) (IsOverviewOf contents what) contents paths old new) end
+
+module _ {H F W : Type 0} (rights : Rights H) (stands : H → List ℕ → Stands) (traces : Traces H F) (remains : Remains F)
+    (contents : W → Option (List ℕ)) (host : H) where
+  -- The files of the image at a path were made in a folder at another, whose path may have a slash at its end.
+  abbrev pub IsExtractedFrom : Choice → (path folder : List ℕ) → W → W → JobEnd → Type 0
+  IsExtractedFrom choice path folder old new end = OfImage rights stands host path
+      (λ all. RunEnds old new end ((at : List ℕ) × ((folder ≡ at) ⊎ (folder ≡ at ++ codes "/"))
+      × IsExtractedTo remains traces contents host choice at (take 174849 all) old new end))

@@ -1,14 +1,14 @@
 //! All files of an image, taken out to a folder that is new.
-ghost use Rattle.std.specs.Prelude.{◌≡◌, ◌++◌, IfErr, IfOk, IfSome, IsErr, IsOk, OnOk, codes, true};
+ghost use Rattle.std.specs.Prelude.{◌≡◌, ◌++◌, IfErr, IfOk, IfSome, IsErr, IsOk, OnOk, codes, take, true};
 ghost use Rattle.std.specs.Io.KnownBytes.{Appends};
 ghost use Rattle.line_text.specs.Handed.{AppendsPart};
 ghost use Rattle.command_faults.specs.declared.faults.CommandFault.TheVariants as faults;
-ghost use Rattle.image_looks.specs.Extracts.{IsExtractEnd, IsExtractTold, IsFolderEnd, extracted_text, refusal_found, refusal_of};
+ghost use Rattle.image_looks.specs.Extracts.{IsExtractRun, IsExtractTold, IsExtractedTo, IsUnmade, extracted_text, refusal_found, refusal_of};
 ghost use Rattle.image_looks.specs.LookRuns.{IsExtractedFrom};
-ghost use Rattle.opened_files.specs.HostFiles.{IsUnbegun};
+ghost use Rattle.opened_files.specs.HostFiles.{IsUnbegun, OfImage, RunEnds};
 ghost use Rattle.opened_files.specs.Rights.{MayFill, MayFillAt, MayReadImage};
 
-use crate::new_folders::{KeptFolder, SystemFolder};
+use crate::new_folders::{FolderPlace, GatheredFiles, SystemFolder};
 use arrayvec::ArrayVec;
 use command_faults::CommandFault;
 use damaged_files::Shortfall;
@@ -19,7 +19,7 @@ use opened_files::{image_at, run_end, short_refusal, shortfall_in};
 use shop_commands::print_whole;
 use std::alloc::Global;
 use std::fs::OpenFile;
-use std::io::{self, Read, Write};
+use std::io::{self, ErrorKind, Read, Write};
 
 /// Why files that were all made aren't whole: their first fault, or that a file is cut short there.
 fn found_refusal(found: Option<Fault>, lack: Option<Shortfall>) -> Option<CommandFault>
@@ -75,57 +75,46 @@ fn tell_extracted<W: Write>(
     run_end(print_extracted(lack, out))
 }
 
-/// Keeps a folder whose files were all made; one in which they weren't isn't kept. `File` if it can't be kept.
-fn keep_made<N: KeptFolder>(
+/// Makes a folder with the files that were gathered; none if they weren't all. `Exists` if something stands in its place, and
+/// `File` if it can't be made otherwise.
+fn make_gathered<P: FolderPlace>(
     ended: &Result<Option<Fault>, CommandFault>,
-    folder: &mut N,
+    gathered: &GatheredFiles,
+    place: &P,
 ) -> Result<(), CommandFault>
-    ensures same { N.files folder.new ≡ N.files folder.old }
-    ensures unmade { IsErr ended.now → folder.new ≡ folder.old }
-    ensures kept { OnOk result (IsOk ended.now → N.IsKept folder.new) }
-    ensures err { IfErr result (λ fault. (fault ≡ faults.File) × IsOk ended.now × N.HasFailed folder.new) }
+    ensures made { OnOk result (IsOk ended.now → P.IsMade place.now gathered.now.files.files.items) }
+    ensures err { IfErr result (λ fault. IsOk ended.now × P.HasFailed place.now × IsUnmade fault) }
 {
-    match ended {
-        Ok(_) => match folder.keep() {
-            Ok(()) => Ok(()),
-            Err(_) => Err(CommandFault::File),
-        },
-        Err(_) => Ok(()),
+    if ended.is_err() {
+        return Ok(());
+    }
+    match place.make(gathered.files()) {
+        Ok(()) => Ok(()),
+        Err(error) if error.kind() == ErrorKind::AlreadyExists => Err(CommandFault::PathExists),
+        Err(_) => Err(CommandFault::File),
     }
 }
 
-/// Makes the chosen files of an image in a folder, as `extract_image` does, keeps it, and prints `EXTRACTED` if all are whole.
-/// `FEWER` and a sector follow if a file of a sound disk has fewer blocks than its entry says, and ends there. Otherwise
-/// nothing is printed. `Keep` has the first fault of a file or of the directory, or why the files aren't made. `Short`: a
-/// file of a sound disk is cut short. `File` if the folder failed as it was kept, or the output failed; `NoMemory`.
-pub fn extract_run<N: KeptFolder, W: Write>(
+/// Makes the chosen files of an image in a new folder, as `extract_image` does, and prints `EXTRACTED` if all are whole. `FEWER`
+/// and a sector follow if a file of a sound disk has fewer blocks than its entry says, and ends there. Otherwise nothing is
+/// printed. `Keep` has the first fault of a file or of the directory, or why the files aren't made. `Short`: a file of a sound
+/// disk is cut short. `Exists` if something stands in the folder's place. `File` if the folder failed, or the output; `NoMemory`.
+pub fn extract_run<P: FolderPlace, W: Write>(
     alloc: Global,
     choice: Choice,
     image: &[u8],
-    folder: &mut N,
+    place: &P,
     out: &mut W,
 ) -> Result<Option<Fault>, CommandFault>
-    ensures run { IsExtractEnd N.files N.HasFailed W.contents choice image.now folder.old folder.new out.old out.new result }
-    ensures kept { OnOk result (N.IsKept folder.new) }
+    ensures { IsExtractRun (λ files. P.IsMade place.now files) (P.HasFailed place.now) W.contents choice image.now
+        out.old out.new result }
 {
     let lack = shortfall_in(alloc, image)?;
-    let ended = extract_image(alloc, choice, image, folder);
-    match keep_made(&ended, folder) {
+    let mut gathered = GatheredFiles::new(alloc);
+    let ended = extract_image(alloc, choice, image, &mut gathered);
+    match make_gathered(&ended, &gathered, place) {
         Ok(()) => tell_extracted(extract_refusal(ended, lack), lack, out),
         Err(fault) => Err(fault),
-    }
-}
-
-/// The end of a job that fills a folder. If it isn't done, and something stood at the folder's path, that is why.
-fn folder_end(
-    ended: Result<Option<Fault>, CommandFault>,
-    has_stood: bool,
-) -> Result<Option<Fault>, CommandFault>
-    ensures { IsFolderEnd ended result }
-{
-    match ended {
-        Err(_) if has_stood => Err(CommandFault::PathExists),
-        ended => ended,
     }
 }
 
@@ -144,12 +133,12 @@ where
     W: Write,
     requires image { MayReadImage R.rights rt.now path.now }
     requires folder { MayFill R.rights rt.now folder.now }
-    ensures { IsExtractedFrom R.rights R.stands W.contents rt.now choice path.now out.old out.new result }
+    ensures { OfImage R.rights R.stands rt.now path.now (λ all. RunEnds out.old out.new result (IsExtractedTo
+        F.EndedFile.remains R.traces W.contents rt.now choice folder.now (take 174849 all) out.old out.new result)) }
 {
     let image = image_at(rt, path)?;
-    let mut files = SystemFolder::new(rt, folder);
-    let ended = extract_run(rt.alloc(), choice, image.as_slice(), &mut files, out);
-    folder_end(ended, files.given_up())
+    let place = SystemFolder::new(rt, folder);
+    extract_run(rt.alloc(), choice, image.as_slice(), &place, out)
 }
 
 /// Whether a path is this one with a slash after it.
@@ -197,7 +186,8 @@ where
     W: Write,
     requires image { MayReadImage R.rights rt.now path.now }
     requires folder { MayFillAt R.rights rt.now folder.now }
-    ensures { IsExtractedFrom R.rights R.stands W.contents rt.now choice path.now out.old out.new result }
+    ensures { IsExtractedFrom R.rights R.stands R.traces F.EndedFile.remains W.contents rt.now choice path.now folder.now
+        out.old out.new result }
 {
     match front_of(rt.alloc(), folder)? {
         Some(front) => extract_to(rt, choice, path, front, out),

@@ -16,6 +16,6 @@ pub use descriptions::do_describing;
 pub use extracting::{do_extracting, extract_run};
 pub use kinds::Look;
 pub use looks::{do_look, look};
-pub use new_folders::KeptFolder;
+pub use new_folders::FolderPlace;
 pub use overviews::{do_several, overview_run};
 pub use sheets::do_sheet;

@@ -1,31 +1,75 @@
-//! Folders that are made under another name, and get their own when all their files are there and synced.
-ghost use Rattle.std.specs.Prelude.{◌≡◌, IfOk, string_bytes};
+//! Folders whose files are gathered in memory. Then they are made under another name, and get their own when all is synced.
+ghost use Rattle.std.specs.Prelude.{◌≡◌, IfOk, OnOk, string_bytes};
 ghost use Rattle.std.proofs.Props.{props};
 ghost use Rattle.file_rescues.specs.rescue.Folders.{StaysInside};
-ghost use Rattle.opened_files.specs.Rights.{MayFill, MayTry};
+ghost use Rattle.image_file.specs.paths.Rights.{Make};
+ghost use Rattle.image_file.specs.paths.Traces.{IsWrittenAt};
+ghost use Rattle.image_looks.specs.NewFolders.{AllStayInside, AreMadeAt, AreWrittenIn, IsWhole};
+ghost use Rattle.opened_files.specs.Rights.{MayFill, MayTry, aside_of};
 ghost use Rattle.opened_files.specs.Rights as specs;
 
-use file_rescues::NewFolder;
+use file_rescues::{MemFile, MemFolder, NewFolder};
 use image_file::{EndedFile, HostFiles};
 use opened_files::Aside;
 use std::alloc::Global;
 use std::io;
 
-/// A folder that is new, and that is kept when it is whole.
-pub trait KeptFolder: NewFolder {
-    ghost use Rattle.std.specs.Prelude.{◌≡◌, OnErr, OnOk, ⊤};
+/// Where a folder is made.
+pub trait FolderPlace {
+    ghost use Rattle.std.specs.Prelude.{List, OnErr, OnOk, ⊤};
+    ghost use Rattle.file_rescues.specs.declared.rescue.mem_folder.MemFile.{MemFile as File};
+    ghost use Rattle.image_looks.specs.NewFolders.{AllStayInside};
 
-    // it has its name, and that and its files stay if power fails
-    ghost IsKept: { Self → Type 0 } = { λ _. ⊤ };
+    // the folder was made there with these files, which stay if power fails
+    ghost IsMade: { Self → List File → Type 0 } = { λ _ _. ⊤ };
 
-    // its name or a sync was refused
+    // a call for it was refused
     ghost HasFailed: { Self → Type 0 } = { λ _. ⊤ };
 
-    /// Keeps the folder: its files are synced, and it gets its name. At an error it may not be kept.
-    fn keep(&mut self) -> io::Result<()>
-        ensures same { Self.files self.new ≡ Self.files self.old }
-        ensures kept { OnOk result (IsKept self.new) }
-        ensures cause { OnErr result (HasFailed self.new) };
+    /// Makes the folder with these files, all synced. At an error it isn't there. `AlreadyExists`: something stands in its place.
+    fn make(&self, files: &[MemFile]) -> io::Result<()>
+        requires inside { AllStayInside files.now }
+        ensures made { OnOk result (IsMade self.now files.now) }
+        ensures cause { OnErr result (HasFailed self.now) };
+}
+
+/// Files for a folder, in memory.
+#[derive(Drop)]
+pub(crate) struct GatheredFiles {
+    files: MemFolder,
+    // each can be made in a folder
+    ghost inside: { AllStayInside files.files.items } by { Prim.hlevel props },
+}
+
+impl GatheredFiles {
+    ghost use Rattle.std.specs.Prelude.{[]};
+
+    /// No files.
+    pub(crate) fn new(alloc: Global) -> GatheredFiles
+        ensures { result.files.files.items ≡ [] }
+    {
+        GatheredFiles {
+            files: MemFolder::new(alloc),
+        }
+    }
+
+    /// The files, in order.
+    pub(crate) fn files(&self) -> &[MemFile]
+        ensures { result.now ≡ self.now.files.files.items }
+    {
+        self.files.files()
+    }
+}
+
+impl NewFolder for GatheredFiles {
+    ghost use Rattle.std.specs.Prelude.{Some};
+    ghost use Rattle.file_rescues.specs.rescue.Memory.{files_in};
+
+    ghost files = { λ gathered. Some (files_in gathered.files) };
+
+    fn make(&mut self, name: &[u8], bytes: &[u8]) -> io::Result<()> {
+        self.files.make(name, bytes)
+    }
 }
 
 /// The path of the file of this name in a folder.
@@ -52,7 +96,9 @@ struct Inside<'a, R: HostFiles> {
 
 impl<R: HostFiles> Inside<'_, R> {
     /// Makes the file.
-    fn make(&self) -> io::Result<R::File> {
+    fn make(&self) -> io::Result<R::File>
+        ensures { IfOk result (λ file. R.traces.opened self.now.rt.now Make (string_bytes self.now.path) file) }
+    {
         self.rt.make_file(self.path.as_str(), 0o666)
     }
 
@@ -80,6 +126,7 @@ impl<'a, R: HostFiles + AllocGlobal> FilledFolder<'a, R> {
     /// A folder that gets this path, at which nothing may stand: `AlreadyExists`.
     fn make(rt: &'a R, path: &'a str) -> io::Result<FilledFolder<'a, R>>
         requires { MayFill R.rights rt.now path.now }
+        ensures { IfOk result (λ folder. (folder.aside.rt.now ≡ rt.now) × (folder.aside.path.now ≡ path.now)) }
     {
         let aside = Aside::free(rt, path)?;
         aside.make_folder()?;
@@ -90,6 +137,8 @@ impl<'a, R: HostFiles + AllocGlobal> FilledFolder<'a, R> {
     /// The file of this name in it, which isn't made yet.
     fn file(&self, name: &[u8]) -> io::Result<Inside<'a, R>>
         requires { StaysInside name.now }
+        ensures { IfOk result (λ inside. (inside.rt.now ≡ self.now.aside.rt.now) × (string_bytes inside.path
+            ≡ specs.path_in (aside_of self.now.aside.path.now self.now.aside.end.now) name.now)) }
     {
         let rt = self.aside.runtime();
         let path = path_in(rt.alloc(), self.aside.name(), name)?;
@@ -99,6 +148,9 @@ impl<'a, R: HostFiles + AllocGlobal> FilledFolder<'a, R> {
     /// Makes a file of this name in it.
     fn make_file(&mut self, name: &[u8]) -> io::Result<R::File>
         requires { StaysInside name.now }
+        ensures same { self.new.aside ≡ self.old.aside }
+        ensures made { IfOk result (λ file. R.traces.opened self.old.aside.rt.now Make
+            (specs.path_in (aside_of self.old.aside.path.now self.old.aside.end.now) name.now) file) }
     {
         let inside = self.file(name)?;
         // so that it is known when it is there
@@ -109,9 +161,59 @@ impl<'a, R: HostFiles + AllocGlobal> FilledFolder<'a, R> {
     }
 }
 
+/// Writes these bytes into a file that was made, and syncs it.
+fn fill<F: EndedFile>(file: &mut F, bytes: &[u8]) -> io::Result<()>
+    ensures { OnOk result (IsWhole F.EndedFile.remains file.old file.new bytes.now) }
+{
+    file.write_over(bytes, 0)?;
+    file.sync_whole()
+}
+
+impl<F, R> FilledFolder<'_, R>
+where
+    F: EndedFile + Drop,
+    R: HostFiles<File = F> + AllocGlobal,
+{
+    /// Makes a file of this name with these bytes in it, and syncs that.
+    fn add(&mut self, name: &[u8], bytes: &[u8]) -> io::Result<()>
+        requires { StaysInside name.now }
+        ensures same { self.new.aside ≡ self.old.aside }
+        ensures made { OnOk result (IsWrittenAt F.EndedFile.remains R.traces self.old.aside.rt.now
+            (specs.path_in (aside_of self.old.aside.path.now self.old.aside.end.now) name.now) bytes.now) }
+    {
+        let mut file = self.make_file(name)?;
+        fill(&mut file, bytes)
+    }
+
+    /// Makes these files in it.
+    fn add_all(&mut self, files: &[MemFile]) -> io::Result<()>
+        requires { AllStayInside files.now }
+        ensures same { self.new.aside ≡ self.old.aside }
+        ensures made { OnOk result (AreWrittenIn F.EndedFile.remains R.traces self.old.aside.rt.now
+            (aside_of self.old.aside.path.now self.old.aside.end.now) files.now) }
+    {
+        for file in files {
+            self.add(file.name.as_slice(), file.bytes.as_slice())?;
+        }
+        Ok(())
+    }
+
+    /// Makes these files in it, syncs their names, and gives it its path.
+    fn make_whole(&mut self, files: &[MemFile]) -> io::Result<()>
+        requires { AllStayInside files.now }
+        ensures { OnOk result (AreMadeAt F.EndedFile.remains R.traces self.old.aside.rt.now self.old.aside.path.now files.now) }
+    {
+        self.add_all(files)?;
+        self.keep()
+    }
+}
+
 impl<R: HostFiles> FilledFolder<'_, R> {
     /// Syncs the names of its files, and gives it its path.
-    fn keep(&self) -> io::Result<()> {
+    fn keep(&self) -> io::Result<()>
+        ensures { OnOk result (R.traces.moved self.now.aside.rt.now
+            (aside_of self.now.aside.path.now self.now.aside.end.now) self.now.aside.path.now) }
+    {
         if let Some(file) = self.files.as_slice().last() {
             file.sync_names()?;
         }
@@ -127,101 +229,42 @@ impl<R: HostFiles> FilledFolder<'_, R> {
     }
 }
 
-/// A folder of the system, which is made when the first file in it is; and whether something stood at its path then.
+/// The place of a folder of the system.
 #[derive(Drop)]
 pub(crate) struct SystemFolder<'a, R: HostFiles> {
     rt: &'a R,
     path: &'a str,
-    filled: Option<FilledFolder<'a, R>>,
-    has_stood: bool,
     // it may be made, and files in it
     ghost fills: { MayFill R.rights rt.now path.now } by { Prim.hlevel props },
 }
 
 impl<'a, R: HostFiles> SystemFolder<'a, R> {
-    /// The folder at this path, which isn't made yet.
+    /// The place at this path.
     pub(crate) fn new(rt: &'a R, path: &'a str) -> SystemFolder<'a, R>
         requires { MayFill R.rights rt.now path.now }
+        ensures rt { result.rt.now ≡ rt.now }
+        ensures path { result.path.now ≡ path.now }
     {
-        SystemFolder {
-            rt,
-            path,
-            filled: None,
-            has_stood: false,
-        }
+        SystemFolder { rt, path }
     }
+}
 
-    /// Removes what was made and isn't kept. Returns whether something stood at the path.
-    pub(crate) fn given_up(&self) -> bool {
-        if let Some(folder) = &self.filled {
+impl<F, R> FolderPlace for SystemFolder<'_, R>
+where
+    F: EndedFile + Drop,
+    R: HostFiles<File = F> + AllocGlobal,
+{
+    ghost use Rattle.image_looks.specs.NewFolders.{AreMadeAt};
+
+    ghost IsMade = { λ place files. AreMadeAt F.EndedFile.remains R.traces place.rt.now place.path.now files };
+
+    // what was made is removed if that fails
+    fn make(&self, files: &[MemFile]) -> io::Result<()> {
+        let mut folder = FilledFolder::make(self.rt, self.path)?;
+        let made = folder.make_whole(files);
+        if made.is_err() {
             folder.remove();
         }
-        self.has_stood
-    }
-
-    /// The error of a folder that can't be made or kept.
-    fn unmade(&mut self, error: io::Error) -> io::Error {
-        if error.kind() == io::ErrorKind::AlreadyExists {
-            self.has_stood = true;
-        }
-        error
-    }
-}
-
-impl<'a, R: HostFiles + AllocGlobal> SystemFolder<'a, R> {
-    /// Makes the folder, if it isn't made yet. `AlreadyExists` if something stands at its path.
-    fn see_made(&mut self) -> io::Result<()> {
-        if self.filled.is_some() {
-            return Ok(());
-        }
-        match FilledFolder::make(self.rt, self.path) {
-            Ok(folder) => {
-                self.filled = Some(folder);
-                Ok(())
-            }
-            Err(error) => Err(self.unmade(error)),
-        }
-    }
-
-    /// Makes a file of this name in the folder.
-    fn make_file(&mut self, name: &[u8]) -> io::Result<R::File>
-        requires { StaysInside name.now }
-    {
-        self.see_made()?;
-        match &mut self.filled {
-            Some(folder) => folder.make_file(name),
-            None => Err(io::ErrorKind::NotFound.into()),
-        }
-    }
-}
-
-impl<F, R> NewFolder for SystemFolder<'_, R>
-where
-    F: EndedFile + Drop,
-    R: HostFiles<File = F> + AllocGlobal,
-{
-    fn make(&mut self, name: &[u8], bytes: &[u8]) -> io::Result<()> {
-        let mut file = self.make_file(name)?;
-        file.write_over(bytes, 0)?;
-        file.sync_whole()
-    }
-}
-
-impl<F, R> KeptFolder for SystemFolder<'_, R>
-where
-    F: EndedFile + Drop,
-    R: HostFiles<File = F> + AllocGlobal,
-{
-    fn keep(&mut self) -> io::Result<()> {
-        let Some(folder) = &self.filled else {
-            return Ok(());
-        };
-        match folder.keep() {
-            Ok(()) => {
-                self.filled = None;
-                Ok(())
-            }
-            Err(error) => Err(self.unmade(error)),
-        }
+        made
     }
 }

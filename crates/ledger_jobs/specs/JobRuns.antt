@@ -44,7 +44,8 @@ module _ {H F W : Type 0} (g : HostGhosts H F) (r : ReadGhosts F) (s : SeekGhost
       IsCopiedFrom rights stands traces remains contents host image.now copy.now old new end
   IsJobOver (jobs.Salvage log copy) old new end =
       IsSalvagedFrom rights stands traces remains contents host log.now copy.now old new end
-  IsJobOver (jobs.Extract choice image folder) old new end = IsExtractedFrom rights stands contents host choice image.now old new end
+  IsJobOver (jobs.Extract choice image folder) old new end =
+      IsExtractedFrom rights stands traces remains contents host choice image.now folder.now old new end
   IsJobOver (jobs.Change image effect edit) old new end =
       IsEditOver rights stands changed contents host effect image.now edit old new end
   IsJobOver (jobs.Format image tills) old new end =

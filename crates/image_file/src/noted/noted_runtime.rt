@@ -8,13 +8,11 @@ use crate::noted::noted_file::NotedFile;
 use crate::noted::noted_reader::NotedReader;
 use crate::noted::subjects::Subject;
 use crate::paths::host::{HostFiles, PlainFiles};
-use crate::paths::mounts::is_mount_point;
-use crate::paths::system::{folder_of, give_free_name, is_named, resolved, sync_folder};
+use crate::paths::system::{SystemFiles, folder_of};
 use std::alloc::{Allocator, Global};
 use std::fmt::Display;
-use std::fs::{File, Metadata, OpenOptions};
+use std::fs::Metadata;
 use std::io::{self, BufRead, Lines};
-use std::os::unix::fs::OpenOptionsExt;
 use std::rt::Files;
 
 /// A host whose files are those of a runtime of the system. It keeps the calls that fail. A call that would make a file, or that
@@ -86,57 +84,48 @@ impl<R: Alloc> Alloc for NotedRuntime<'_, '_, R> {
     }
 }
 
-impl<'n, 'a, R: Files> HostFiles for NotedRuntime<'n, 'a, R> {
+impl<'n, 'a, R: SystemFiles> HostFiles for NotedRuntime<'n, 'a, R> {
     type File = NotedFile<'n, 'a, R::File>;
 
-    // A runtime of the system keeps no list of rights: all calls are allowed.
+    // A system keeps no list of rights: all calls are allowed.
     ghost rights = { record { may = λ _ _ _. true; leads = λ _ _ _. true } };
 
     fn look_at(&self, path: &str) -> io::Result<Metadata> {
-        self.noted(path, self.rt.metadata(path))
+        self.noted(path, self.rt.look_at(path))
     }
 
     fn is_named(&self, path: &str) -> io::Result<bool> {
-        self.noted(path, is_named(self.rt, path))
+        self.noted(path, self.rt.is_named(path))
     }
 
     fn resolve(&self, alloc: Global, path: &str) -> io::Result<String> {
-        resolved(self.rt, alloc, path)
+        self.rt.resolve(alloc, path)
     }
 
     fn sync_folder_of(&self, path: &str) -> io::Result<()> {
-        self.noted(folder_of(path), sync_folder(self.rt, folder_of(path)))
+        self.noted(folder_of(path), self.rt.sync_folder_of(path))
     }
 
     fn open_to_read(&self, path: &str) -> io::Result<NotedFile<'n, 'a, R::File>> {
-        self.opened(path, File::open(self.rt, path))
+        self.opened(path, self.rt.open_to_read(path))
     }
 
     fn open_to_change(&self, path: &str) -> io::Result<NotedFile<'n, 'a, R::File>> {
-        let opened = OpenOptions::new()
-            .read(true)
-            .write(true)
-            .open(self.rt, path);
-        let file = self.opened(path, opened)?;
+        let file = self.opened(path, self.rt.open_to_change(path))?;
         file.see_length()?;
         Ok(file)
     }
 
     fn open_to_write(&self, path: &str) -> io::Result<NotedFile<'n, 'a, R::File>> {
-        self.opened(path, OpenOptions::new().write(true).open(self.rt, path))
+        self.opened(path, self.rt.open_to_write(path))
     }
 
     fn make_file(&self, path: &str, mode: u32) -> io::Result<NotedFile<'n, 'a, R::File>> {
-        let made = OpenOptions::new()
-            .write(true)
-            .create_new(true)
-            .mode(mode)
-            .open(self.rt, path);
-        self.opened(path, made)
+        self.opened(path, self.rt.make_file(path, mode))
     }
 
     fn make_folder(&self, path: &str) -> io::Result<()> {
-        self.noted(path, self.rt.create_dir(path))
+        self.noted(path, self.rt.make_folder(path))
     }
 
     fn rename(&self, from: &str, to: &str) -> io::Result<()> {
@@ -144,23 +133,23 @@ impl<'n, 'a, R: Files> HostFiles for NotedRuntime<'n, 'a, R> {
     }
 
     fn remove(&self, path: &str) -> io::Result<()> {
-        self.noted(path, self.rt.remove_file(path))
+        self.noted(path, self.rt.remove(path))
     }
 
     fn give_free_name(&self, from: &str, to: &str) -> io::Result<()> {
-        self.noted(to, give_free_name(self.rt, from, to))
+        self.noted(to, self.rt.give_free_name(from, to))
     }
 
     fn remove_folder(&self, path: &str) -> io::Result<()> {
-        self.noted(path, self.rt.remove_dir(path))
+        self.noted(path, self.rt.remove_folder(path))
     }
 
     fn is_mounted(&self, alloc: Global, path: &str) -> io::Result<bool> {
-        self.noted(path, is_mount_point(self.rt, alloc, path))
+        self.noted(path, self.rt.is_mounted(alloc, path))
     }
 }
 
-impl<R: Files> PlainFiles for NotedRuntime<'_, '_, R> {}
+impl<R: SystemFiles> PlainFiles for NotedRuntime<'_, '_, R> {}
 
 impl<'n, 'a, R: HostInput> HostInput for NotedRuntime<'n, 'a, R> {
     type Given = NotedReader<'n, 'a, R::Given>;
