@@ -118,7 +118,7 @@ class Disk:
         want(sure(self.program, "check", copy) == ["OK"], "a copy of records: check isn't OK")
         taken = []
         for image in (old, copy):
-            taken.append(cc1541("-a", image))
+            taken.append(cc1541("-a", image).split("\n", 1)[1])  # its first line names the image
         want(taken[0] == taken[1], f"a copy of {count} records of {length} bytes: cc1541 lists another file")
 
 
