@@ -1,3 +1,4 @@
 -- The lemmas, by what they are about.
+pub mod Unwritten
 pub mod keeping
 pub mod replacing

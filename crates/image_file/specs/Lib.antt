@@ -1,6 +1,7 @@
 pub mod paths
 pub mod Durable
 pub mod ImageFile
+pub mod Inner
 pub mod Lasting
 pub mod LastingImages
 pub mod Remains

@@ -7,7 +7,6 @@ use crate::locks::Locks;
 use crate::noted::failures::Failures;
 use crate::noted::limits::{SizeLimit, end_of};
 use crate::noted::subjects::Subject;
-use crate::reading::read_image;
 use crate::remaining::EndedFile;
 use d64_image::{Place, SECTORS};
 use std::alloc::Global;
@@ -29,7 +28,7 @@ fn place_at(index: u64) -> Option<Place>
 /// that would make the file longer than the limit of the process isn't made, and fails.
 #[derive(Drop)]
 pub struct NotedFile<'n, 'a, F> {
-    file: F,
+    pub(crate) file: F,
     limit: SizeLimit,
     subject: Option<Subject<'a>>,
     failures: &'n Failures<'a>,
@@ -42,7 +41,9 @@ impl<'n, 'a, F> NotedFile<'n, 'a, F> {
         limit: SizeLimit,
         subject: Option<Subject<'a>>,
         failures: &'n Failures<'a>,
-    ) -> NotedFile<'n, 'a, F> {
+    ) -> NotedFile<'n, 'a, F>
+        ensures { result.file ≡ file }
+    {
         NotedFile {
             file,
             limit,
@@ -89,6 +90,8 @@ impl<'n, 'a, F> NotedFile<'n, 'a, F> {
 }
 
 impl<F: Read> Read for NotedFile<'_, '_, F> {
+    ghost remaining = { λ noted. F.remaining noted.file };
+
     fn read(&mut self, buf: &mut [u8]) -> io::Result<usize> {
         let outcome = self.file.read(buf);
         self.noted(outcome)
@@ -96,6 +99,10 @@ impl<F: Read> Read for NotedFile<'_, '_, F> {
 }
 
 impl<F: Seek> Seek for NotedFile<'_, '_, F> {
+    ghost stream_position = { λ noted. F.stream_position noted.file };
+
+    ghost stream_bytes = { λ noted. F.stream_bytes noted.file };
+
     fn seek(&mut self, to: SeekFrom) -> io::Result<u64> {
         let outcome = self.file.seek(to);
         self.noted(outcome)
@@ -136,6 +143,10 @@ impl<F: OpenFile> OpenFile for NotedFile<'_, '_, F> {
 }
 
 impl<F: EndedFile> EndedFile for NotedFile<'_, '_, F> {
+    ghost use Rattle.image_file.specs.Inner.{remains_in};
+
+    ghost remains = { remains_in (λ noted. noted.file) F.remains };
+
     fn write_over(&mut self, bytes: &[u8], at: u64) -> io::Result<()> {
         self.see_end(end_of(bytes, at))?;
         let outcome = self.file.write_over(bytes, at);
@@ -164,9 +175,19 @@ impl<F: EndedFile> EndedFile for NotedFile<'_, '_, F> {
 }
 
 impl<F: WritesAt> WritesAt for NotedFile<'_, '_, F> {
-    ghost use Rattle.image_file.specs.Lasting.{unknown_whole};
+    ghost use Rattle.image_file.specs.Inner.{whole_in};
 
-    ghost whole = { unknown_whole };
+    ghost held = { λ noted. F.held noted.file };
+
+    ghost lasting = { λ noted. F.lasting noted.file };
+
+    ghost whole = { whole_in (λ noted. noted.file) F.whole };
+
+    ghost IsShared = { λ noted. F.IsShared noted.file };
+
+    ghost IsOwned = { λ noted. F.IsOwned noted.file };
+
+    ghost unread = { λ noted. F.unread noted.file };
 
     // In line, as all on the way to the file is: a return right after a call of the system is dear.
     #[inline(always)]
@@ -182,10 +203,8 @@ impl<F: WritesAt> WritesAt for NotedFile<'_, '_, F> {
     }
 }
 
-impl<F: Locks + Read> Locks for NotedFile<'_, '_, F> {
-    ghost use Rattle.std.specs.Prelude.{refl};
-
-    ghost reads = { λ _. refl };
+impl<F: Locks> Locks for NotedFile<'_, '_, F> {
+    ghost reads = { λ noted. F.reads noted.file };
 
     fn lock_alone(&mut self) -> Result<(), TryLockError> {
         let outcome = self.file.lock_alone();
@@ -198,7 +217,8 @@ impl<F: Locks + Read> Locks for NotedFile<'_, '_, F> {
     }
 
     fn image(&mut self, alloc: Global) -> io::Result<Vec<u8>> {
-        read_image(alloc, self)
+        let outcome = self.file.image(alloc);
+        self.noted(outcome)
     }
 }
 

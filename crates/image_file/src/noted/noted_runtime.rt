@@ -1,5 +1,6 @@
 //! The files of the system, by their paths, and why a call about one of them failed.
-ghost use Rattle.std.specs.Prelude.{◌≡◌, true};
+ghost use Rattle.std.specs.Prelude.{◌≡◌, IfOk, IsErr, Ok};
+ghost use Rattle.image_file.specs.Inner.{rights_in, traces_in};
 
 use crate::inputs::HostInput;
 use crate::noted::failures::Failures;
@@ -62,7 +63,10 @@ impl<'n, 'a, R> NotedRuntime<'n, 'a, R> {
         &self,
         path: &str,
         outcome: io::Result<F>,
-    ) -> io::Result<NotedFile<'n, 'a, F>> {
+    ) -> io::Result<NotedFile<'n, 'a, F>>
+        ensures file { IfOk result (λ opened. outcome ≡ Ok opened.file) }
+        ensures err { IsErr outcome → IsErr result }
+    {
         let subject = Subject::of(self.words, path);
         let file = self.failures.noted(subject, None, outcome)?;
         Ok(NotedFile::new(file, self.limit, subject, self.failures))
@@ -87,8 +91,12 @@ impl<R: Alloc> Alloc for NotedRuntime<'_, '_, R> {
 impl<'n, 'a, R: SystemFiles> HostFiles for NotedRuntime<'n, 'a, R> {
     type File = NotedFile<'n, 'a, R::File>;
 
-    // A system keeps no list of rights: all calls are allowed.
-    ghost rights = { record { may = λ _ _ _. true; leads = λ _ _ _. true } };
+    // what its system says
+    ghost rights = { rights_in (λ noted. noted.rt.now) R.rights };
+
+    ghost stands = { λ noted. R.stands noted.rt.now };
+
+    ghost traces = { traces_in (λ noted. noted.rt.now) (λ file. file.file) R.traces };
 
     fn look_at(&self, path: &str) -> io::Result<Metadata> {
         self.noted(path, self.rt.look_at(path))
