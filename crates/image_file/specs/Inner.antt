@@ -39,4 +39,8 @@ module _ {N F : Type 0} (inner : N → F) where
   traces_in file t = record {
     opened = λ n how path m. t.opened (inner n) how path (file m);
     moved = λ n. t.moved (inner n);
+    renamed = λ n. t.renamed (inner n);
+    removed = λ n. t.removed (inner n);
+    made = λ n. t.made (inner n);
+    synced = λ n. t.synced (inner n);
   }

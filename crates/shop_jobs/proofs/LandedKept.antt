@@ -1,6 +1,6 @@
 -- What was left of a log and of its folder, from how lines were served over it and how it was landed.
 use Rattle.std.proofs.Common.{◌≡◌, ◌∙◌, ◌++◌, [], ℕ, Bool, true, false, List, Option, None, Some, Result, Ok, Err, ap, append-nil, inl, inr, length, refl, subst, sym}
-use Rattle.std.specs.Prelude.{IsErr, OnSome, option_to_list}
+use Rattle.std.specs.Prelude.{IfSome, IsErr, OnSome, option_to_list}
 use Rattle.std.specs.Io.KnownBytes.{Consumes, IsAtEnd}
 use Rattle.std.proofs.lemmas.Bool.{false≢true}
 use Rattle.std.proofs.lemmas.Option.{none-some, same_Some}
@@ -12,7 +12,7 @@ use Rattle.host_session.specs.runs.Chains.{told_in}
 use Rattle.host_session.specs.shop.Shop.{IsSettled, IsShop, Shop, start_of}
 use Rattle.line_server.specs.Batches.{BatchInput}
 use Rattle.image_log.specs.life.Folders.{FolderHistory}
-use Rattle.image_log.specs.life.LiveLogs.{of_live}
+use Rattle.image_log.specs.life.LiveLogs.{IsEnding, of_live}
 use Rattle.image_log.specs.declared.life.live_log.LiveLog.{LiveLog}
 use Rattle.image_log.specs.declared.log_file.LogFile.{Ghosts}
 use Rattle.line_server.proofs.lemmas.logged.UnderWay.{as_many_replies}
@@ -28,7 +28,7 @@ use Rattle.opened_files.specs.Ends.{JobEnd, as_run}
 use Rattle.shop_jobs.proofs.PlayedOver.{all_told}
 use Rattle.shop_jobs.proofs.ReplyTold.{landed-ok}
 use Rattle.shop_jobs.specs.KeptServices.{IsServedOrNot}
-use Rattle.shop_jobs.specs.LandedRuns.{HasLanded, IsLandedEnd, watched_end}
+use Rattle.shop_jobs.specs.LandedRuns.{HasLanded, IsLandedEnd, StandsAtRest, watched_end}
 use Rattle.shop_jobs.specs.LoggedRuns.{IsLoggedRun, IsLoggedTo}
 use Rattle.shop_jobs.specs.Replies.{IsShopOf}
 
@@ -69,8 +69,12 @@ module _ {F D R T W : Type 0} {G : Ghosts F} (h : FolderHistory D) (i : BatchInp
   abbrev To : LiveLog F D G → (MemDisk → Result MemDisk (LoopFault × MemDisk)) → Type 0
   To left end = IsLoggedTo (of_live h) i o image log left old_in new_in old new end
 
+  -- a power loss while the log was landed leaves the image for which it stood
+  abbrev Lands : LiveLog F D G → Option D → Type 0
+  Lands left folder = (c : Image) → (of_live h).stands_for left c → IfSome folder (λ d. IsEnding h left d c)
+
   module _ (left : LiveLog F D G) (folder : Option D) (end : MemDisk → Result MemDisk (LoopFault × MemDisk)) (x : To left end)
-    where
+      (landing : Lands left folder) where
       safe_of : (s : Shop) → IsShopOf image s → (of_live h).stands_for log (sectors_in image)
           → IsSafe (of_live h) s (sectors_in image) (lines x.served.handled)
           (x.served.turns ++ option_to_list x.served.last) log left
@@ -92,6 +96,7 @@ module _ {F D R T W : Type 0} {G : Ghosts F} (h : FolderHistory D) (i : BatchInp
         read = front_of _ _ _ x.served.read;
         turns = x.served.turns ++ option_to_list x.served.last;
         safe = safe_of;
+        landing = landing;
         all = tt;
         done = tt;
       })
@@ -123,11 +128,15 @@ module _ {F D R T W : Type 0} {G : Ghosts F} (h : FolderHistory D) (i : BatchInp
 
     landed_of : (s : Shop) → IsShopOf image s → (of_live h).stands_for log (sectors_in image)
         → HasLanded h (shop_behind s (lines x.served.handled)) folder
+        × StandsAtRest h (shop_behind s (lines x.served.handled)) left
     landed_of s shop stands =
         let here : IsShop (disk_image x.disk) s = subst (λ (c : Image). IsShop c s) (sym x.holds) shop.1 in
         let rests = x.served.rests s here in
-        rests_in left gone folder found landed (shop_behind s (lines x.served.handled)) (disk_image x.left) rests.0
-        (rests.1 (subst (λ (c : Image). (of_live h).stands_for log c) (sym x.holds) stands))
+        let now = rests.1 (subst (λ (c : Image). (of_live h).stands_for log c) (sym x.holds) stands) in
+        (
+          rests_in left gone folder found landed (shop_behind s (lines x.served.handled)) (disk_image x.left) rests.0 now,
+          (disk_image x.left, rests.0, now),
+        )
 
     whole_of : Served (Ok found)
     whole_of = inr (record {
@@ -139,7 +148,8 @@ module _ {F D R T W : Type 0} {G : Ghosts F} (h : FolderHistory D) (i : BatchInp
       lacks = x.served.lacks;
       read = front_of _ _ _ x.served.read;
       turns = x.served.turns ++ option_to_list x.served.last;
-      safe = safe_of left folder (λ d. Ok d) x;
+      safe = safe_of left folder (λ d. Ok d) x landed.moments;
+      landing = landed.moments;
       all = all_of _ _ _ x.served.read x.served.end;
       done = λ s shop. (told_of s shop, count_of, landed_of s shop);
     })
@@ -147,17 +157,18 @@ module _ {F D R T W : Type 0} {G : Ghosts F} (h : FolderHistory D) (i : BatchInp
   untold : (fault : CommandFault) → new ≡ old → Served (Err fault)
   untold fault same = inl (refl, back same)
 
-  part_of : (left : LiveLog F D G) (folder : Option D) (ran fault : CommandFault) → Run left (Err ran) → Served (Err fault)
-  part_of left folder faults.File fault (inl x) = part left folder _ x fault
-  part_of left folder faults.File fault (inr x) = part left folder _ x fault
-  part_of left folder faults.Device fault x = part left folder _ x fault
-  part_of left folder (faults.ScriptLine line) fault x = absurd x
-  part_of left folder _ fault x = untold fault x.1.2
+  part_of : (left : LiveLog F D G) (folder : Option D) → Lands left folder → (ran fault : CommandFault) → Run left (Err ran)
+      → Served (Err fault)
+  part_of left folder landing faults.File fault (inl x) = part left folder _ x landing fault
+  part_of left folder landing faults.File fault (inr x) = part left folder _ x landing fault
+  part_of left folder landing faults.Device fault x = part left folder _ x landing fault
+  part_of left folder landing (faults.ScriptLine line) fault x = absurd x
+  part_of left folder landing _ fault x = untold fault x.1.2
 
   pub of_run : (left : LiveLog F D G) (gone : Bool) (folder : Option D) (run : Result Unit CommandFault) (end : JobEnd)
       → Run left run → IsLandedEnd h left (watched_end gone (as_run run)) folder end → Served end
   of_run left gone folder (Ok u) (Ok found) x landed = whole_of left gone folder found x landed
-  of_run left gone folder (Ok u) (Err fault) x landed = part left folder _ x fault
+  of_run left gone folder (Ok u) (Err fault) x landed = part left folder _ x landed.moments fault
   of_run left gone folder (Err ran) (Ok found) x landed =
       absurd (false≢true (landed-ok h left gone (Err ran) folder (Ok found) landed refl))
-  of_run left gone folder (Err ran) (Err fault) x landed = part_of left folder ran fault x
+  of_run left gone folder (Err ran) (Err fault) x landed = part_of left folder landed.moments ran fault x

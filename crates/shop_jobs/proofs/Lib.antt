@@ -14,6 +14,7 @@ pub mod PlayedOver
 pub mod ReplyTold
 pub mod ServiceBegun
 pub mod ServiceKept
+pub mod ServiceMoments
 pub mod ServiceTold
 pub mod ToldSome
 pub mod Unlanded

@@ -24,7 +24,7 @@ use Rattle.opened_files.specs.Losses.{IsEndOfRun, IsGuarded}
 use Rattle.shop_jobs.proofs.LandedKept.{ended-err, of_run}
 use Rattle.shop_jobs.proofs.LoggedTold.{passed-back, watched-back}
 use Rattle.shop_jobs.specs.KeptServices.{IsServedIn, IsServedOrNot}
-use Rattle.shop_jobs.specs.LandedRuns.{HasLanded, IsDoneAndLanded, IsLandedEnd, watched_end}
+use Rattle.shop_jobs.specs.LandedRuns.{HasLanded, IsDoneAndLanded, IsLandedEnd, StandsAtRest, watched_end}
 use Rattle.shop_jobs.specs.LoggedRuns.{IsLoggedRun, IsUnlogged}
 use Rattle.shop_jobs.proofs.ServiceTold.{given-back, lent-lines}
 use Rattle.shop_jobs.specs.Replies.{IsShopOf, lines_to}
@@ -57,9 +57,11 @@ module _ {F D : Type 0} {G : Ghosts F} (h : FolderHistory D) (image : List ℕ) 
     read = λ all is. x.read all (known all is);
     turns = x.turns;
     safe = x.safe;
+    landing = x.landing;
     all = all_so end x.handled x.rest x.all;
     done = done_so end (λ s. IsShopOf image s) (λ _. length x.turns ≡ length (lines x.handled))
-        (λ s. (of_live h).stands_for log (sectors_in image) → HasLanded h (shop_behind s (lines x.handled)) x.folder)
+        (λ s. (of_live h).stands_for log (sectors_in image) → HasLanded h (shop_behind s (lines x.handled)) x.folder
+        × StandsAtRest h (shop_behind s (lines x.handled)) x.left)
         (λ s. replies (start_of s) [] (lines x.handled)) x.done;
   }
 

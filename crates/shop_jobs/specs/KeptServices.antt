@@ -1,5 +1,5 @@
 -- What a service or a play over a log leaves in the folder of its image. Our own.
-use Rattle.std.specs.Prelude.{◌≡◌, ◌⊎◌, ◌++◌, ◌∷◌, [], ℕ, IsErr, List, OnOk, Option, Some, length, string_bytes, take, true}
+use Rattle.std.specs.Prelude.{◌≡◌, ◌⊎◌, ◌++◌, ◌∷◌, [], ℕ, IfSome, IsErr, List, OnOk, Option, Some, length, string_bytes, take, true}
 use Rattle.std.specs.declared.io.traits.Read.{Ghosts as ReadGhosts}
 use Rattle.std.specs.declared.io.traits.Seek.{Ghosts as SeekGhosts}
 use Rattle.std.specs.Io.KnownBytes.{Appends}
@@ -15,7 +15,7 @@ use Rattle.image_log.specs.declared.life.live_log.LiveLog.{LiveLog}
 use Rattle.image_log.specs.declared.log_file.LogFile.{Ghosts}
 use Rattle.image_log.specs.life.Folders.{AllLeft, Folder, FolderHistory}
 use Rattle.image_log.specs.life.HostLogs.{FolderHistories, LogHistories}
-use Rattle.image_log.specs.life.LiveLogs.{of_live}
+use Rattle.image_log.specs.life.LiveLogs.{IsBeginning, IsEnding, of_live}
 use Rattle.image_log.specs.life.Shops.{Gives, GivesOneOf}
 use Rattle.line_server.specs.Read.{AreWhole, LacksLf}
 use Rattle.line_server.specs.Scripts.{crlf_text}
@@ -25,7 +25,7 @@ use Rattle.opened_files.specs.Ends.{JobEnd}
 use Rattle.opened_files.specs.HostFiles.{OfText, OfWritten}
 use Rattle.request_cards.specs.Ledgers.{replies, report}
 use Rattle.request_cards.specs.declared.reply.Reply.{Reply}
-use Rattle.shop_jobs.specs.LandedRuns.{HasLanded}
+use Rattle.shop_jobs.specs.LandedRuns.{HasLanded, StandsAtRest}
 use Rattle.shop_jobs.specs.Replies.{IsShopOf}
 
 -- a folder of this host was opened: it is that of the image at a path, whose file was opened there
@@ -35,11 +35,13 @@ IsFolderAt rights traces host path d = (d.rt.now ≡ host) × (rights.leads host
     × traces.opened host Write path d.image
 
 module _ {F D : Type 0} {G : Ghosts F} (h : FolderHistory D) where
-  -- A log was begun in such a folder. If it is known that the folder gave an image, it gave this one, for which the log stands.
+  -- A log was begun in such a folder. If it is known that the folder gave an image, it gave this one, for which the log stands,
+  -- and so did each folder that a power loss left meanwhile.
   abbrev pub IsBegunIn : (IsAt : D → Type 0) → (image : List ℕ) → LiveLog F D G → Type 0
   IsBegunIn IsAt image begun = (folder : D) × IsAt folder × ((c : Image) (s : Folder) → h.held folder ≡ Some s
       → GivesOneOf (c ∷ []) s → AllLeft h folder (GivesOneOf (c ∷ []))
-      → (of_live h).stands_for begun (sectors_in image) × Gives s (sectors_in image))
+      → (of_live h).stands_for begun (sectors_in image) × Gives s (sectors_in image)
+      × IsBeginning h folder begun (λ left. Gives left (sectors_in image)))
 
   -- Lines of an input with these bytes were served, over a log that was begun for the image of these bytes, and the job ended
   -- so. `Told` says that these replies were passed on, and nothing else.
@@ -59,12 +61,15 @@ module _ {F D : Type 0} {G : Ghosts F} (h : FolderHistory D) where
     -- a power loss at any moment leaves the shop of some first lines, and of all whose replies were reported before
     pub safe : (s : Shop) → IsShopOf image s → (of_live h).stands_for begun (sectors_in image)
         → IsSafe (of_live h) s (sectors_in image) (lines handled) turns begun left
+    -- and one while the log was landed, the image for which the log stood
+    pub landing : (c : Image) → (of_live h).stands_for left c → IfSome folder (λ d. IsEnding h left d c)
     -- when the job is done, these are all lines of the input
     pub all : OnOk end ((all : List ℕ) → given ≡ Some all → all ≡ handled ++ rest)
-    -- each was answered, and IMAGE is the shop after them at rest, with no log
+    -- each was answered, and IMAGE is the shop after them at rest, with no log; the log stood for it
     pub done : OnOk end ((s : Shop) → IsShopOf image s → Told (replies (start_of s) [] (lines handled))
         × (length turns ≡ length (lines handled))
-        × ((of_live h).stands_for begun (sectors_in image) → HasLanded h (shop_behind s (lines handled)) folder))
+        × ((of_live h).stands_for begun (sectors_in image) → HasLanded h (shop_behind s (lines handled)) folder
+        × StandsAtRest h (shop_behind s (lines handled)) left))
 
   -- so they were; or the image was refused, and nothing was passed on
   abbrev pub IsServedOrNot : {T : Type 0} → (image : List ℕ) → Option (List ℕ) → LiveLog F D G

@@ -6,7 +6,7 @@ ghost use Rattle.d64_image.specs.Images.{Image};
 ghost use Rattle.d64_image.specs.Memory.{sectors_in};
 ghost use Rattle.host_session.specs.runs.ScriptRuns.{AreToldSo};
 ghost use Rattle.image_log.specs.life.Bringing.{RestsAlone};
-ghost use Rattle.image_log.specs.life.Folders.{AllLeft, Folder};
+ghost use Rattle.image_log.specs.life.Folders.{AllLeft, Folder, LeavesFolders};
 ghost use Rattle.image_log.specs.life.Shops.{Gives, GivesOneOf};
 ghost use Rattle.request_cards.specs.Ledgers.{report};
 ghost use Rattle.shop_jobs.specs.KeptServices.{IsBegunIn, IsFolderAt, IsServedOrNot, IsServiceKept};
@@ -75,6 +75,9 @@ fn shop_of<L: LogFile, D: LogFolder<L>, R: AllocGlobal>(
     ensures shop { IfOk result (λ shop. (c : Image) (s : Folder) → D.history.held folder.old ≡ Some s → GivesOneOf (c ∷ []) s
         → AllLeft D.history folder.old (GivesOneOf (c ∷ []))
         → RestsAlone D.history folder.new shop.items × Gives s shop.items) }
+    ensures any_moment { (c : Image) (s : Folder) → D.history.held folder.old ≡ Some s → GivesOneOf (c ∷ []) s
+        → AllLeft D.history folder.old (GivesOneOf (c ∷ []))
+        → LeavesFolders D.history folder.old folder.new (GivesOneOf (c ∷ [])) }
 {
     match land_in(rt.alloc(), folder) {
         Ok(shop) => Ok(shop),

@@ -2,20 +2,31 @@
 use Rattle.std.proofs.Common.{◌≡◌, ◌∙◌, [], ◌∷◌, ℕ, List, ap, arith, inl, inr, refl, subst, sym}
 use Rattle.std.proofs.lemmas.Bool.{false≢true}
 use Rattle.std.proofs.lemmas.List.{take_all}
-use Rattle.std.specs.Prelude.{None, Ok, Option, Some, length, take}
+use Rattle.std.specs.Prelude.{◌++◌, ◌⊎◌, IfSome, None, Ok, Option, Some, length, take}
+use Rattle.std.specs.Io.KnownBytes.{Appends}
 use Rattle.std.specs.declared.io.traits.Read.{Ghosts as ReadGhosts}
 use Rattle.std.specs.declared.io.traits.Seek.{Ghosts as SeekGhosts}
 use Rattle.d64_image.specs.Images.{Image}
 use Rattle.d64_image.specs.Memory.{sectors_in}
-use Rattle.host_session.specs.shop.Shop.{Shop}
+use Rattle.host_session.specs.shop.Shop.{Shop, start_of}
 use Rattle.image_file.specs.declared.paths.host.HostFiles.{Ghosts as HostGhosts}
+use Rattle.image_log.specs.declared.life.image_folder.ImageFolder.{ImageFolder}
+use Rattle.image_log.specs.declared.life.live_log.LiveLog.{LiveLog}
 use Rattle.image_log.specs.declared.life.mem_folder.MemFolder.{MemFolder}
+use Rattle.image_log.specs.declared.life.system_log.SystemLog.{SystemLog}
 use Rattle.image_log.specs.life.FolderCalls.{began}
 use Rattle.image_log.specs.life.Folders.{Folder}
-use Rattle.image_log.specs.life.Shops.{GivesOneOf}
+use Rattle.image_log.specs.life.LiveLogs.{IsBeginning, IsEnding, of_live}
+use Rattle.image_log.specs.life.Shops.{Gives, GivesOneOf}
+use Rattle.line_server.specs.Read.{AreWhole, LacksLf}
 use Rattle.line_server.specs.Scripts.{crlf_text}
+use Rattle.line_server.specs.logged.Serves.{HoldsFirst, IsSafe, shop_behind}
 use Rattle.line_text.specs.scripts.Lines.{lines}
 use Rattle.shop_jobs.specs.KeptServices.{IsPlayKept, IsServiceAt, IsServiceKept}
+use Rattle.request_cards.specs.Ledgers.{replies, report}
+use Rattle.request_cards.specs.declared.reply.Reply.{Reply}
+use Rattle.shop_jobs.proofs.ServiceMoments.{service_leaves}
+use Rattle.shop_jobs.specs.LandedRuns.{HasLanded, LeavesShops, StandsAtRest}
 use Rattle.shop_jobs.specs.Replies.{IsShopOf}
 use Rattle.disk_layout.specs.declared.faults.Fault.{Fault}
 use Rattle.test_files.proofs.SnapshotPremises.{text-other}
@@ -35,6 +46,12 @@ whole host image size is = is ∙ take_all 174849 host.image.now (omega (arith, 
 
 module _ {W : Type 0} (g : HostGhosts Snapshot SnapshotFile) (r : ReadGhosts SnapshotFile) (s : SeekGhosts SnapshotFile)
     (contents : W → Option (List ℕ)) (host : Snapshot) (shop : Shop) (is : IsShopOf host.image.now shop) where
+  abbrev Folders : Type 0
+  Folders = ImageFolder Snapshot SnapshotFile g r s
+
+  abbrev Live : Type 0
+  Live = LiveLog (SystemLog Snapshot SnapshotFile g r s) Folders (record { history = snapshot_logs g r s })
+
   fresh-gives : (found : Option MemFolder) → IsFresh host found
       → (held_in found ≡ Some (began (sectors_in host.image.now) None))
       × ((t : Folder) → left_in found t → GivesOneOf (sectors_in host.image.now ∷ []) t)
@@ -44,35 +61,63 @@ module _ {W : Type 0} (g : HostGhosts Snapshot SnapshotFile) (r : ReadGhosts Sna
         (sym (fresh.3 t (subst (λ (o : Option MemFolder). left_in o t) fresh.1 may))) (one-of (sectors_in host.image.now)),
   )
 
+  -- the folder that was landed
+  of-folder : (input : List ℕ) (old new : W) (image : List ℕ) → image ≡ host.image.now → (left : Live) (handled rest : List ℕ)
+      → input ≡ handled ++ rest → AreWhole handled → LacksLf rest
+      → Appends (contents old) (contents new) (report (replies (start_of shop) [] (lines handled))) → (opened : Folders)
+      → IsFresh host opened.image.folder → (begun : Live)
+      → IsBeginning (snapshot_folders g r s) opened begun (λ t. Gives t (sectors_in image)) → (turns : List (Reply × Live))
+      → IsSafe (of_live (snapshot_folders g r s)) shop (sectors_in image) (lines handled) turns begun left
+      → (folder : Option Folders) → HasLanded (snapshot_folders g r s) (shop_behind shop (lines handled)) folder
+      → (at : StandsAtRest (snapshot_folders g r s) (shop_behind shop (lines handled)) left)
+      → IfSome folder (λ d. IsEnding (snapshot_folders g r s) left d at.0) → HasServed g r s contents host shop input old new
+  of-folder input old new image image-is left handled rest all whole lacks told opened fresh begun beginning turns safe None
+      landed at ending = absurd landed
+  of-folder input old new image image-is left handled rest all whole lacks told opened fresh begun beginning turns safe
+      (Some folder) landed at ending = record {
+    handled = handled;
+    rest = rest;
+    all = all;
+    whole = whole;
+    lacks = lacks;
+    told = told;
+    opened = opened;
+    fresh = fresh;
+    folder = folder;
+    moments = subst
+        (λ (bytes : List ℕ). LeavesShops (snapshot_folders g r s) opened folder
+        (λ c. (c ≡ sectors_in bytes) ⊎ HoldsFirst shop (lines handled) 0 c))
+        image-is
+        (service_leaves (snapshot_folders g r s) opened begun left folder shop (sectors_in image) at.0 (lines handled) turns
+        beginning safe ending at.1);
+    landed = landed;
+  }
+
   service : (input : List ℕ) (old new : W) (found : Option Fault)
       → IsServiceAt g r s snapshot_logs snapshot_folders snapshot_stands snapshot_rights snapshot_traces contents (Some input)
-      host image_path old new (Ok found) → HasServed g r s contents shop input old new
+      host image_path old new (Ok found) → HasServed g r s contents host shop input old new
   service input old new found (image, of, begun, (folder, at, known), served) =
       let image-is = whole host image is.0 (of host.image.now refl) in
-      let fresh = fresh-gives folder.image.folder (at.2 refl is.0) in
-      let stands = (known (sectors_in host.image.now) (began (sectors_in host.image.now) None) fresh.0
-      (one-of (sectors_in host.image.now)) fresh.1).0 in
-      let done = served.done shop (subst (λ (bytes : List ℕ). IsShopOf bytes shop) (sym image-is) is) in
-      record {
-        handled = served.handled;
-        rest = served.rest;
-        all = served.all input refl;
-        whole = served.whole;
-        lacks = served.lacks;
-        told = done.0;
-        folder = served.folder;
-        landed = done.2 stands;
-      }
+      let fresh = at.2 refl is.0 in
+      let gives = fresh-gives folder.image.folder fresh in
+      let stood = known (sectors_in host.image.now) (began (sectors_in host.image.now) None) gives.0
+      (one-of (sectors_in host.image.now)) gives.1 in
+      let is-shop : IsShopOf image shop = subst (λ (bytes : List ℕ). IsShopOf bytes shop) (sym image-is) is in
+      let done = served.done shop is-shop in
+      let landed = done.2 stood.0 in
+      of-folder input old new image image-is served.left served.handled served.rest (served.all input refl) served.whole
+      served.lacks done.0 folder fresh begun stood.2 served.turns (served.safe shop is-shop stood.0) served.folder landed.0
+      landed.1 (served.landing landed.1.0 landed.1.2)
 
   pub served : (input : List ℕ) (old new : W) (found : Option Fault)
       → IsServiceKept g r s snapshot_logs snapshot_folders snapshot_stands snapshot_rights snapshot_traces contents (Some input)
-      host image_path old new (Ok found) → HasServed g r s contents shop input old new
+      host image_path old new (Ok found) → HasServed g r s contents host shop input old new
   served input old new found (inl not) = absurd (false≢true not.0)
   served input old new found (inr at) = service input old new found at
 
   pub played : (old new : W) (found : Option Fault)
       → IsPlayKept g r s snapshot_logs snapshot_folders snapshot_stands snapshot_rights snapshot_traces contents host
-      image_path text_path old new (Ok found) → HasServed g r s contents shop (crlf_text (lines host.text.now)) old new
+      image_path text_path old new (Ok found) → HasServed g r s contents host shop (crlf_text (lines host.text.now)) old new
   played old new found (inl not) = absurd (false≢true not.0)
   played old new found (inr (text, of, at)) =
       service (crlf_text (lines host.text.now)) old new found

@@ -108,7 +108,14 @@ IsOpenedBy host how path file = ⊤
 
 -- what a snapshot says of calls that were made
 abbrev pub snapshot_traces : Traces Snapshot SnapshotFile
-snapshot_traces = record { opened = IsOpenedBy; moved = λ _ _ _. ⊤ }
+snapshot_traces = record {
+  opened = IsOpenedBy;
+  moved = λ _ _ _. ⊤;
+  renamed = λ _ _ _. ⊤;
+  removed = λ _ _. ⊤;
+  made = λ _ _. ⊤;
+  synced = λ _ _. ⊤;
+}
 
 -- a folder in memory has this image at rest, with no log
 abbrev pub StandsAlone : Image → Type 0
@@ -126,10 +133,10 @@ abbrev pub IsReplacedIn : {D : Type 0} → FolderHistory D → (IsAt : D → Typ
 IsReplacedIn {D} h IsAt image ended = (old : D) × (new : D) × IsAt old × OnOk ended ((log : Option (List ℕ)) (before : Image)
     → RestsWith h old log before → RestsAlone h new (sectors_in image))
 
--- an image that was changed stands there
+-- what a snapshot says of an image that was changed: a folder in memory can have it so
 abbrev pub snapshot_changed : Snapshot → (path image : List ℕ) → Changed → Type 0
 snapshot_changed host path image made = StandsAlone (disk_image made.disk)
 
--- and so does one that was put in the place of another
+-- and so can it have one that was put in the place of another
 abbrev pub snapshot_replaced : Snapshot → (path image : List ℕ) → Type 0
 snapshot_replaced host path image = StandsAlone (sectors_in image)

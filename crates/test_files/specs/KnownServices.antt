@@ -1,29 +1,36 @@
 -- What a service or a play over a log left of a snapshot's shop. Our own.
-use Rattle.std.specs.Prelude.{◌≡◌, ◌++◌, [], ℕ, List, Option}
+use Rattle.std.specs.Prelude.{◌≡◌, ◌⊎◌, ◌++◌, [], ℕ, List, Option, Some}
 use Rattle.std.specs.Io.KnownBytes.{Appends}
 use Rattle.std.specs.declared.io.traits.Read.{Ghosts as ReadGhosts}
 use Rattle.std.specs.declared.io.traits.Seek.{Ghosts as SeekGhosts}
+use Rattle.d64_image.specs.Memory.{sectors_in}
 use Rattle.host_session.specs.shop.Shop.{Shop, start_of}
 use Rattle.image_file.specs.declared.paths.host.HostFiles.{Ghosts as HostGhosts}
 use Rattle.image_log.specs.declared.life.image_folder.ImageFolder.{ImageFolder}
 use Rattle.line_server.specs.Read.{AreWhole, LacksLf}
-use Rattle.line_server.specs.logged.Serves.{shop_behind}
+use Rattle.line_server.specs.logged.Serves.{HoldsFirst, shop_behind}
 use Rattle.line_text.specs.scripts.Lines.{lines}
 use Rattle.request_cards.specs.Ledgers.{replies, report}
-use Rattle.shop_jobs.specs.LandedRuns.{HasLanded}
-use Rattle.test_files.specs.KnownFolders.{snapshot_folders}
+use Rattle.shop_jobs.specs.LandedRuns.{HasLanded, LeavesShops}
+use Rattle.test_files.specs.KnownFolders.{IsFresh, snapshot_folders}
 use Rattle.test_files.specs.declared.snapshots.host.Snapshot.{Snapshot}
 use Rattle.test_files.specs.declared.snapshots.open_file.SnapshotFile.{SnapshotFile}
 
--- The lines of an input were answered by this shop, each once, in order, and nothing else was printed. IMAGE is the shop after them
--- at rest, with no log. What came after the last LF is no line.
+-- The lines of an input were answered by this shop, each once, in order, and nothing else was printed. The folder of the host's
+-- image was opened. As it was left, IMAGE is the shop after them at rest, with no log. What came after the last LF is no line.
 pub record HasServed {W : Type 0} (g : HostGhosts Snapshot SnapshotFile) (r : ReadGhosts SnapshotFile)
-    (s : SeekGhosts SnapshotFile) (contents : W → Option (List ℕ)) (shop : Shop) (input : List ℕ) (old new : W) : Type 0 where
+    (s : SeekGhosts SnapshotFile) (contents : W → Option (List ℕ)) (host : Snapshot) (shop : Shop) (input : List ℕ) (old new : W)
+    : Type 0 where
   pub handled : List ℕ
   pub rest : List ℕ
   pub all : input ≡ handled ++ rest
   pub whole : AreWhole handled
   pub lacks : LacksLf rest
   pub told : Appends (contents old) (contents new) (report (replies (start_of shop) [] (lines handled)))
-  pub folder : Option (ImageFolder Snapshot SnapshotFile g r s)
-  pub landed : HasLanded (snapshot_folders g r s) (shop_behind shop (lines handled)) folder
+  pub opened : ImageFolder Snapshot SnapshotFile g r s
+  pub fresh : IsFresh host opened.image.folder
+  pub folder : ImageFolder Snapshot SnapshotFile g r s
+  -- a power loss at any moment on the way left the image as it was, or the shop of some first lines, at rest
+  pub moments : LeavesShops (snapshot_folders g r s) opened folder
+      (λ c. (c ≡ sectors_in host.image.now) ⊎ HoldsFirst shop (lines handled) 0 c)
+  pub landed : HasLanded (snapshot_folders g r s) (shop_behind shop (lines handled)) (Some folder)

@@ -33,4 +33,8 @@ module _ (path image : List ℕ) where
   one_traces = record {
     opened = λ _ how at f. (at ≡ aside_of path []) × (f ≡ Made);
     moved = λ _ from to. (from ≡ aside_of path []) × (to ≡ path);
+    renamed = λ _ _ _. ⊥;
+    removed = λ _ _. ⊥;
+    made = λ _ _. ⊥;
+    synced = λ _ _. ⊥;
   }

@@ -10,10 +10,23 @@ pub record Traces (H F : Type 0) : Type 1 where
   pub opened : H → Use → List ℕ → F → Type 0
   -- what had the first path got the second one, at which nothing stood
   pub moved : H → (from to : List ℕ) → Type 0
+  -- it got it in the place of the file that had it
+  pub renamed : H → (from to : List ℕ) → Type 0
+  -- a name was taken away, a folder was made, the names beside a path were synced
+  pub removed : H → (path : List ℕ) → Type 0
+  pub made : H → (path : List ℕ) → Type 0
+  pub synced : H → (path : List ℕ) → Type 0
 
 -- of a host that says nothing
 abbrev pub untraced : {H F : Type 0} → Traces H F
-untraced = record { opened = λ _ _ _ _. ⊤; moved = λ _ _ _. ⊤ }
+untraced = record {
+  opened = λ _ _ _ _. ⊤;
+  moved = λ _ _ _. ⊤;
+  renamed = λ _ _ _. ⊤;
+  removed = λ _ _. ⊤;
+  made = λ _ _. ⊤;
+  synced = λ _ _. ⊤;
+}
 
 -- A file was made at a path, which is empty then. It was left so that it holds these bytes, and they remain if power goes.
 pub record IsWrittenAt {H F : Type 0} (remains : Remains F) (traces : Traces H F) (host : H) (path bytes : List ℕ)

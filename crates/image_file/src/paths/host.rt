@@ -40,13 +40,15 @@ pub trait HostFiles {
 
     /// Syncs the names in the folder of the file at a path.
     fn sync_folder_of(&self, path: &str) -> io::Result<()>
-        requires { May rights self.now Look path.now };
+        requires { May rights self.now Look path.now }
+        ensures { OnOk result (traces.synced self.now path.now) };
 
     /// Opens the file at a path to read it.
     fn open_to_read(&self, path: &str) -> io::Result<Self::File>
         requires { May rights self.now ToRead path.now }
         ensures missing { IsMissing stands self.now path.now → IsErr result }
-        ensures bytes { IfOk result (λ file. AreOf stands self.now path.now (Self.File.Read.remaining file)) };
+        ensures bytes { IfOk result (λ file. AreOf stands self.now path.now (Self.File.Read.remaining file)) }
+        ensures opened { IfOk result (λ file. traces.opened self.now ToRead path.now file) };
 
     /// Opens the file at a path to read and write it. It is neither made nor cut.
     fn open_to_change(&self, path: &str) -> io::Result<Self::File>
@@ -77,7 +79,8 @@ pub trait HostFiles {
 
     /// Takes the name of the empty folder at a path away.
     fn remove_folder(&self, path: &str) -> io::Result<()>
-        requires { May rights self.now Remove path.now };
+        requires { May rights self.now Remove path.now }
+        ensures { OnOk result (traces.removed self.now path.now) };
 
     /// Whether the file at a path is mounted there by itself, so that other programs have other files beside it. False if the
     /// host doesn't say.
@@ -86,16 +89,19 @@ pub trait HostFiles {
 
     /// Makes a folder at a path. `AlreadyExists` if anything stands there.
     fn make_folder(&self, path: &str) -> io::Result<()>
-        requires { May rights self.now Make path.now };
+        requires { May rights self.now Make path.now }
+        ensures { OnOk result (traces.made self.now path.now) };
 
     /// Gives the file at a path another name, in the place of the file that had it.
     fn rename(&self, from: &str, to: &str) -> io::Result<()>
         requires from { May rights self.now Remove from.now }
-        requires to { May rights self.now Replace to.now };
+        requires to { May rights self.now Replace to.now }
+        ensures { OnOk result (traces.renamed self.now from.now to.now) };
 
     /// Takes the name of the file at a path away.
     fn remove(&self, path: &str) -> io::Result<()>
-        requires { May rights self.now Remove path.now };
+        requires { May rights self.now Remove path.now }
+        ensures { OnOk result (traces.removed self.now path.now) };
 }
 
 /// A host whose images and logs are its files, of which it says nothing but what each call says.

@@ -65,13 +65,15 @@ pub trait SystemFiles {
 
     /// `HostFiles::sync_folder_of`.
     fn sync_folder_of(&self, path: &str) -> io::Result<()>
-        requires { May rights self.now Look path.now };
+        requires { May rights self.now Look path.now }
+        ensures { OnOk result (traces.synced self.now path.now) };
 
     /// `HostFiles::open_to_read`.
     fn open_to_read(&self, path: &str) -> io::Result<Self::File>
         requires { May rights self.now ToRead path.now }
         ensures missing { IsMissing stands self.now path.now → IsErr result }
-        ensures bytes { IfOk result (λ file. AreOf stands self.now path.now (Self.File.Read.remaining file)) };
+        ensures bytes { IfOk result (λ file. AreOf stands self.now path.now (Self.File.Read.remaining file)) }
+        ensures opened { IfOk result (λ file. traces.opened self.now ToRead path.now file) };
 
     /// `HostFiles::open_to_change`.
     fn open_to_change(&self, path: &str) -> io::Result<Self::File>
@@ -92,16 +94,19 @@ pub trait SystemFiles {
 
     /// `HostFiles::make_folder`.
     fn make_folder(&self, path: &str) -> io::Result<()>
-        requires { May rights self.now Make path.now };
+        requires { May rights self.now Make path.now }
+        ensures { OnOk result (traces.made self.now path.now) };
 
     /// `HostFiles::rename`.
     fn rename(&self, from: &str, to: &str) -> io::Result<()>
         requires from { May rights self.now Remove from.now }
-        requires to { May rights self.now Replace to.now };
+        requires to { May rights self.now Replace to.now }
+        ensures { OnOk result (traces.renamed self.now from.now to.now) };
 
     /// `HostFiles::remove`.
     fn remove(&self, path: &str) -> io::Result<()>
-        requires { May rights self.now Remove path.now };
+        requires { May rights self.now Remove path.now }
+        ensures { OnOk result (traces.removed self.now path.now) };
 
     /// `HostFiles::give_free_name`.
     fn give_free_name(&self, from: &str, to: &str) -> io::Result<()>
@@ -112,7 +117,8 @@ pub trait SystemFiles {
 
     /// `HostFiles::remove_folder`.
     fn remove_folder(&self, path: &str) -> io::Result<()>
-        requires { May rights self.now Remove path.now };
+        requires { May rights self.now Remove path.now }
+        ensures { OnOk result (traces.removed self.now path.now) };
 
     /// `HostFiles::is_mounted`.
     fn is_mounted(&self, alloc: Global, path: &str) -> io::Result<bool>

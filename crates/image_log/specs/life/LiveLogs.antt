@@ -112,6 +112,12 @@ module _ {F D : Type 0} {G : Ghosts F} (h : FolderHistory D) where
     pub each : (s : Folder) → h.left_since new (moment_now d log used) s → Gives s now
     pub before : (t : ℕ) (s : Folder) → t ≤ moment_now d log used → h.left_since new t s → left_from d log used t s ⊎ Gives s now
 
+  -- A log was begun in a folder: a power loss at any moment left what it might have left before, or a folder that has P.
+  pub record IsBeginning (d : D) (l : LiveLog F D G) (P : Folder → Type 0) : Type 0 where
+    pub later : h.moment d ≤ moment_now l.folder l.log l.used
+    pub each : (s : Folder) → left_from l.folder l.log l.used (h.moment d) s → P s
+    pub before : (t : ℕ) (s : Folder) → t ≤ h.moment d → left_from l.folder l.log l.used t s → h.left_since d t s ⊎ P s
+
   -- what a power loss leaves of it gives the image
   pub gives_image : (d : D) (log : Option (Log F G)) (used : Bool) (base image : Image) → Stands d log used base image
       → (s : Folder) → left_now d log used s → Gives s image

@@ -33,7 +33,7 @@ impl<F: LogFile, D: LogFolder<F> + Drop> LiveLog<F, D> {
     ghost use Rattle.d64_image.specs.Images.{Image};
     ghost use Rattle.image_log.specs.life.Folders.{AllLeft, Folder, LeavesFolders};
     ghost use Rattle.image_log.specs.life.Bringing.{IsBrought, RestsAlone};
-    ghost use Rattle.image_log.specs.life.LiveLogs.{IsEnding, IsLeftAlone, is_shut, of_live};
+    ghost use Rattle.image_log.specs.life.LiveLogs.{IsBeginning, IsEnding, IsLeftAlone, is_shut, of_live};
     ghost use Rattle.image_log.specs.ImageLogs.{IsEither, LeavesImages};
     ghost use Rattle.image_log.specs.Logs.{log_file};
     ghost use Rattle.image_log.specs.Marks.{Covers};
@@ -49,6 +49,8 @@ impl<F: LogFile, D: LogFolder<F> + Drop> LiveLog<F, D> {
         requires sized { length shop.items ≡ 683 }
         ensures stands { IfOk result (λ live. (s : Folder) → D.history.held folder ≡ Some s → s.image ≡ shop.items
             → AllLeft D.history folder (IsBrought shop.items) → (of_live D.history).stands_for live shop.items) }
+        ensures any_moment { IfOk result (λ live. (s : Folder) → D.history.held folder ≡ Some s
+            → AllLeft D.history folder (IsBrought shop.items) → IsBeginning D.history folder live (IsBrought shop.items)) }
         // it takes a commit
         ensures room { IfOk result (λ live. (of_live D.history).is_over live ≡ false) }
         ensures err { IfErr result (λ e. (s : Folder) → D.history.held folder ≡ Some s

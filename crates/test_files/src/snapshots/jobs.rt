@@ -81,15 +81,15 @@ pub fn services_land<W: Write>()
         ⟦<SnapshotFile<'static> as Seek>⟧
         snapshot_logs snapshot_folders snapshot_stands snapshot_rights snapshot_traces W.contents (Some input) host image_path
         old new (Ok found) → HasServed ⟦<Snapshot<'static> as HostFiles>⟧ ⟦<SnapshotFile<'static> as Read>⟧
-        ⟦<SnapshotFile<'static> as Seek>⟧ W.contents shop
-        input old new }
+        ⟦<SnapshotFile<'static> as Seek>⟧ W.contents host
+        shop input old new }
     ensures played { (host : hosts.Snapshot) (old new : W) (found : Option Found) (shop : Shop)
         → IsShopOf host.image.now shop → IsPlayKept ⟦<Snapshot<'static> as HostFiles>⟧ ⟦<SnapshotFile<'static> as Read>⟧
         ⟦<SnapshotFile<'static> as Seek>⟧
         snapshot_logs snapshot_folders snapshot_stands snapshot_rights snapshot_traces W.contents host image_path text_path
         old new (Ok found) → HasServed ⟦<Snapshot<'static> as HostFiles>⟧ ⟦<SnapshotFile<'static> as Read>⟧
-        ⟦<SnapshotFile<'static> as Seek>⟧ W.contents shop
-        (crlf_text (lines host.text.now)) old new }
+        ⟦<SnapshotFile<'static> as Seek>⟧ W.contents host
+        shop (crlf_text (lines host.text.now)) old new }
 {}
 
 /// What is said of an image that a job makes can hold, and on a host where one file was made it holds of its path and its bytes

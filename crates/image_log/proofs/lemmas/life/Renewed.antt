@@ -17,7 +17,7 @@ use Rattle.image_log.proofs.lemmas.life.Steps.{joined, weaker}
 only_here : (now : Image) → Contains (now ∷ []) now
 only_here now = (0, omega arith, refl)
 
-only_one : (now given : Image) → Contains (now ∷ []) given → now ≡ given
+pub only_one : (now given : Image) → Contains (now ∷ []) given → now ≡ given
 only_one now given has =
     let zero : has.0 ≡ 0 = omega (arith, has.1) in
     subst (λ (k : ℕ). slice_index_or (now ∷ []) k given ≡ given) zero has.2

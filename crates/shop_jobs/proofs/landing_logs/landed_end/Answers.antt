@@ -12,5 +12,6 @@ returns-in-Err g c =
       left = search rules;
       tried = λ e. refl;
       landed = λ image stands out. absurd (is.out out);
+      moments = search rules;
       told = is.told;
     }

@@ -13,6 +13,13 @@ returns-in-Ok-clause-stands g c s held image all =
     (c.in-Ok.ensures.ok s held (image ∙ sym c.as_slice.ensures.value)
     (subst (λ i. AllLeft g.D.LogFolder.history c.args.folder (IsBrought i)) (sym c.as_slice.ensures.value) all)))
 
+pub returns-in-Ok-clause-any_moment : goal.returns-in-Ok-clause-any_moment
+returns-in-Ok-clause-any_moment g c s held all =
+    let left = subst (λ i. LeavesFolders g.D.LogFolder.history c.args.folder c.make_new.new.folder (IsBrought i))
+    c.as_slice.ensures.value (c.make_new.ensures.any_moment s held
+    (subst (λ i. AllLeft g.D.LogFolder.history c.args.folder (IsBrought i)) (sym c.as_slice.ensures.value) all)) in
+    record { later = left.later; each = left.each; before = left.before }
+
 pub returns-in-Err-clause-err : goal.returns-in-Err-clause-err
 returns-in-Err-clause-err g c s held all =
     subst (λ i. LeavesFolders g.D.LogFolder.history c.args.folder c.make_new.new.folder (IsBrought i)) c.as_slice.ensures.value
