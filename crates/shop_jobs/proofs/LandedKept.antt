@@ -1,6 +1,6 @@
 -- What was left of a log and of its folder, from how lines were served over it and how it was landed.
 use Rattle.std.proofs.Common.{◌≡◌, ◌∙◌, ◌++◌, [], ℕ, Bool, true, false, List, Option, None, Some, Result, Ok, Err, ap, append-nil, inl, inr, length, refl, subst, sym}
-use Rattle.std.specs.Prelude.{IfSome, IsErr, OnSome, option_to_list}
+use Rattle.std.specs.Prelude.{IsErr, IsOk, OnOk, OnSome, option_to_list}
 use Rattle.std.specs.Io.KnownBytes.{Consumes, IsAtEnd}
 use Rattle.std.proofs.lemmas.Bool.{false≢true}
 use Rattle.std.proofs.lemmas.Option.{none-some, same_Some}
@@ -12,7 +12,7 @@ use Rattle.host_session.specs.runs.Chains.{told_in}
 use Rattle.host_session.specs.shop.Shop.{IsSettled, IsShop, Shop, start_of}
 use Rattle.line_server.specs.Batches.{BatchInput}
 use Rattle.image_log.specs.life.Folders.{FolderHistory}
-use Rattle.image_log.specs.life.LiveLogs.{IsEnding, of_live}
+use Rattle.image_log.specs.life.LiveLogs.{of_live}
 use Rattle.image_log.specs.declared.life.live_log.LiveLog.{LiveLog}
 use Rattle.image_log.specs.declared.log_file.LogFile.{Ghosts}
 use Rattle.line_server.proofs.lemmas.logged.UnderWay.{as_many_replies}
@@ -28,7 +28,7 @@ use Rattle.opened_files.specs.Ends.{JobEnd, as_run}
 use Rattle.shop_jobs.proofs.PlayedOver.{all_told}
 use Rattle.shop_jobs.proofs.ReplyTold.{landed-ok}
 use Rattle.shop_jobs.specs.KeptServices.{IsServedOrNot}
-use Rattle.shop_jobs.specs.LandedRuns.{HasLanded, IsLandedEnd, StandsAtRest, watched_end}
+use Rattle.shop_jobs.specs.LandedRuns.{HasLanded, IsLandedEnd, IsServedOut, StandsAtRest, watched_end}
 use Rattle.shop_jobs.specs.LoggedRuns.{IsLoggedRun, IsLoggedTo}
 use Rattle.shop_jobs.specs.Replies.{IsShopOf}
 
@@ -55,6 +55,15 @@ ended-err h left gone (Ok found) folder (Ok printed) landed bad = absurd (false�
 ended-err h left gone (Err refusal) folder (Ok printed) landed bad =
     absurd (false≢true (landed-ok h left gone (Err refusal) folder (Ok printed) landed refl))
 
+-- a device that failed is no such end
+no_device : (end : JobEnd) → IsServedOut end → end ≡ Err faults.Device → ⊥
+no_device end (inl ok) is = false≢true (subst (λ (e : JobEnd). IsOk e) is ok)
+no_device end (inr file) is = let bad : ◌≡◌ {A = JobEnd} (Err faults.File) (Err faults.Device) = sym file ∙ is in cc
+
+watched_device : (gone : Bool) → watched_end gone (Err faults.Device) ≡ Err faults.Device
+watched_device true = refl
+watched_device false = refl
+
 -- `Told` says of replies what the caller's output was passed, which was `first` and is `final`
 module _ {F D R T W : Type 0} {G : Ghosts F} (h : FolderHistory D) (i : BatchInput R) (o : LogOutput (LiveLog F D G) T)
     (image : List ℕ) (log : LiveLog F D G) (old_in new_in : R) (old new : T) (first final : W) (Told : List Reply → Type 0)
@@ -69,45 +78,61 @@ module _ {F D R T W : Type 0} {G : Ghosts F} (h : FolderHistory D) (i : BatchInp
   abbrev To : LiveLog F D G → (MemDisk → Result MemDisk (LoopFault × MemDisk)) → Type 0
   To left end = IsLoggedTo (of_live h) i o image log left old_in new_in old new end
 
-  -- a power loss while the log was landed leaves the image for which it stood
-  abbrev Lands : LiveLog F D G → Option D → Type 0
-  Lands left folder = (c : Image) → (of_live h).stands_for left c → IfSome folder (λ d. IsEnding h left d c)
+  -- the log stands for the shop after these lines, at rest
+  abbrev Stood : LiveLog F D G → (handled : List ℕ) → Type 0
+  Stood left handled = (s : Shop) → IsShopOf image s → (of_live h).stands_for log (sectors_in image)
+      → StandsAtRest h (shop_behind s (lines handled)) left
+
+  -- as the log of a run that didn't fail does
+  stood_of : (left : LiveLog F D G) (end : MemDisk → Result MemDisk (LoopFault × MemDisk)) (x : To left end)
+      → ((s : Shop) → IsShop (disk_image x.disk) s → IsSettled (disk_image x.left) (shop_behind s (lines x.served.handled))
+      × ((of_live h).stands_for log (disk_image x.disk) → (of_live h).stands_for left (disk_image x.left)))
+      → Stood left x.served.handled
+  stood_of left end x rests s shop stands =
+      let here : IsShop (disk_image x.disk) s = subst (λ (c : Image). IsShop c s) (sym x.holds) shop.1 in
+      let y = rests s here in
+      (disk_image x.left, y.0, y.1 (subst (λ (c : Image). (of_live h).stands_for log c) (sym x.holds) stands))
+
+  -- a log was landed that stood for the shop at rest
+  rests_in : (left : LiveLog F D G) (served end : JobEnd) (folder : Option D) → IsLandedEnd h left served folder end
+      → IsServedOut end → (s : Shop) (c : Image) → IsSettled c s → (of_live h).stands_for left c → HasLanded h s folder
+  rests_in left served end None landed out s c settled stands =
+      false≢true (landed.tried (λ e. no_device end out ((landed.left e).0 ∙ e)))
+  rests_in left served end (Some folder) landed out s c settled stands = (c, settled, landed.landed c stands out)
 
   module _ (left : LiveLog F D G) (folder : Option D) (end : MemDisk → Result MemDisk (LoopFault × MemDisk)) (x : To left end)
-      (landing : Lands left folder) where
-      safe_of : (s : Shop) → IsShopOf image s → (of_live h).stands_for log (sectors_in image)
-          → IsSafe (of_live h) s (sectors_in image) (lines x.served.handled)
-          (x.served.turns ++ option_to_list x.served.last) log left
-      safe_of s shop stands =
-          subst (λ (c : Image). IsSafe (of_live h) s c (lines x.served.handled)
-          (x.served.turns ++ option_to_list x.served.last) log left) x.holds
-          (x.served.safe s (subst (λ (c : Image). IsShop c s) (sym x.holds) shop.1)
-          (subst (λ (c : Image). (of_live h).stands_for log c) (sym x.holds) stands))
+      (served ended : JobEnd) (landed : IsLandedEnd h left served folder ended)
+      (stood : IsServedOut ended → Stood left x.served.handled) where
+    safe_of : (s : Shop) → IsShopOf image s → (of_live h).stands_for log (sectors_in image)
+        → IsSafe (of_live h) s (sectors_in image) (lines x.served.handled)
+        (x.served.turns ++ option_to_list x.served.last) log left
+    safe_of s shop stands =
+        subst (λ (c : Image). IsSafe (of_live h) s c (lines x.served.handled)
+        (x.served.turns ++ option_to_list x.served.last) log left) x.holds
+        (x.served.safe s (subst (λ (c : Image). IsShop c s) (sym x.holds) shop.1)
+        (subst (λ (c : Image). (of_live h).stands_for log c) (sym x.holds) stands))
 
-      -- of a job that isn't done
-      part : (fault : CommandFault) → Served (Err fault)
-      part fault = inr (record {
-        left = left;
-        folder = folder;
-        handled = x.served.handled;
-        rest = x.served.rest;
-        whole = x.served.whole;
-        lacks = x.served.lacks;
-        read = front_of _ _ _ x.served.read;
-        turns = x.served.turns ++ option_to_list x.served.last;
-        safe = safe_of;
-        landing = landing;
-        all = tt;
-        done = tt;
-      })
-
-  -- a log that was landed after a run that ended well
-  rests_in : (left : LiveLog F D G) (gone : Bool) (folder : Option D) (found : Option Fault)
-      → IsLandedEnd h left (watched_end gone (Ok None)) folder (Ok found) → (s : Shop) (c : Image) → IsSettled c s
-      → (of_live h).stands_for left c → HasLanded h s folder
-  rests_in left true folder found landed s c settled stands = let bad = (landed.left refl).0 in cc
-  rests_in left false None found landed s c settled stands = false≢true (landed.tried (λ e. cc))
-  rests_in left false (Some folder) found landed s c settled stands = (c, settled, landed.landed c stands (inl refl))
+    -- of a job that ended so
+    kept_as : OnOk ended ((all : List ℕ) → i.remaining old_in ≡ Some all → all ≡ x.served.handled ++ x.served.rest)
+        → OnOk ended ((s : Shop) → IsShopOf image s → Told (replies (start_of s) [] (lines x.served.handled))
+        × (length (x.served.turns ++ option_to_list x.served.last) ≡ length (lines x.served.handled))) → Served ended
+    kept_as all told = inr (record {
+      left = left;
+      folder = folder;
+      handled = x.served.handled;
+      rest = x.served.rest;
+      whole = x.served.whole;
+      lacks = x.served.lacks;
+      read = front_of _ _ _ x.served.read;
+      turns = x.served.turns ++ option_to_list x.served.last;
+      safe = safe_of;
+      landing = landed.moments;
+      all = all;
+      told = told;
+      done = λ out s shop stands.
+          let y = stood out s shop stands in
+          (rests_in left served ended folder landed out (shop_behind s (lines x.served.handled)) y.0 y.1 y.2, y);
+    })
 
   module _ (left : LiveLog F D G) (gone : Bool) (folder : Option D) (found : Option Fault) (x : To left (λ d. Ok d))
       (landed : IsLandedEnd h left (watched_end gone (Ok None)) folder (Ok found)) where
@@ -126,49 +151,31 @@ module _ {F D R T W : Type 0} {G : Ghosts F} (h : FolderHistory D) (i : BatchInp
         ap (λ (l : Option (Reply × LiveLog F D G)). length (x.served.turns ++ option_to_list l)) over.0
         ∙ ap length (append-nil x.served.turns) ∙ over.1
 
-    landed_of : (s : Shop) → IsShopOf image s → (of_live h).stands_for log (sectors_in image)
-        → HasLanded h (shop_behind s (lines x.served.handled)) folder
-        × StandsAtRest h (shop_behind s (lines x.served.handled)) left
-    landed_of s shop stands =
-        let here : IsShop (disk_image x.disk) s = subst (λ (c : Image). IsShop c s) (sym x.holds) shop.1 in
-        let rests = x.served.rests s here in
-        let now = rests.1 (subst (λ (c : Image). (of_live h).stands_for log c) (sym x.holds) stands) in
-        (
-          rests_in left gone folder found landed (shop_behind s (lines x.served.handled)) (disk_image x.left) rests.0 now,
-          (disk_image x.left, rests.0, now),
-        )
-
     whole_of : Served (Ok found)
-    whole_of = inr (record {
-      left = left;
-      folder = folder;
-      handled = x.served.handled;
-      rest = x.served.rest;
-      whole = x.served.whole;
-      lacks = x.served.lacks;
-      read = front_of _ _ _ x.served.read;
-      turns = x.served.turns ++ option_to_list x.served.last;
-      safe = safe_of left folder (λ d. Ok d) x landed.moments;
-      landing = landed.moments;
-      all = all_of _ _ _ x.served.read x.served.end;
-      done = λ s shop. (told_of s shop, count_of, landed_of s shop);
-    })
+    whole_of = kept_as left folder (λ d. Ok d) x (watched_end gone (Ok None)) (Ok found) landed
+        (λ out. stood_of left (λ d. Ok d) x x.served.rests) (all_of _ _ _ x.served.read x.served.end)
+        (λ s shop. (told_of s shop, count_of))
 
   untold : (fault : CommandFault) → new ≡ old → Served (Err fault)
   untold fault same = inl (refl, back same)
 
-  part_of : (left : LiveLog F D G) (folder : Option D) → Lands left folder → (ran fault : CommandFault) → Run left (Err ran)
-      → Served (Err fault)
-  part_of left folder landing faults.File fault (inl x) = part left folder _ x landing fault
-  part_of left folder landing faults.File fault (inr x) = part left folder _ x landing fault
-  part_of left folder landing faults.Device fault x = part left folder _ x landing fault
-  part_of left folder landing (faults.ScriptLine line) fault x = absurd x
-  part_of left folder landing _ fault x = untold fault x.1.2
+  -- of a job that isn't done
+  part_of : (left : LiveLog F D G) (gone : Bool) (folder : Option D) (ran fault : CommandFault)
+      → IsLandedEnd h left (watched_end gone (Err ran)) folder (Err fault) → Run left (Err ran) → Served (Err fault)
+  part_of left gone folder faults.File fault landed (inl x) = kept_as left folder _ x _ (Err fault) landed
+      (λ out. stood_of left _ x (λ s here. x.served.rests s here (inl refl))) tt tt
+  part_of left gone folder faults.File fault landed (inr x) = kept_as left folder _ x _ (Err fault) landed
+      (λ out. stood_of left _ x (λ s here. x.served.rests s here (inr refl))) tt tt
+  part_of left gone folder faults.Device fault landed x = kept_as left folder _ x _ (Err fault) landed
+      (λ out. absurd (no_device (Err fault) out ((landed.left (watched_device gone)).0 ∙ watched_device gone))) tt tt
+  part_of left gone folder (faults.ScriptLine line) fault landed x = absurd x
+  part_of left gone folder _ fault landed x = untold fault x.1.2
 
   pub of_run : (left : LiveLog F D G) (gone : Bool) (folder : Option D) (run : Result Unit CommandFault) (end : JobEnd)
       → Run left run → IsLandedEnd h left (watched_end gone (as_run run)) folder end → Served end
   of_run left gone folder (Ok u) (Ok found) x landed = whole_of left gone folder found x landed
-  of_run left gone folder (Ok u) (Err fault) x landed = part left folder _ x landed.moments fault
+  of_run left gone folder (Ok u) (Err fault) x landed = kept_as left folder (λ d. Ok d) x _ (Err fault) landed
+      (λ out. stood_of left (λ d. Ok d) x x.served.rests) tt tt
   of_run left gone folder (Err ran) (Ok found) x landed =
       absurd (false≢true (landed-ok h left gone (Err ran) folder (Ok found) landed refl))
-  of_run left gone folder (Err ran) (Err fault) x landed = part_of left folder landed.moments ran fault x
+  of_run left gone folder (Err ran) (Err fault) x landed = part_of left gone folder ran fault landed x

@@ -2,7 +2,6 @@
 use Rattle.std.proofs.Common.{◌≡◌, ◌++◌, [], ℕ, Bool, List, Option, Some, Result, Ok, Err, inl, inr, length, refl, subst, sym}
 use Rattle.std.specs.Prelude.{IsErr, OnOk}
 use Rattle.std.specs.Io.KnownBytes.{Appends}
-use Rattle.d64_image.specs.Memory.{sectors_in}
 use Rattle.host_session.specs.events.Telling.{Output}
 use Rattle.host_session.specs.runs.ScriptRuns.{AreToldSo}
 use Rattle.host_session.specs.runs.Chains.{told_in}
@@ -13,7 +12,6 @@ use Rattle.image_log.specs.life.LiveLogs.{of_live}
 use Rattle.image_log.specs.declared.life.live_log.LiveLog.{LiveLog}
 use Rattle.image_log.specs.declared.log_file.LogFile.{Ghosts}
 use Rattle.line_server.specs.logged.Reporting.{of_output}
-use Rattle.line_server.specs.logged.Serves.{shop_behind}
 use Rattle.line_text.specs.scripts.Lines.{lines}
 use Rattle.request_cards.specs.Ledgers.{replies, report}
 use Rattle.request_cards.specs.declared.reply.Reply.{Reply}
@@ -24,7 +22,7 @@ use Rattle.opened_files.specs.Losses.{IsEndOfRun, IsGuarded}
 use Rattle.shop_jobs.proofs.LandedKept.{ended-err, of_run}
 use Rattle.shop_jobs.proofs.LoggedTold.{passed-back, watched-back}
 use Rattle.shop_jobs.specs.KeptServices.{IsServedIn, IsServedOrNot}
-use Rattle.shop_jobs.specs.LandedRuns.{HasLanded, IsDoneAndLanded, IsLandedEnd, StandsAtRest, watched_end}
+use Rattle.shop_jobs.specs.LandedRuns.{IsDoneAndLanded, IsLandedEnd, watched_end}
 use Rattle.shop_jobs.specs.LoggedRuns.{IsLoggedRun, IsUnlogged}
 use Rattle.shop_jobs.proofs.ServiceTold.{given-back, lent-lines}
 use Rattle.shop_jobs.specs.Replies.{IsShopOf, lines_to}
@@ -41,10 +39,10 @@ module _ {F D : Type 0} {G : Ghosts F} (h : FolderHistory D) (image : List ℕ) 
   all_so (Ok found) handled rest x = λ all is. x all (known all is)
   all_so (Err fault) handled rest x = tt
 
-  done_so : (end : JobEnd) (X A B : Shop → Type 0) (rs : Shop → List Reply)
-      → OnOk end ((s : Shop) → X s → P (rs s) × A s × B s) → OnOk end ((s : Shop) → X s → Q (rs s) × A s × B s)
-  done_so (Ok found) X A B rs x = λ s is. let y = x s is in (passed (rs s) y.0, y.1, y.2)
-  done_so (Err fault) X A B rs x = tt
+  told_so : (end : JobEnd) (X B : Shop → Type 0) (rs : Shop → List Reply) → OnOk end ((s : Shop) → X s → P (rs s) × B s)
+      → OnOk end ((s : Shop) → X s → Q (rs s) × B s)
+  told_so (Ok found) X B rs x = λ s is. let y = x s is in (passed (rs s) y.0, y.1)
+  told_so (Err fault) X B rs x = tt
 
   pub served-so : (end : JobEnd) → IsServedIn h image given log P end → IsServedIn h image other log Q end
   served-so end x = record {
@@ -59,10 +57,9 @@ module _ {F D : Type 0} {G : Ghosts F} (h : FolderHistory D) (image : List ℕ) 
     safe = x.safe;
     landing = x.landing;
     all = all_so end x.handled x.rest x.all;
-    done = done_so end (λ s. IsShopOf image s) (λ _. length x.turns ≡ length (lines x.handled))
-        (λ s. (of_live h).stands_for log (sectors_in image) → HasLanded h (shop_behind s (lines x.handled)) x.folder
-        × StandsAtRest h (shop_behind s (lines x.handled)) x.left)
-        (λ s. replies (start_of s) [] (lines x.handled)) x.done;
+    told = told_so end (λ s. IsShopOf image s) (λ _. length x.turns ≡ length (lines x.handled))
+        (λ s. replies (start_of s) [] (lines x.handled)) x.told;
+    done = x.done;
   }
 
 module _ {F D N R T : Type 0} {G : Ghosts F} (h : FolderHistory D) (i : BatchInput R) (o : Output T) (image : List ℕ)

@@ -25,7 +25,7 @@ use Rattle.opened_files.specs.Ends.{JobEnd}
 use Rattle.opened_files.specs.HostFiles.{OfText, OfWritten}
 use Rattle.request_cards.specs.Ledgers.{replies, report}
 use Rattle.request_cards.specs.declared.reply.Reply.{Reply}
-use Rattle.shop_jobs.specs.LandedRuns.{HasLanded, StandsAtRest}
+use Rattle.shop_jobs.specs.LandedRuns.{HasLanded, IsServedOut, StandsAtRest}
 use Rattle.shop_jobs.specs.Replies.{IsShopOf}
 
 -- a folder of this host was opened: it is that of the image at a path, whose file was opened there
@@ -63,13 +63,13 @@ module _ {F D : Type 0} {G : Ghosts F} (h : FolderHistory D) where
         → IsSafe (of_live h) s (sectors_in image) (lines handled) turns begun left
     -- and one while the log was landed, the image for which the log stood
     pub landing : (c : Image) → (of_live h).stands_for left c → IfSome folder (λ d. IsEnding h left d c)
-    -- when the job is done, these are all lines of the input
+    -- when the job is done, these are all lines of the input, and each was answered
     pub all : OnOk end ((all : List ℕ) → given ≡ Some all → all ≡ handled ++ rest)
-    -- each was answered, and IMAGE is the shop after them at rest, with no log; the log stood for it
-    pub done : OnOk end ((s : Shop) → IsShopOf image s → Told (replies (start_of s) [] (lines handled))
-        × (length turns ≡ length (lines handled))
-        × ((of_live h).stands_for begun (sectors_in image) → HasLanded h (shop_behind s (lines handled)) folder
-        × StandsAtRest h (shop_behind s (lines handled)) left))
+    pub told : OnOk end ((s : Shop) → IsShopOf image s → Told (replies (start_of s) [] (lines handled))
+        × (length turns ≡ length (lines handled)))
+    -- then, and if the input or the output failed, IMAGE is the shop after these lines at rest, with no log; the log stood for it
+    pub done : IsServedOut end → (s : Shop) → IsShopOf image s → (of_live h).stands_for begun (sectors_in image)
+        → HasLanded h (shop_behind s (lines handled)) folder × StandsAtRest h (shop_behind s (lines handled)) left
 
   -- so they were; or the image was refused, and nothing was passed on
   abbrev pub IsServedOrNot : {T : Type 0} → (image : List ℕ) → Option (List ℕ) → LiveLog F D G

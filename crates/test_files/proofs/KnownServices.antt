@@ -103,11 +103,10 @@ module _ {W : Type 0} (g : HostGhosts Snapshot SnapshotFile) (r : ReadGhosts Sna
       let stood = known (sectors_in host.image.now) (began (sectors_in host.image.now) None) gives.0
       (one-of (sectors_in host.image.now)) gives.1 in
       let is-shop : IsShopOf image shop = subst (λ (bytes : List ℕ). IsShopOf bytes shop) (sym image-is) is in
-      let done = served.done shop is-shop in
-      let landed = done.2 stood.0 in
+      let landed = served.done (inl refl) shop is-shop stood.0 in
       of-folder input old new image image-is served.left served.handled served.rest (served.all input refl) served.whole
-      served.lacks done.0 folder fresh begun stood.2 served.turns (served.safe shop is-shop stood.0) served.folder landed.0
-      landed.1 (served.landing landed.1.0 landed.1.2)
+      served.lacks (served.told shop is-shop).0 folder fresh begun stood.2 served.turns (served.safe shop is-shop stood.0)
+      served.folder landed.0 landed.1 (served.landing landed.1.0 landed.1.2)
 
   pub served : (input : List ℕ) (old new : W) (found : Option Fault)
       → IsServiceKept g r s snapshot_logs snapshot_folders snapshot_stands snapshot_rights snapshot_traces contents (Some input)

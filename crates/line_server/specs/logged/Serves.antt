@@ -59,6 +59,11 @@ pub record IsSafe {L : Type 0} (h : LogHistory L) (s : Shop) (image : Image) (ls
   -- and since a line's reply was reported, it leaves the shop of first lines with this one among them
   pub told_stays : StayFrom h s ls 0 turns new
 
+-- the disk that is returned has P, unless it wasn't opened or the log failed
+abbrev pub IfKept : Result MemDisk (LoopFault × MemDisk) → (MemDisk → Type 0) → Type 0
+IfKept (Ok d) P = P d
+IfKept (Err e) P = (e.0 ≡ faults.Input) ⊎ (e.0 ≡ faults.Output) → P e.1
+
 -- The shop of a disk was served over a log, an input and an output, that were `old`, `old_in` and `old_out`.
 pub record IsServedOver {L R T : Type 0} (h : LogHistory L) (i : BatchInput R) (o : LogOutput L T) (disk : MemDisk)
     (old new : L) (old_in new_in : R) (old_out new_out : T)
@@ -81,8 +86,8 @@ pub record IsServedOver {L R T : Type 0} (h : LogHistory L) (i : BatchInput R) (
   -- At Ok, and if the input failed, each line's reply was reported, and handed on.
   pub all : IsOver result → (last ≡ None) × (length turns ≡ length (lines handled))
   pub handed : IsOver result → (turns ≡ []) ⊎ o.is_handed_on new_out
-  -- At Ok the log stands for the disk that is returned, a shop's at rest after all lines.
-  pub rests : (s : Shop) → IsShop (disk_image disk) s → IfOk result (λ d.
+  -- At Ok, and if the input or the output failed, the log stands for the disk that is returned, a shop's at rest after all lines.
+  pub rests : (s : Shop) → IsShop (disk_image disk) s → IfKept result (λ d.
       IsSettled (disk_image d) (shop_behind s (lines handled))
       × (h.stands_for old (disk_image disk) → h.stands_for new (disk_image d)))
   -- If all files were whole, they are in that disk.

@@ -126,7 +126,10 @@ module _ {L R T : Type 0} (h : LogHistory L) (i : BatchInput R) (o : LogOutput L
               };
           all = λ e. cc;
           handed = λ e. cc;
-          rests = λ s shop. tt;
+          rests = λ s shop why. (
+            subst (λ (image : Image). IsSettled image (shop_behind s (lines All))) (sym is) (holds_now s shop).rests.rests,
+            λ stood. subst (h.stands_for now) (sym is) ((holds_now s shop).stands stood),
+          );
           files = λ whole. tt;
           shop = tt;
           end = tt;
@@ -160,7 +163,7 @@ module _ {L R T : Type 0} (h : LogHistory L) (i : BatchInput R) (o : LogOutput L
         (way.safe_untold h i o disk old old_in old_out session kept log input out u new_in texts said b after new_kept now told result x s shop stood);
     all = λ e. cc;
     handed = λ e. cc;
-    rests = λ s shop. tt;
+    rests = λ s shop why. elim why [ inl e ↦ cc | inr e ↦ cc ];
     files = λ whole. tt;
     shop = tt;
     end = tt;

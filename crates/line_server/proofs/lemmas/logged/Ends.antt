@@ -98,7 +98,7 @@ module _ {L R T : Type 0} (h : LogHistory L) (i : BatchInput R) (o : LogOutput L
       safe = opening_safe;
       all = λ e. cc;
       handed = λ e. inl refl;
-      rests = λ s shop. tt;
+      rests = λ s shop why. elim why [ inl e ↦ cc | inr e ↦ cc ];
       files = λ whole. tt;
       shop = tt;
       end = tt;
@@ -133,6 +133,15 @@ module _ {L R T : Type 0} (h : LogHistory L) (i : BatchInput R) (o : LogOutput L
         subst (λ (ts : List (Reply × L)). IsSafe h s (disk_image disk) (lines u.handled) ts old now)
         (sym (append-nil u.turns)) ((u.holds s shop).safe stood)
 
+    -- the disk has what the session's has
+    kept_at : (left : MemDisk) → disk_image left ≡ image_of session.disk → (s : Shop) → IsShop (disk_image disk) s
+        → IsSettled (disk_image left) (shop_behind s (lines u.handled))
+        × (h.stands_for old (disk_image disk) → h.stands_for now (disk_image left))
+    kept_at left is s shop = (
+      subst (λ (image : Image). IsSettled image (shop_behind s (lines u.handled))) (sym is) (u.holds s shop).rests.rests,
+      λ stood. subst (h.stands_for now) (sym is) ((u.holds s shop).stands stood),
+    )
+
     pub over : OnSome (i.remaining old_in) (IsAtEnd (i.remaining input))
         → IsServedSo h i o disk old now old_in input old_out out session (Ok tt)
     over end left is = record {
@@ -148,10 +157,7 @@ module _ {L R T : Type 0} (h : LogHistory L) (i : BatchInput R) (o : LogOutput L
       safe = all_safe;
       all = λ e. (refl, turns_are);
       handed = λ e. u.handed;
-      rests = λ s shop. (
-        subst (λ (image : Image). IsSettled image (shop_behind s (lines u.handled))) (sym is) (u.holds s shop).rests.rests,
-        λ stood. subst (h.stands_for now) (sym is) ((u.holds s shop).stands stood),
-      );
+      rests = λ s shop. kept_at left is s shop;
       files = λ whole. subst IsWhole (sym is) ((u.holds u.shop.0 u.shop.1).files whole);
       shop = u.shop;
       end = end;
@@ -177,7 +183,7 @@ module _ {L R T : Type 0} (h : LogHistory L) (i : BatchInput R) (o : LogOutput L
       safe = all_safe;
       all = λ e. (refl, turns_are);
       handed = λ e. u.handed;
-      rests = λ s shop. tt;
+      rests = λ s shop why. kept_at left is s shop;
       files = λ whole. tt;
       shop = tt;
       end = tt;

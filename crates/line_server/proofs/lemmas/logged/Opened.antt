@@ -83,7 +83,7 @@ refused h i o disk left begins ends log input out fault is gone none refuses unt
       safe = λ s shop. absurd (no_shop s shop);
       all = λ e. cc;
       handed = λ e. inl refl;
-      rests = λ s shop. tt;
+      rests = λ s shop. absurd (no_shop s shop);
       files = λ whole. tt;
       shop = tt;
       end = tt;
