@@ -1,5 +1,5 @@
 -- What comes of a change to the image in a folder. Our own.
-use Rattle.std.specs.Prelude.{◌≡◌, ◌≢◌, ◌⊎◌, Err, List, Ok, Option, Result, ℕ}
+use Rattle.std.specs.Prelude.{◌≡◌, ◌≢◌, ◌⊎◌, Err, List, None, Ok, Option, Result, ℕ}
 use Rattle.std.specs.Io.KnownBytes.{Appends}
 use Rattle.command_faults.specs.Outputs.{HandsPart}
 use Rattle.d64_image.specs.Memory.{disk_image, sectors_in}
@@ -9,7 +9,8 @@ use Rattle.disk_changes.specs.declared.changes.Changed.{Changed}
 use Rattle.command_faults.specs.declared.faults.CommandFault.{CommandFault}
 use Rattle.command_faults.specs.declared.faults.CommandFault.TheVariants as faults
 use Rattle.image_log.specs.life.Bringing.{RestsAlone}
-use Rattle.image_log.specs.life.Folders.{Folder, FolderHistory}
+use Rattle.image_log.specs.life.Folders.{Folder, FolderHistory, LeavesFolders}
+use Rattle.image_log.specs.life.Replacing.{KeepsOrGives}
 use Rattle.image_log.specs.life.Shops.{Gives}
 
 -- a folder gives the image, or the one with the change
@@ -42,9 +43,10 @@ IsChangePrinted what image contents before after result =
     IsShownAs contents (IsChanged what image) (IsRefused what image) before after result
 
 module _ {D : Type 0} (h : FolderHistory D) (what : Change) (image : List ℕ) (old new : D) where
-  -- the change was made: if the folder had the image alone, it has the new one alone
+  -- the change was made: if the folder had the image alone, it has the new one alone, and a power loss on the way left one of them
   abbrev pub IsMade : Changed → Type 0
-  IsMade made = IsChanged what image made × (RestsAlone h old (sectors_in image) → RestsAlone h new (disk_image made.disk))
+  IsMade made = IsChanged what image made × (RestsAlone h old (sectors_in image) → RestsAlone h new (disk_image made.disk)
+      × LeavesFolders h old new (KeepsOrGives None (sectors_in image) (disk_image made.disk)))
 
   -- it was refused, and the folder is as it was
   abbrev pub IsLeft : CommandFault → Type 0

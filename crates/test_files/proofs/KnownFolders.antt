@@ -6,9 +6,10 @@ use Rattle.std.specs.Prelude.{IfSome, IsSome, None, Option, Result, Some}
 use Rattle.d64_image.specs.Images.{Image}
 use Rattle.image_log.specs.declared.life.mem_folder.MemFolder.{MemFolder}
 use Rattle.image_log.specs.life.Bringing.{RestsAlone}
-use Rattle.image_log.specs.life.Folders.{Acts, Brings, Folder, FolderHistory}
+use Rattle.image_log.specs.life.Folders.{Acts, Brings, Folder, FolderHistory, LeavesFolders}
 use Rattle.image_log.specs.life.MemFolders.{folder_in_memory}
-use Rattle.test_files.specs.KnownFolders.{StandsAlone, folder_in, held_in}
+use Rattle.image_log.specs.life.Replacing.{KeepsOrGives}
+use Rattle.test_files.specs.KnownFolders.{HasTurned, folder_in, held_in}
 
 -- what such a folder holds, if it is that one
 pub held-there : (folder : Option MemFolder) (m : MemFolder) (s : Folder) → folder ≡ Some m → held_in folder ≡ Some s
@@ -77,11 +78,23 @@ rests of d found image is some there =
     (rests-in found image some there) in
     record { some = r.some; held = r.held; is = r.is; left = r.left }
 
-stands-in : (o : Option MemFolder) (image : Image) → RestsAlone maybe o image → StandsAlone image
-stands-in None image r = absurd (none-some r.some r.held)
-stands-in (Some m) image r = (m, record { some = r.some; held = r.held; is = r.is; left = r.left })
+turned-in : (o p : Option MemFolder) (before after : Image) → RestsAlone maybe o before → RestsAlone maybe p after
+    → LeavesFolders maybe o p (KeepsOrGives None before after) → HasTurned before after
+turned-in None p before after was is moments = absurd (none-some was.some was.held)
+turned-in (Some m) None before after was is moments = absurd (none-some is.some is.held)
+turned-in (Some m) (Some n) before after was is moments = (
+  m,
+  n,
+  record { some = was.some; held = was.held; is = was.is; left = was.left },
+  record { some = is.some; held = is.held; is = is.is; left = is.left },
+  record { later = moments.later; each = moments.each; before = moments.before },
+)
 
--- and so one stands there that is found to rest
-pub stands : {E : Type 0} (of : E → Option MemFolder) (d : E) (image : Image) → RestsAlone (folder_in of) d image
-    → StandsAlone image
-stands of d image r = stands-in (of d) image (record { some = r.some; held = r.held; is = r.is; left = r.left })
+-- and so one went there that is found to have gone
+pub turned : {E : Type 0} (of : E → Option MemFolder) (old new : E) (before after : Image) → RestsAlone (folder_in of) old before
+    → RestsAlone (folder_in of) new after → LeavesFolders (folder_in of) old new (KeepsOrGives None before after)
+    → HasTurned before after
+turned of old new before after was is moments = turned-in (of old) (of new) before after
+    (record { some = was.some; held = was.held; is = was.is; left = was.left })
+    (record { some = is.some; held = is.held; is = is.is; left = is.left })
+    (record { later = moments.later; each = moments.each; before = moments.before })

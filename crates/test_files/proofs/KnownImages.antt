@@ -1,4 +1,4 @@
--- What is made of the image in a folder in memory stands there.
+-- The image in a folder in memory turned into what was made of it.
 use Rattle.std.proofs.Common.{◌≡◌, ℕ, List, length}
 use Rattle.std.specs.Prelude.{Err, IfOk, IfSome, IsSome, None, Ok, OnOk, Option, Result}
 use Rattle.command_faults.specs.declared.faults.CommandFault.{CommandFault}
@@ -11,9 +11,11 @@ use Rattle.folder_changes.proofs.Changed.{sized, told-weaker}
 use Rattle.folder_changes.specs.FolderChanges.{IsLeft, IsMade, IsToldAs}
 use Rattle.image_log.specs.declared.life.mem_folder.MemFolder.{MemFolder}
 use Rattle.image_log.specs.life.Bringing.{RestsAlone, RestsWith}
+use Rattle.image_log.specs.life.Folders.{LeavesFolders}
 use Rattle.image_log.specs.life.MemFolders.{folder_in_memory}
-use Rattle.test_files.proofs.KnownFolders.{rests, stands}
-use Rattle.test_files.specs.KnownFolders.{IsChangedIn, IsReplacedIn, StandsAlone, folder_in}
+use Rattle.image_log.specs.life.Replacing.{KeepsOrGives}
+use Rattle.test_files.proofs.KnownFolders.{rests, turned}
+use Rattle.test_files.specs.KnownFolders.{HasTurned, IsChangedIn, IsReplacedIn, folder_in}
 
 module _ {E : Type 0} (of : E → Option MemFolder) (IsAt : E → Type 0) (found : Option MemFolder)
     (at : (d : E) → IsAt d → of d ≡ found) (image : List ℕ)
@@ -21,28 +23,31 @@ module _ {E : Type 0} (of : E → Option MemFolder) (IsAt : E → Type 0) (found
   pub changed : {W X : Type 0} (contents : W → Option (List ℕ)) (what : Change) (before after : W)
       → (length image ≡ 174848 → IsSome found) → (r : Result (Result ℕ CommandFault) X)
       → IfOk r (IsChangedIn (folder_in of) IsAt what image contents before after)
-      → IfOk r (IsToldAs contents (λ made. IsChanged what image made × StandsAlone (disk_image made.disk)) (IsRefused what image)
+      → IfOk r (IsToldAs contents (λ made. IsChanged what image made × HasTurned (sectors_in image) (disk_image made.disk)) (IsRefused what image)
       before after)
   changed contents what before after some (Err e) is = is
   changed contents what before after some (Ok ended) (old, new, is, told) =
       told-weaker contents (IsMade (folder_in of) what image old new)
-      (λ (made : Changed). IsChanged what image made × StandsAlone (disk_image made.disk))
+      (λ (made : Changed). IsChanged what image made × HasTurned (sectors_in image) (disk_image made.disk))
       (IsLeft (folder_in of) what image old new) (IsRefused what image) before after
-      (λ made m. (
-        m.0,
-        stands of new (disk_image made.disk)
-            (m.1 (rests of old found (sectors_in image) (at old is) (some (sized what image made m.0)) there)),
-      ))
+      (λ made m.
+          let was = rests of old found (sectors_in image) (at old is) (some (sized what image made m.0)) there in
+          let gone = m.1 was in
+          (m.0, turned of old new (sectors_in image) (disk_image made.disk) was gone.0 gone.1))
       (λ why left. left.0) ended told
 
-  done : (other : List ℕ) (old new : E) → IsAt old → IsSome found → (ended : Result Unit CommandFault)
+  done : (other : List ℕ) (old new : E) → IsAt old → IsSome found
+      → ((log : Option (List ℕ)) (before : Image) → RestsWith (folder_in of) old log before
+      → LeavesFolders (folder_in of) old new (KeepsOrGives log before (sectors_in other))) → (ended : Result Unit CommandFault)
       → OnOk ended ((log : Option (List ℕ)) (before : Image) → RestsWith (folder_in of) old log before
-      → RestsAlone (folder_in of) new (sectors_in other)) → OnOk ended (StandsAlone (sectors_in other))
-  done other old new is some (Err e) ok = tt
-  done other old new is some (Ok x) ok = stands of new (sectors_in other)
-      (ok None (sectors_in image) (rests of old found (sectors_in image) (at old is) some there))
+      → RestsAlone (folder_in of) new (sectors_in other)) → OnOk ended (HasTurned (sectors_in image) (sectors_in other))
+  done other old new is some moments (Err e) ok = tt
+  done other old new is some moments (Ok x) ok =
+      let was = rests of old found (sectors_in image) (at old is) some there in
+      turned of old new (sectors_in image) (sectors_in other) was (ok None (sectors_in image) was)
+      (moments None (sectors_in image) was)
 
   pub replaced : {X : Type 0} (other : List ℕ) → IsSome found → (r : Result (Result Unit CommandFault) X)
-      → IfOk r (IsReplacedIn (folder_in of) IsAt other) → IfOk r (λ ended. OnOk ended (StandsAlone (sectors_in other)))
+      → IfOk r (IsReplacedIn (folder_in of) IsAt other) → IfOk r (λ ended. OnOk ended (HasTurned (sectors_in image) (sectors_in other)))
   replaced other some (Err e) is = is
-  replaced other some (Ok ended) (old, new, is, ok) = done other old new is some ended ok
+  replaced other some (Ok ended) (old, new, is, moments, ok) = done other old new is some moments ended ok

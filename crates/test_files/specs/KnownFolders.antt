@@ -14,9 +14,10 @@ use Rattle.image_log.specs.declared.life.mem_folder.MemFolder.{MemFolder}
 use Rattle.image_log.specs.declared.mem_log.MemLog.{MemLog}
 use Rattle.image_log.specs.life.Bringing.{RestsAlone, RestsWith}
 use Rattle.image_log.specs.life.FolderCalls.{began}
-use Rattle.image_log.specs.life.Folders.{AllLeft, Folder, FolderHistory}
+use Rattle.image_log.specs.life.Folders.{AllLeft, Folder, FolderHistory, LeavesFolders}
 use Rattle.image_log.specs.life.HostLogs.{FolderHistories, LogBytes, LogHistories}
 use Rattle.image_log.specs.life.MemFolders.{folder_in_memory}
+use Rattle.image_log.specs.life.Replacing.{KeepsOrGives}
 use Rattle.test_files.specs.Snapshots.{image_path}
 use Rattle.test_files.specs.declared.snapshots.host.Snapshot.{Snapshot}
 use Rattle.test_files.specs.declared.snapshots.open_file.SnapshotFile.{SnapshotFile}
@@ -117,9 +118,10 @@ snapshot_traces = record {
   synced = λ _ _. ⊤;
 }
 
--- a folder in memory has this image at rest, with no log
-abbrev pub StandsAlone : Image → Type 0
-StandsAlone image = (folder : MemFolder) × RestsAlone folder_in_memory folder image
+-- a folder in memory went from one image at rest, with no log, to another: a power loss on the way left one of them
+abbrev pub HasTurned : (before after : Image) → Type 0
+HasTurned before after = (old : MemFolder) × (new : MemFolder) × RestsAlone folder_in_memory old before
+    × RestsAlone folder_in_memory new after × LeavesFolders folder_in_memory old new (KeepsOrGives None before after)
 
 -- a change was made of the image in such a folder, or not
 abbrev pub IsChangedIn : {D W : Type 0} → FolderHistory D → (IsAt : D → Type 0) → Change → (image : List ℕ)
@@ -130,13 +132,15 @@ IsChangedIn {D} h IsAt what image contents before after ended = (old : D) × (ne
 -- an image was put in the place of all that such a folder had, or not
 abbrev pub IsReplacedIn : {D : Type 0} → FolderHistory D → (IsAt : D → Type 0) → (image : List ℕ) → Result Unit CommandFault
     → Type 0
-IsReplacedIn {D} h IsAt image ended = (old : D) × (new : D) × IsAt old × OnOk ended ((log : Option (List ℕ)) (before : Image)
-    → RestsWith h old log before → RestsAlone h new (sectors_in image))
+IsReplacedIn {D} h IsAt image ended = (old : D) × (new : D) × IsAt old
+    × ((log : Option (List ℕ)) (before : Image) → RestsWith h old log before
+    → LeavesFolders h old new (KeepsOrGives log before (sectors_in image)))
+    × OnOk ended ((log : Option (List ℕ)) (before : Image) → RestsWith h old log before → RestsAlone h new (sectors_in image))
 
--- what a snapshot says of an image that was changed: a folder in memory can have it so
+-- what a snapshot says of an image that was changed
 abbrev pub snapshot_changed : Snapshot → (path image : List ℕ) → Changed → Type 0
-snapshot_changed host path image made = StandsAlone (disk_image made.disk)
+snapshot_changed host path image made = HasTurned (sectors_in image) (disk_image made.disk)
 
--- and so can it have one that was put in the place of another
+-- and of one that was put in the place of its own
 abbrev pub snapshot_replaced : Snapshot → (path image : List ℕ) → Type 0
-snapshot_replaced host path image = StandsAlone (sectors_in image)
+snapshot_replaced host path image = HasTurned (sectors_in host.image.now) (sectors_in image)
