@@ -88,8 +88,7 @@ module _ {F D : Type 0} {G : Ghosts F} (h : FolderHistory D) where
         let brought : AllLeft h now (IsBrought shop) =
         λ t may. let y = r.left t may in (y.0, alone_gives t shop y.0 y.1) in
         let moments = weaker h folder now (GivesOneOf (c ∷ [])) (λ t. Gives t shop)
-        (λ t y. gives_too c shop s t gives x.1 y) (left_so c s held gives left) in
-        (
+        (λ t y. gives_too c shop s t gives x.1 y) (left_so c s held gives left) in (
           subst (λ (i : Image). (of_live h).stands_for begun i) (sym same) (stands r.some r.held r.is.0 brought),
           subst (λ (i : Image). Gives s i) (sym same) x.1,
           subst (λ (i : Image). IsBeginning h folder begun (λ t. Gives t i)) (sym same)

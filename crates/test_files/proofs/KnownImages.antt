@@ -31,9 +31,9 @@ module _ {E : Type 0} (of : E → Option MemFolder) (IsAt : E → Type 0) (found
       (λ (made : Changed). IsChanged what image made × HasTurned (sectors_in image) (disk_image made.disk))
       (IsLeft (folder_in of) what image old new) (IsRefused what image) before after
       (λ made m.
-          let was = rests of old found (sectors_in image) (at old is) (some (sized what image made m.0)) there in
-          let gone = m.1 was in
-          (m.0, turned of old new (sectors_in image) (disk_image made.disk) was gone.0 gone.1))
+      let was = rests of old found (sectors_in image) (at old is) (some (sized what image made m.0)) there in
+      let gone = m.1 was in
+      (m.0, turned of old new (sectors_in image) (disk_image made.disk) was gone.0 gone.1))
       (λ why left. left.0) ended told
 
   done : (other : List ℕ) (old new : E) → IsAt old → IsSome found

@@ -75,23 +75,23 @@ module _ {W : Type 0} (g : HostGhosts Snapshot SnapshotFile) (r : ReadGhosts Sna
       landed at ending = absurd landed
   of-folder input old new image image-is left handled rest all whole lacks told opened fresh begun beginning turns safe
       (Some folder) landed at ending = record {
-    handled = handled;
-    rest = rest;
-    all = all;
-    whole = whole;
-    lacks = lacks;
-    told = told;
-    opened = opened;
-    fresh = fresh;
-    folder = folder;
-    moments = subst
-        (λ (bytes : List ℕ). LeavesShops (snapshot_folders g r s) opened folder
-        (λ c. (c ≡ sectors_in bytes) ⊎ HoldsFirst shop (lines handled) 0 c))
-        image-is
-        (service_leaves (snapshot_folders g r s) opened begun left folder shop (sectors_in image) at.0 (lines handled) turns
-        beginning safe ending at.1);
-    landed = landed;
-  }
+        handled = handled;
+        rest = rest;
+        all = all;
+        whole = whole;
+        lacks = lacks;
+        told = told;
+        opened = opened;
+        fresh = fresh;
+        folder = folder;
+        moments = subst
+            (λ (bytes : List ℕ). LeavesShops (snapshot_folders g r s) opened folder
+            (λ c. (c ≡ sectors_in bytes) ⊎ HoldsFirst shop (lines handled) 0 c))
+            image-is
+            (service_leaves (snapshot_folders g r s) opened begun left folder shop (sectors_in image) at.0 (lines handled) turns
+            beginning safe ending at.1);
+        landed = landed;
+      }
 
   service : (input : List ℕ) (old new : W) (found : Option Fault)
       → IsServiceAt g r s snapshot_logs snapshot_folders snapshot_stands snapshot_rights snapshot_traces contents (Some input)

@@ -42,7 +42,7 @@ pub returns-clause-run : goal.returns-clause-run
 returns-clause-run g c = printed g.W.Write.contents
     (IsMade g.D.LogFolder.history c.args.what.now c.args.image.now c.args.folder.now c.put_in_place.new.folder)
     (IsLeft g.D.LogFolder.history c.args.what.now c.args.image.now c.args.folder.now c.put_in_place.new.folder)
-    c.args.out.now c.print.new.out c.in_ok-made.made 
+    c.args.out.now c.print.new.out c.in_ok-made.made
     (c.in_ok-made.ensures.ok, λ rests. (c.in_ok-put_in_place.ensures.ok rests, c.put_in_place.ensures.any_moment rests))
     c.print.result c.print.ensures.ok c.print.ensures.part c.print.ensures.err
 
