@@ -2,13 +2,13 @@
 use Rattle.std.proofs.Common.{◌≡◌, ◌∙◌, [], ◌∷◌, ℕ, List, ap, arith, inl, inr, refl, subst, sym}
 use Rattle.std.proofs.lemmas.Bool.{false≢true}
 use Rattle.std.proofs.lemmas.List.{take_all}
-use Rattle.std.specs.Prelude.{◌++◌, ◌⊎◌, IfSome, None, Ok, Option, Some, length, take}
-use Rattle.std.specs.Io.KnownBytes.{Appends}
+use Rattle.std.specs.Prelude.{◌⊎◌, Err, IfSome, None, Ok, Option, Some, length, take}
 use Rattle.std.specs.declared.io.traits.Read.{Ghosts as ReadGhosts}
 use Rattle.std.specs.declared.io.traits.Seek.{Ghosts as SeekGhosts}
+use Rattle.command_faults.specs.declared.faults.CommandFault.TheVariants as faults
 use Rattle.d64_image.specs.Images.{Image}
 use Rattle.d64_image.specs.Memory.{sectors_in}
-use Rattle.host_session.specs.shop.Shop.{Shop, start_of}
+use Rattle.host_session.specs.shop.Shop.{Shop}
 use Rattle.image_file.specs.declared.paths.host.HostFiles.{Ghosts as HostGhosts}
 use Rattle.image_log.specs.declared.life.image_folder.ImageFolder.{ImageFolder}
 use Rattle.image_log.specs.declared.life.live_log.LiveLog.{LiveLog}
@@ -18,20 +18,19 @@ use Rattle.image_log.specs.life.FolderCalls.{began}
 use Rattle.image_log.specs.life.Folders.{Folder}
 use Rattle.image_log.specs.life.LiveLogs.{IsBeginning, IsEnding, of_live}
 use Rattle.image_log.specs.life.Shops.{Gives, GivesOneOf}
-use Rattle.line_server.specs.Read.{AreWhole, LacksLf}
 use Rattle.line_server.specs.Scripts.{crlf_text}
 use Rattle.line_server.specs.logged.Serves.{HoldsFirst, IsSafe, shop_behind}
 use Rattle.line_text.specs.scripts.Lines.{lines}
-use Rattle.shop_jobs.specs.KeptServices.{IsPlayKept, IsServiceAt, IsServiceKept}
-use Rattle.request_cards.specs.Ledgers.{replies, report}
+use Rattle.opened_files.specs.Ends.{JobEnd}
+use Rattle.shop_jobs.specs.KeptServices.{IsBegunIn, IsFolderAt, IsPlayKept, IsServedIn, IsServiceAt, IsServiceKept}
 use Rattle.request_cards.specs.declared.reply.Reply.{Reply}
 use Rattle.shop_jobs.proofs.ServiceMoments.{service_leaves}
-use Rattle.shop_jobs.specs.LandedRuns.{HasLanded, LeavesShops, StandsAtRest}
+use Rattle.shop_jobs.specs.LandedRuns.{HasLanded, IsServedOut, LeavesShops, StandsAtRest}
 use Rattle.shop_jobs.specs.Replies.{IsShopOf}
 use Rattle.disk_layout.specs.declared.faults.Fault.{Fault}
 use Rattle.test_files.proofs.SnapshotPremises.{text-other}
 use Rattle.test_files.specs.KnownFolders.{IsFresh, held_in, left_in, snapshot_folders, snapshot_logs, snapshot_traces}
-use Rattle.test_files.specs.KnownServices.{HasServed}
+use Rattle.test_files.specs.KnownServices.{HasServed, HasStopped, LeavesShop}
 use Rattle.test_files.specs.Snapshots.{image_path, snapshot_rights, snapshot_stands, text_path}
 use Rattle.test_files.specs.declared.snapshots.host.Snapshot.{Snapshot}
 use Rattle.test_files.specs.declared.snapshots.open_file.SnapshotFile.{SnapshotFile}
@@ -62,61 +61,84 @@ module _ {W : Type 0} (g : HostGhosts Snapshot SnapshotFile) (r : ReadGhosts Sna
   )
 
   -- the folder that was landed
-  of-folder : (input : List ℕ) (old new : W) (image : List ℕ) → image ≡ host.image.now → (left : Live) (handled rest : List ℕ)
-      → input ≡ handled ++ rest → AreWhole handled → LacksLf rest
-      → Appends (contents old) (contents new) (report (replies (start_of shop) [] (lines handled))) → (opened : Folders)
+  of-folder : (image : List ℕ) → image ≡ host.image.now → (left : Live) (ls : List (List ℕ)) (opened : Folders)
       → IsFresh host opened.image.folder → (begun : Live)
       → IsBeginning (snapshot_folders g r s) opened begun (λ t. Gives t (sectors_in image)) → (turns : List (Reply × Live))
-      → IsSafe (of_live (snapshot_folders g r s)) shop (sectors_in image) (lines handled) turns begun left
-      → (folder : Option Folders) → HasLanded (snapshot_folders g r s) (shop_behind shop (lines handled)) folder
-      → (at : StandsAtRest (snapshot_folders g r s) (shop_behind shop (lines handled)) left)
-      → IfSome folder (λ d. IsEnding (snapshot_folders g r s) left d at.0) → HasServed g r s contents host shop input old new
-  of-folder input old new image image-is left handled rest all whole lacks told opened fresh begun beginning turns safe None
-      landed at ending = absurd landed
-  of-folder input old new image image-is left handled rest all whole lacks told opened fresh begun beginning turns safe
-      (Some folder) landed at ending = record {
-        handled = handled;
-        rest = rest;
-        all = all;
-        whole = whole;
-        lacks = lacks;
-        told = told;
-        opened = opened;
-        fresh = fresh;
-        folder = folder;
-        moments = subst
-            (λ (bytes : List ℕ). LeavesShops (snapshot_folders g r s) opened folder
-            (λ c. (c ≡ sectors_in bytes) ⊎ HoldsFirst shop (lines handled) 0 c))
-            image-is
-            (service_leaves (snapshot_folders g r s) opened begun left folder shop (sectors_in image) at.0 (lines handled) turns
-            beginning safe ending at.1);
-        landed = landed;
-      }
+      → IsSafe (of_live (snapshot_folders g r s)) shop (sectors_in image) ls turns begun left → (folder : Option Folders)
+      → HasLanded (snapshot_folders g r s) (shop_behind shop ls) folder
+      → (at : StandsAtRest (snapshot_folders g r s) (shop_behind shop ls) left)
+      → IfSome folder (λ d. IsEnding (snapshot_folders g r s) left d at.0) → LeavesShop g r s host shop ls
+  of-folder image image-is left ls opened fresh begun beginning turns safe None landed at ending = absurd landed
+  of-folder image image-is left ls opened fresh begun beginning turns safe (Some folder) landed at ending = record {
+    opened = opened;
+    fresh = fresh;
+    folder = folder;
+    moments = subst
+        (λ (bytes : List ℕ). LeavesShops (snapshot_folders g r s) opened folder
+        (λ c. (c ≡ sectors_in bytes) ⊎ HoldsFirst shop ls 0 c))
+        image-is
+        (service_leaves (snapshot_folders g r s) opened begun left folder shop (sectors_in image) at.0 ls turns beginning safe
+        ending at.1);
+    landed = landed;
+  }
 
-  service : (input : List ℕ) (old new : W) (found : Option Fault)
-      → IsServiceAt g r s snapshot_logs snapshot_folders snapshot_stands snapshot_rights snapshot_traces contents (Some input)
-      host image_path old new (Ok found) → HasServed g r s contents host shop input old new
-  service input old new found (image, of, begun, (folder, at, known), served) =
-      let image-is = whole host image is.0 (of host.image.now refl) in
+  -- a service that ended well, or whose input or output failed
+  leaves : (given : Option (List ℕ)) (Told : List Reply → Type 0) (end : JobEnd) → IsServedOut end → (image : List ℕ)
+      → image ≡ take 174849 host.image.now → (begun : Live)
+      → IsBegunIn (snapshot_folders g r s) (λ d. IsFolderAt snapshot_rights snapshot_traces host image_path d) image begun
+      → (x : IsServedIn (snapshot_folders g r s) image given begun Told end) → LeavesShop g r s host shop (lines x.handled)
+  leaves given Told end out image read begun (folder, at, known) x =
+      let image-is = whole host image is.0 read in
       let fresh = at.2 refl is.0 in
       let gives = fresh-gives folder.image.folder fresh in
       let stood = known (sectors_in host.image.now) (began (sectors_in host.image.now) None) gives.0
       (one-of (sectors_in host.image.now)) gives.1 in
       let is-shop : IsShopOf image shop = subst (λ (bytes : List ℕ). IsShopOf bytes shop) (sym image-is) is in
-      let landed = served.done (inl refl) shop is-shop stood.0 in
-      of-folder input old new image image-is served.left served.handled served.rest (served.all input refl) served.whole
-      served.lacks (served.told shop is-shop).0 folder fresh begun stood.2 served.turns (served.safe shop is-shop stood.0)
-      served.folder landed.0 landed.1 (served.landing landed.1.0 landed.1.2)
+      let landed = x.done out shop is-shop stood.0 in
+      of-folder image image-is x.left (lines x.handled) folder fresh begun stood.2 x.turns (x.safe shop is-shop stood.0)
+      x.folder landed.0 landed.1 (x.landing landed.1.0 landed.1.2)
+
+  service : (input : List ℕ) (old new : W) (found : Option Fault)
+      → IsServiceAt g r s snapshot_logs snapshot_folders snapshot_stands snapshot_rights snapshot_traces contents (Some input)
+      host image_path old new (Ok found) → HasServed g r s host shop input contents old new
+  service input old new found (image, of, begun, begun-in, x) =
+      let read = of host.image.now refl in
+      let is-shop : IsShopOf image shop = subst (λ (bytes : List ℕ). IsShopOf bytes shop) (sym (whole host image is.0 read)) is in
+      record {
+        handled = x.handled;
+        rest = x.rest;
+        all = x.all input refl;
+        whole = x.whole;
+        lacks = x.lacks;
+        told = (x.told shop is-shop).0;
+        left = leaves (Some input) _ (Ok found) (inl refl) image read begun begun-in x;
+      }
 
   pub served : (input : List ℕ) (old new : W) (found : Option Fault)
       → IsServiceKept g r s snapshot_logs snapshot_folders snapshot_stands snapshot_rights snapshot_traces contents (Some input)
-      host image_path old new (Ok found) → HasServed g r s contents host shop input old new
+      host image_path old new (Ok found) → HasServed g r s host shop input contents old new
   served input old new found (inl not) = absurd (false≢true not.0)
   served input old new found (inr at) = service input old new found at
 
+  pub stopped : (input : List ℕ) (old new : W)
+      → IsServiceKept g r s snapshot_logs snapshot_folders snapshot_stands snapshot_rights snapshot_traces contents (Some input)
+      host image_path old new (Err faults.File) → (new ≡ old) ⊎ HasStopped g r s host shop input
+  stopped input old new (inl not) = inl not.1
+  stopped input old new (inr (image, of, begun, begun-in, x)) =
+      let y = x.read input refl in
+      inr (record {
+        handled = x.handled;
+        rest = x.rest;
+        later = y.0;
+        read = y.1;
+        whole = x.whole;
+        lacks = x.lacks;
+        left = leaves (Some input) _ (Err faults.File) (inr refl) image (of host.image.now refl) begun begun-in x;
+      })
+
   pub played : (old new : W) (found : Option Fault)
       → IsPlayKept g r s snapshot_logs snapshot_folders snapshot_stands snapshot_rights snapshot_traces contents host
-      image_path text_path old new (Ok found) → HasServed g r s contents host shop (crlf_text (lines host.text.now)) old new
+      image_path text_path old new (Ok found) → HasServed g r s host shop (crlf_text (lines host.text.now)) contents old new
   played old new found (inl not) = absurd (false≢true not.0)
   played old new found (inr (text, of, at)) =
       service (crlf_text (lines host.text.now)) old new found

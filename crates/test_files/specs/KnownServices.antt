@@ -16,21 +16,38 @@ use Rattle.test_files.specs.KnownFolders.{IsFresh, snapshot_folders}
 use Rattle.test_files.specs.declared.snapshots.host.Snapshot.{Snapshot}
 use Rattle.test_files.specs.declared.snapshots.open_file.SnapshotFile.{SnapshotFile}
 
--- The lines of an input were answered by this shop, each once, in order, and nothing else was printed. The folder of the host's
--- image was opened. As it was left, IMAGE is the shop after them at rest, with no log. What came after the last LF is no line.
-pub record HasServed {W : Type 0} (g : HostGhosts Snapshot SnapshotFile) (r : ReadGhosts SnapshotFile)
-    (s : SeekGhosts SnapshotFile) (contents : W → Option (List ℕ)) (host : Snapshot) (shop : Shop) (input : List ℕ) (old new : W)
-    : Type 0 where
-  pub handled : List ℕ
-  pub rest : List ℕ
-  pub all : input ≡ handled ++ rest
-  pub whole : AreWhole handled
-  pub lacks : LacksLf rest
-  pub told : Appends (contents old) (contents new) (report (replies (start_of shop) [] (lines handled)))
-  pub opened : ImageFolder Snapshot SnapshotFile g r s
-  pub fresh : IsFresh host opened.image.folder
-  pub folder : ImageFolder Snapshot SnapshotFile g r s
-  -- a power loss at any moment on the way left the image as it was, or the shop of some first lines, at rest
-  pub moments : LeavesShops (snapshot_folders g r s) opened folder
-      (λ c. (c ≡ sectors_in host.image.now) ⊎ HoldsFirst shop (lines handled) 0 c)
-  pub landed : HasLanded (snapshot_folders g r s) (shop_behind shop (lines handled)) (Some folder)
+module _ (g : HostGhosts Snapshot SnapshotFile) (r : ReadGhosts SnapshotFile) (s : SeekGhosts SnapshotFile) (host : Snapshot)
+    (shop : Shop) (ls : List (List ℕ)) where
+  -- The folder of the host's image was opened, and left with the shop after these lines.
+  pub record LeavesShop : Type 0 where
+    pub opened : ImageFolder Snapshot SnapshotFile g r s
+    pub fresh : IsFresh host opened.image.folder
+    pub folder : ImageFolder Snapshot SnapshotFile g r s
+    -- a power loss at any moment on the way left the image as it was, or the shop of some first lines, at rest
+    pub moments : LeavesShops (snapshot_folders g r s) opened folder
+        (λ c. (c ≡ sectors_in host.image.now) ⊎ HoldsFirst shop ls 0 c)
+    -- IMAGE is the shop after them at rest, with no log
+    pub landed : HasLanded (snapshot_folders g r s) (shop_behind shop ls) (Some folder)
+
+module _ (g : HostGhosts Snapshot SnapshotFile) (r : ReadGhosts SnapshotFile) (s : SeekGhosts SnapshotFile) (host : Snapshot)
+    (shop : Shop) (input : List ℕ) where
+  -- The lines of an input were answered by this shop, each once, in order, and nothing else was printed. What came after the last
+  -- LF is no line.
+  pub record HasServed {W : Type 0} (contents : W → Option (List ℕ)) (old new : W) : Type 0 where
+    pub handled : List ℕ
+    pub rest : List ℕ
+    pub all : input ≡ handled ++ rest
+    pub whole : AreWhole handled
+    pub lacks : LacksLf rest
+    pub told : Appends (contents old) (contents new) (report (replies (start_of shop) [] (lines handled)))
+    pub left : LeavesShop g r s host shop (lines handled)
+
+  -- The first lines of an input were handled, and then the input or the output failed.
+  pub record HasStopped : Type 0 where
+    pub handled : List ℕ
+    pub rest : List ℕ
+    pub later : List ℕ
+    pub read : input ≡ (handled ++ rest) ++ later
+    pub whole : AreWhole handled
+    pub lacks : LacksLf rest
+    pub left : LeavesShop g r s host shop (lines handled)

@@ -1,5 +1,6 @@
 //! Jobs over a host that says what its files held: what is promised of them has no premise left.
-ghost use Rattle.std.specs.Prelude.{◌≡◌, List, Ok, Option, Some, take, ℕ, true};
+ghost use Rattle.std.specs.Prelude.{◌≡◌, ◌⊎◌, Err, List, Ok, Option, Some, take, ℕ, true};
+ghost use Rattle.command_faults.specs.declared.faults.CommandFault.TheVariants as faults;
 ghost use Rattle.image_file.specs.Remains.{unknown};
 ghost use Rattle.ledger_jobs.specs.JobRights.{MayDo};
 ghost use Rattle.ledger_jobs.specs.JobRuns.{IsJobOver};
@@ -11,7 +12,7 @@ ghost use Rattle.opened_files.specs.HostFiles.{OfImage, OfText, OfWritten, TrimE
 ghost use Rattle.opened_files.specs.Makings.{IsMadeAt};
 ghost use Rattle.test_files.specs.OneFile.{one_remains, one_traces};
 ghost use Rattle.test_files.specs.KnownFolders.{snapshot_changed, snapshot_folders, snapshot_logs, snapshot_replaced, snapshot_traces};
-ghost use Rattle.test_files.specs.KnownServices.{HasServed};
+ghost use Rattle.test_files.specs.KnownServices.{HasServed, HasStopped};
 ghost use Rattle.test_files.specs.Snapshots.{image_path, snapshot_file, snapshot_rights, snapshot_stands, text_path};
 ghost use Rattle.test_files.specs.declared.snapshots.host.Snapshot as hosts;
 ghost use Rattle.disk_layout.specs.declared.faults.Fault.{Fault as Found};
@@ -74,22 +75,29 @@ pub fn premises_are_met()
 {}
 
 /// What is promised of `serve` and `play --sync` has no premise left over a snapshot of a shop: done, all lines of the input are
-/// answered, and the folder has the shop after them alone.
+/// answered, and the folder has the shop after them alone; so it has that after some first lines if the input or the output failed.
 pub fn services_land<W: Write>()
     ensures served { (host : hosts.Snapshot) (input : List ℕ) (old new : W) (found : Option Found) (shop : Shop)
         → IsShopOf host.image.now shop → IsServiceKept ⟦<Snapshot<'static> as HostFiles>⟧ ⟦<SnapshotFile<'static> as Read>⟧
         ⟦<SnapshotFile<'static> as Seek>⟧
         snapshot_logs snapshot_folders snapshot_stands snapshot_rights snapshot_traces W.contents (Some input) host image_path
         old new (Ok found) → HasServed ⟦<Snapshot<'static> as HostFiles>⟧ ⟦<SnapshotFile<'static> as Read>⟧
-        ⟦<SnapshotFile<'static> as Seek>⟧ W.contents host
-        shop input old new }
+        ⟦<SnapshotFile<'static> as Seek>⟧
+        host shop input W.contents old new }
     ensures played { (host : hosts.Snapshot) (old new : W) (found : Option Found) (shop : Shop)
         → IsShopOf host.image.now shop → IsPlayKept ⟦<Snapshot<'static> as HostFiles>⟧ ⟦<SnapshotFile<'static> as Read>⟧
         ⟦<SnapshotFile<'static> as Seek>⟧
         snapshot_logs snapshot_folders snapshot_stands snapshot_rights snapshot_traces W.contents host image_path text_path
         old new (Ok found) → HasServed ⟦<Snapshot<'static> as HostFiles>⟧ ⟦<SnapshotFile<'static> as Read>⟧
-        ⟦<SnapshotFile<'static> as Seek>⟧ W.contents host
-        shop (crlf_text (lines host.text.now)) old new }
+        ⟦<SnapshotFile<'static> as Seek>⟧
+        host shop (crlf_text (lines host.text.now)) W.contents old new }
+    ensures stopped { (host : hosts.Snapshot) (input : List ℕ) (old new : W) (shop : Shop)
+        → IsShopOf host.image.now shop → IsServiceKept ⟦<Snapshot<'static> as HostFiles>⟧ ⟦<SnapshotFile<'static> as Read>⟧
+        ⟦<SnapshotFile<'static> as Seek>⟧
+        snapshot_logs snapshot_folders snapshot_stands snapshot_rights snapshot_traces W.contents (Some input) host image_path
+        old new (Err faults.File) → (new ≡ old) ⊎ HasStopped ⟦<Snapshot<'static> as HostFiles>⟧ ⟦<SnapshotFile<'static> as Read>⟧
+        ⟦<SnapshotFile<'static> as Seek>⟧
+        host shop input }
 {}
 
 /// What is said of an image that a job makes can hold, and on a host where one file was made it holds of its path and its bytes

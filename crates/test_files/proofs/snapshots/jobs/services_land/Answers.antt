@@ -1,9 +1,10 @@
 -- The laws are lemmas.
-use Rattle.test_files.proofs.KnownServices.{played, served}
+use Rattle.test_files.proofs.KnownServices.{played, served, stopped}
 use Rattle.test_files.proofs.snapshots.jobs.services_land.Goals as goal
 
 pub returns : goal.returns
 returns g c = record {
   served = λ host input old new found shop is. served _ _ _ g.W.Write.contents host shop is input old new found;
   played = λ host old new found shop is. played _ _ _ g.W.Write.contents host shop is old new found;
+  stopped = λ host input old new shop is. stopped _ _ _ g.W.Write.contents host shop is input old new;
 }
