@@ -1,5 +1,6 @@
 //! The folders of a host in which images stand with their logs.
-ghost use Rattle.std.specs.Prelude.{◌≡◌, ◌↔◌, ◌≤◌, ◌<◌, [], IfOk, IsErr, IsTrue, List, OnErr, OnOk, Some, length, true, ℕ};
+ghost use Rattle.std.specs.Prelude.{◌≡◌, ◌↔◌, ◌≤◌, ◌<◌, [], IfOk, IsErr, IsTrue, List, OnErr, OnOk, Some, length, string_bytes, true, ℕ};
+ghost use Rattle.image_file.specs.paths.Rights.{Make};
 ghost use Rattle.image_file.specs.paths.Standing.{IsMissing};
 ghost use Rattle.image_log.specs.Blocks.{block_at};
 ghost use Rattle.image_log.specs.Files.{Lengthens, Only, SyncsBytes, WritesBytes};
@@ -14,7 +15,7 @@ use image_file::HostFiles;
 use std::io;
 
 /// The calls of a host on a folder in which an image stands with its log. They do what those of `LogFolder`, of `LogFile` and
-/// of `LogReader` do that have their names.
+/// of `LogReader` do that have their names, and at Ok a name was made, given, taken away or synced by a call at its path.
 pub trait HostLogs: HostFiles {
     ghost use Rattle.image_log.specs.life.HostLogs.{FolderHistories, LogBytes, LogFailures, LogHistories};
 
@@ -79,7 +80,9 @@ pub trait HostLogs: HostFiles {
         ensures empty { IfOk result (λ file. (f : List ℕ) → (logs _ _ _).held file ≡ Some f → f ≡ []) }
         ensures known { IfOk result (λ file. (s : Folder) → (folders _ _ _).held folder.old ≡ Some s
             → (logs _ _ _).held file ≡ Some []) }
-        ensures acts { Acts (folders _ _ _) folder.old folder.new being_made IsMaking result };
+        ensures acts { Acts (folders _ _ _) folder.old folder.new being_made IsMaking result }
+        ensures made { IfOk result (λ file. Self.traces.opened folder.old.rt.now Make
+            (string_bytes folder.old.names.now.making) file.file) };
 
     /// `LogFolder::leave_making`, before the file is closed.
     fn leave_making<'a>(folder: &mut ImageFolder<'a, Self>, file: &mut SystemLog<'a, Self>)
@@ -93,15 +96,19 @@ pub trait HostLogs: HostFiles {
         ensures lent { OnOk result ((folders _ _ _).lent folder.new ≡ (logs _ _ _).moment file.now) }
         ensures acts { (f : List ℕ) → (logs _ _ _).held file.now ≡ Some f → Only f ((logs _ _ _).may_leave file.now)
             → Acts (folders _ _ _) folder.old folder.new (named f) (IsNaming f) result }
-        ensures cause { OnErr result ((folders _ _ _).has_failed folder.new ≡ true) };
+        ensures cause { OnErr result ((folders _ _ _).has_failed folder.new ≡ true) }
+        ensures renamed { OnOk result (Self.traces.renamed folder.old.rt.now (string_bytes folder.old.names.now.making)
+            (string_bytes folder.old.names.now.log)) };
 
     /// `LogFolder::remove_log`.
     fn remove_log(folder: &mut ImageFolder<'_, Self>) -> io::Result<()>
-        ensures { Acts (folders _ _ _) folder.old folder.new unlogged IsRemoving result };
+        ensures acts { Acts (folders _ _ _) folder.old folder.new unlogged IsRemoving result }
+        ensures removed { OnOk result (Self.traces.removed folder.old.rt.now (string_bytes folder.old.names.now.log)) };
 
     /// `LogFolder::sync_folder`.
     fn sync_folder(folder: &mut ImageFolder<'_, Self>) -> io::Result<()>
-        ensures { Brings (folders _ _ _) folder.old folder.new HasNames result };
+        ensures brings { Brings (folders _ _ _) folder.old folder.new HasNames result }
+        ensures synced { OnOk result (Self.traces.synced folder.old.rt.now (string_bytes folder.old.names.now.image)) };
 
     /// `LogFile::write_at`.
     fn write_at(log: &mut SystemLog<'_, Self>, at: usize, bytes: &[u8]) -> io::Result<()>

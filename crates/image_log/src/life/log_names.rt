@@ -1,5 +1,5 @@
 //! The names of an image, of its log, and of a log in the making.
-ghost use Rattle.std.specs.Prelude.{◌≡◌, ◌++◌, IfOk, IsErr, IsNone, string_bytes, true};
+ghost use Rattle.std.specs.Prelude.{◌≡◌, ◌++◌, IfOk, IsErr, IsNone, OnOk, string_bytes, true};
 ghost use Rattle.image_log.specs.life.LogRights.{MayForget, MayReadLogOf, log_of, making_of};
 ghost use Rattle.image_file.specs.paths.Rights.{Look, May, Remove};
 ghost use Rattle.image_file.specs.paths.Standing.{IsMissing};
@@ -136,6 +136,7 @@ pub fn forget_making<R: HostFiles>(rt: &R, names: &LogNames) -> io::Result<bool>
 /// Syncs the names in the folder of an image.
 pub fn sync_names<R: HostFiles>(rt: &R, names: &LogNames) -> io::Result<()>
     requires { May R.rights rt.now Look (string_bytes names.now.image) }
+    ensures { OnOk result (R.traces.synced rt.now (string_bytes names.now.image)) }
 {
     rt.sync_folder_of(names.image())
 }
