@@ -15,7 +15,7 @@ use Rattle.host_session.specs.declared.runs.event_loop.LoopFault.{LoopFault}
 use Rattle.host_session.specs.declared.runs.event_loop.LoopFault.TheVariants as faults
 use Rattle.host_session.specs.runs.Chains.{told_in}
 use Rattle.host_session.specs.session.Standing.{View}
-use Rattle.host_session.specs.shop.Shop.{IsShop, Shop, start_of}
+use Rattle.host_session.specs.shop.Shop.{IsSettled, IsShop, Shop, start_of}
 use Rattle.line_server.proofs.Cuts.{lines_two}
 use Rattle.arrayvec.specs.ArrayVec.{ArrayVec}
 use Rattle.line_server.specs.Batches.{BatchInput, IsBatchTaken, texts_of}
