@@ -1,8 +1,17 @@
--- A log that couldn't be landed.
-use Rattle.std.proofs.Common.{refl, rules, subst, sym}
+-- The log was landed, or couldn't be.
+use Rattle.std.proofs.Common.{inl, refl, rules, subst, sym}
 use Rattle.opened_files.specs.Ends.{JobEnd}
 use Rattle.shop_jobs.proofs.Unlanded.{IsUnlanded, unlanded_is}
 use Rattle.shop_jobs.proofs.landing_logs.landed_end.Goals as goal
+
+pub returns-in-Ok : goal.returns-in-Ok
+returns-in-Ok g c = record {
+  left = search rules;
+  tried = λ e. refl;
+  landed = search rules;
+  moments = c.end.ensures.any_moment;
+  told = inl refl;
+}
 
 pub returns-in-Err : goal.returns-in-Err
 returns-in-Err g c =
@@ -12,6 +21,6 @@ returns-in-Err g c =
       left = search rules;
       tried = λ e. refl;
       landed = λ image stands out. absurd (is.out out);
-      moments = search rules;
+      moments = c.end.ensures.any_moment;
       told = is.told;
     }

@@ -5,5 +5,8 @@ use Rattle.shop_jobs.proofs.serving_logs.shop_of.Goals as goal
 pub returns-in-Ok-clause-shop : goal.returns-in-Ok-clause-shop
 returns-in-Ok-clause-shop g c = λ image s held gives left. c.in-Ok.ensures.ok (image ∷ []) s held gives left
 
-pub returns-clause-any_moment : goal.returns-clause-any_moment
-returns-clause-any_moment g c = λ image s held gives left. c.land_in.ensures.any_moment (image ∷ []) s held gives left
+pub returns-in-Ok-clause-any_moment : goal.returns-in-Ok-clause-any_moment
+returns-in-Ok-clause-any_moment g c = λ image s held gives left. c.land_in.ensures.any_moment (image ∷ []) s held gives left
+
+pub returns-in-Err-clause-any_moment : goal.returns-in-Err-clause-any_moment
+returns-in-Err-clause-any_moment g c = λ image s held gives left. c.land_in.ensures.any_moment (image ∷ []) s held gives left
