@@ -9,7 +9,7 @@ returns-in-Ok g c = record {
   left = search rules;
   tried = λ e. refl;
   landed = search rules;
-  moments = c.end.ensures.any_moment;
+  moments = c.end-folder.ensures.any_moment;
   told = inl refl;
 }
 
@@ -21,6 +21,6 @@ returns-in-Err g c =
       left = search rules;
       tried = λ e. refl;
       landed = λ image stands out. absurd (is.out out);
-      moments = c.end.ensures.any_moment;
+      moments = c.end-folder.ensures.any_moment;
       told = is.told;
     }
