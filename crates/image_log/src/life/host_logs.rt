@@ -1,5 +1,6 @@
 //! The folders of a host in which images stand with their logs.
-ghost use Rattle.std.specs.Prelude.{◌≡◌, ◌↔◌, ◌≤◌, ◌<◌, [], IfOk, IsErr, IsTrue, List, OnErr, OnOk, Some, length, string_bytes, true, ℕ};
+ghost use Rattle.std.specs.Prelude.{◌≡◌, ◌≢◌, ◌⊎◌, ◌*◌, ◌↔◌, ◌≤◌, ◌<◌, [], IfOk, IsErr, IsTrue, List, OnErr, OnOk, Some, length, string_bytes, true, ℕ, ⊤};
+ghost use Rattle.image_file.specs.Remains.{IsBroughtWhole, IsEndedBehind, IsPutOver, Remains, unknown};
 ghost use Rattle.image_file.specs.paths.Rights.{Make};
 ghost use Rattle.image_file.specs.paths.Standing.{IsMissing};
 ghost use Rattle.image_log.specs.Blocks.{block_at};
@@ -15,7 +16,7 @@ use image_file::HostFiles;
 use std::io;
 
 /// The calls of a host on a folder in which an image stands with its log. They do what those of `LogFolder`, of `LogFile` and
-/// of `LogReader` do that have their names, and at Ok a name was made, given, taken away or synced by a call at its path.
+/// of `LogReader` do that have their names, by calls at their paths and on their open files.
 pub trait HostLogs: HostFiles {
     ghost use Rattle.image_log.specs.life.HostLogs.{FolderHistories, LogBytes, LogFailures, LogHistories};
 
@@ -29,6 +30,12 @@ pub trait HostLogs: HostFiles {
     ghost log_bytes: { LogBytes Self Self.File };
 
     ghost log_has_failed: { LogFailures Self Self.File };
+
+    // what is known of its open files
+    ghost files: { Remains Self.File } = { unknown };
+
+    // the bytes of one were synced
+    ghost IsSynced: { Self.File → Type 0 } = { λ _. ⊤ };
 
     /// `LogFolder::read_image`.
     fn read_image(folder: &mut ImageFolder<'_, Self>, image: &mut [[u8; 256]]) -> io::Result<()>
@@ -44,12 +51,15 @@ pub trait HostLogs: HostFiles {
         sector: &[u8; 256],
     ) -> io::Result<()>
         requires within { index < 683 }
-        ensures { Acts (folders _ _ _) folder.old folder.new (with_sector index sector.now)
-            (IsImageWritten index sector.now) result };
+        ensures acts { Acts (folders _ _ _) folder.old folder.new (with_sector index sector.now)
+            (IsImageWritten index sector.now) result }
+        // 18/0 may be tagged
+        ensures put { index ≢ 357 → IsPutOver files folder.old.image folder.new.image sector.now (256 * index) result };
 
     /// `LogFolder::sync_image`.
     fn sync_image(folder: &mut ImageFolder<'_, Self>) -> io::Result<()>
-        ensures { Brings (folders _ _ _) folder.old folder.new HasImage result };
+        ensures brings { Brings (folders _ _ _) folder.old folder.new HasImage result }
+        ensures synced { IsBroughtWhole files folder.old.image folder.new.image result };
 
     /// `LogFolder::read_log`.
     fn read_log<'a>(folder: &mut ImageFolder<'a, Self>) -> io::Result<Option<ReadLog<'a, Self>>>
@@ -112,15 +122,18 @@ pub trait HostLogs: HostFiles {
 
     /// `LogFile::write_at`.
     fn write_at(log: &mut SystemLog<'_, Self>, at: usize, bytes: &[u8]) -> io::Result<()>
-        ensures { WritesBytes (logs _ _ _) log.old log.new at bytes.now result };
+        ensures written { WritesBytes (logs _ _ _) log.old log.new at bytes.now result }
+        ensures put { IsPutOver files log.old.file log.new.file bytes.now at result };
 
     /// `LogFile::lengthen`.
     fn lengthen(log: &mut SystemLog<'_, Self>, size: usize) -> io::Result<()>
-        ensures { Lengthens (logs _ _ _) log.old log.new size result };
+        ensures lengthened { Lengthens (logs _ _ _) log.old log.new size result }
+        ensures ended { IsEndedBehind files log.old.file log.new.file size result };
 
     /// `LogFile::sync`.
     fn sync(log: &mut SystemLog<'_, Self>) -> io::Result<()>
-        ensures { SyncsBytes (logs _ _ _) log.old log.new result };
+        ensures synced { SyncsBytes (logs _ _ _) log.old log.new result }
+        ensures brought { OnOk result (IsBroughtWhole files log.old.file log.new.file result ⊎ IsSynced log.new.file) };
 
     /// `LogReader::is_sized`.
     fn is_sized(log: &mut ReadLog<'_, Self>) -> io::Result<bool>

@@ -1,4 +1,5 @@
 //! The folders of a system in which images stand with their logs.
+ghost use Rattle.image_file.specs.Durable.{AllStays};
 ghost use Rattle.image_log.specs.life.Unknown.{unknown_file, unknown_folder};
 ghost use Rattle.std.specs.Prelude.{None, true};
 
@@ -11,7 +12,7 @@ use crate::life::system_log::SystemLog;
 use crate::life::tagged_files::{is_file_tagged, tag_file, untag_file};
 use crate::life::tags::{TAGGED, set_tag};
 use crate::log_reader::LogReader;
-use image_file::{EndedFile, PlainFiles, opened_to_change, private_mode};
+use image_file::{EndedFile, PlainFiles, WritesAt, opened_to_change, private_mode};
 use std::fs::OpenFile;
 use std::io;
 
@@ -19,7 +20,7 @@ use std::io;
 // for its tag as IMAGE.
 impl<R: PlainFiles> HostLogs for R
 where
-    R::File: EndedFile + OpenFile,
+    R::File: EndedFile + WritesAt + OpenFile,
 {
     ghost folders = { λ _ _ _. unknown_folder };
 
@@ -28,6 +29,10 @@ where
     ghost log_bytes = { λ _. None };
 
     ghost log_has_failed = { λ _. true };
+
+    ghost files = { R.File.EndedFile.remains };
+
+    ghost IsSynced = { λ file. AllStays R.File.WritesAt.held R.File.WritesAt.lasting file };
 
     fn read_image(folder: &mut ImageFolder<'_, R>, image: &mut [[u8; 256]]) -> io::Result<()> {
         read_sectors(&mut folder.image, image)
@@ -118,7 +123,7 @@ where
     }
 
     fn lengthen(log: &mut SystemLog<'_, R>, size: usize) -> io::Result<()> {
-        OpenFile::set_len(&log.file, size as u64)
+        log.file.end_at(size as u64)
     }
 
     // its length never changes once it has the name, so then only the bytes are synced
@@ -126,7 +131,7 @@ where
         if !log.named.get() {
             return log.file.sync_whole();
         }
-        log.file.sync_data()?;
+        WritesAt::sync(&mut log.file)?;
         log.see_name()
     }
 

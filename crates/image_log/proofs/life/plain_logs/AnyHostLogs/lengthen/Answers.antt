@@ -2,5 +2,5 @@
 use Rattle.image_log.proofs.lemmas.life.Unknown.{lengthens}
 use Rattle.image_log.proofs.life.plain_logs.AnyHostLogs.lengthen.Goals as goal
 
-pub returns : goal.returns
-returns g c = lengthens _ _ _ _
+pub returns-clause-lengthened : goal.returns-clause-lengthened
+returns-clause-lengthened g c = lengthens _ _ _ _

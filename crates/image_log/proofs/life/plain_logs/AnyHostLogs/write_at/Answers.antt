@@ -2,5 +2,5 @@
 use Rattle.image_log.proofs.lemmas.life.Unknown.{writes}
 use Rattle.image_log.proofs.life.plain_logs.AnyHostLogs.write_at.Goals as goal
 
-pub returns : goal.returns
-returns g c = writes _ _ _ _ _
+pub returns-clause-written : goal.returns-clause-written
+returns-clause-written g c = writes _ _ _ _ _
