@@ -10,8 +10,8 @@ day begins on a fresh disk. After each kill
 - the disk holds the day up to some line, no less than was printed: `show` prints the same of it as of a disk on which these
   lines were played without a kill;
 - each till repeats its last request, and has the answer that `dry` gives, and `show` stays.
-Then the size of files is limited, so that a write fails in the middle of a day: the program says so (`MEDIA`, then `DEVICE` and
-status 3), and the disk holds up the same way. It prints how much was tried. The status is 1 at the first difference."""
+Then the size of files is limited. Where the image is longer, the day isn't begun (`FILE` and status 3), and the image stays. It prints
+how much was tried. The status is 1 at the first difference."""
 
 import random
 import resource
@@ -23,8 +23,6 @@ import time
 from pathlib import Path
 
 from days import TILLS, day
-
-MEDIA_END = ",MEDIA"
 
 
 class Trial:
@@ -131,18 +129,18 @@ class Trial:
             done = self.held(done + len(printed))
 
     def one_limit(self):
-        """A day on a file that may not be written past some size."""
+        """A day under a limit of the size of files."""
         self.begin()
-        limit = 256 * self.draw.randint(1, 683)
+        limit = self.draw.choice((256 * self.draw.randint(1, 682), 174848))
+        before = self.image.read_bytes()
         status, out, err = self.run("play", self.image, self.script(self.lines), limit=limit)
-        media = status == 3
-        if media:
-            self.want(err == "DEVICE", f"status 3 and {err}")
+        if limit < len(before):
             self.limits += 1
-            if out:
-                self.want(out.pop().endswith(MEDIA_END), "DEVICE and no MEDIA before it")
-        self.want(status == 0 or media, f"status {status} under a limit of {limit}")
-        self.want(out == self.replies[: len(out)], "replies are others than those of dry")
+            self.want((status, out, err) == (3, [], "FILE"), f"status {status} and {err} under a limit of {limit}")
+            self.want(self.image.read_bytes() == before, f"another image under a limit of {limit}")
+        else:
+            self.want(status == 0, f"status {status} under a limit of {limit}")
+            self.want(out == self.replies, "replies are others than those of dry")
         self.held(len(out))
 
 
@@ -159,7 +157,7 @@ def main():
         print(f"{trial.kills} kills, {trial.recoveries} recoveries killed, {trial.repeats} repeats: no difference")
         for _ in range(max(kills // 10, 1)):
             trial.one_limit()
-        print(f"{max(kills // 10, 1)} days under a limit of the file's size, in {trial.limits} of which a write failed: no difference")
+        print(f"{max(kills // 10, 1)} days under a limit of the file's size, in {trial.limits} of which the image is longer: no difference")
 
 
 main()
