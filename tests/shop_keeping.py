@@ -56,6 +56,10 @@ class Bridge:
         self.process.stdout.close()
 
 
+# where the tag stands in an image whose log has the rest: the end of 18/0
+TAG = 256 * 357 + 248
+
+
 def day(program, image, kept, rule, first, count):
     """So many requests of two tills, answered as the rule has them."""
     bridge = Bridge(program, image, kept)
@@ -156,7 +160,7 @@ def with_log(program, image, kept, rule, words):
     check(held.ask("3,3,R,3,1") == rule.reply("3,3,R,3,1"), "till 3 isn't answered")
     held.kill()
     own, log = image.read_bytes(), log_of(image).read_bytes()
-    check(own == before, "serve writes the image itself")
+    check(own == before[:TAG] + b"LOG AWAY" + before[TAG + 8 :], "serve writes more of the image itself than its tag")
     shows(program, image, rule)
     tool("restore.py", *words)
     check(not log_of(image).exists(), "a log of the old image stays")
