@@ -42,7 +42,7 @@ IsExtractTold contents None lack old new end =
 
 -- a folder wasn't made, for this reason
 abbrev pub IsUnmade : CommandFault → Type 0
-IsUnmade fault = (fault ≡ faults.File) ⊎ (fault ≡ faults.PathExists)
+IsUnmade fault = (fault ≡ faults.File) ⊎ ((fault ≡ faults.PathExists) ⊎ (fault ≡ faults.NoMemory))
 
 -- The chosen files of the image were gathered, or not all for a fault. If they were, the folder was made with them (`Made`), whatever
 -- is reported of them: what is seen of files that lack something. Or it couldn't be made, and nothing was printed. Or there was

@@ -75,8 +75,8 @@ fn tell_extracted<W: Write>(
     run_end(print_extracted(lack, out))
 }
 
-/// Makes a folder with the files that were gathered; none if they weren't all. `Exists` if something stands in its place, and
-/// `File` if it can't be made otherwise.
+/// Makes a folder with the files that were gathered; none if they weren't all. `Exists` if something stands in its place,
+/// `NoMemory`, and `File` if it can't be made otherwise.
 fn make_gathered<P: FolderPlace>(
     ended: &Result<Option<Fault>, CommandFault>,
     gathered: &GatheredFiles,
@@ -90,8 +90,11 @@ fn make_gathered<P: FolderPlace>(
     }
     match place.make(gathered.files()) {
         Ok(()) => Ok(()),
-        Err(error) if error.kind() == ErrorKind::AlreadyExists => Err(CommandFault::PathExists),
-        Err(_) => Err(CommandFault::File),
+        Err(error) => Err(match error.kind() {
+            ErrorKind::AlreadyExists => CommandFault::PathExists,
+            ErrorKind::OutOfMemory => CommandFault::NoMemory,
+            _ => CommandFault::File,
+        }),
     }
 }
 
