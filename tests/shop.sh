@@ -6,7 +6,7 @@
 # scripts. Then one browser used as people use it, then four while page, browser, broker, bridge and `serve` are killed and
 # the net is cut. With 0 requests it ends before that. It wants to be root, for network namespaces, and Debian's packages
 # nodejs, chromium, chromium-driver, python3-selenium, mosquitto, python3-paho-mqtt, python3-pika, python3-prometheus-client,
-# python3-sdnotify, openssl, iproute2, esbuild, node-mqtt, node-buffer, node-process, node-url, node-readable-stream, qrencode,
+# python3-sdnotify, python3-pil, openssl, iproute2, esbuild, node-mqtt, node-buffer, node-process, node-url, node-readable-stream, qrencode,
 # zbar-tools, curl and libnss3-tools, and installs nothing. tests/quick_start.sh goes through the quick start. The status is 1
 # at the first difference.
 set -eu
