@@ -215,6 +215,8 @@ def unfit(shop):
     shop.left(78, "an image that is no shop")
     moved.rename(image)
     older(shop, Path("/var/lib/backup.d64"))
+    # an image whose log isn't landed may not be moved alone
+    subprocess.run(["/usr/bin/ledger", "serve", image], stdin=subprocess.DEVNULL, check=True)
     for path, what in [(image, "its image"), (kept, "its lines")]:
         path.rename(moved)
         fill(path, moved)
