@@ -1,4 +1,5 @@
 //! Doing a job: its files are opened and read, and what is printed goes to an output.
+ghost use Rattle.image_log.specs.life.HostLogs.{asked_logs, untagged_folders};
 ghost use Rattle.ledger_jobs.specs.JobRuns.{IsJobOver};
 ghost use Rattle.ledger_jobs.specs.Jobs.{IsFit};
 ghost use Rattle.ledger_jobs.specs.JobRights.{MayDo};
@@ -39,7 +40,7 @@ where
     W: Write,
     requires rights { MayDo R.rights rt.now job.now }
     requires fit { IsFit job.now }
-    ensures { IsJobOver R.HostFiles F.Read F.Seek F.WritesAt.own R.logs R.folders R.rights R.stands R.traces
+    ensures { IsJobOver R.HostFiles F.Read F.Seek F.WritesAt.own (asked_logs R.logs) (untagged_folders R.folders) R.rights R.stands R.traces
         F.EndedFile.remains R.changed R.replaced R.given W.contents rt.now job.now out.old out.new result }
 {
     match *job {

@@ -31,8 +31,8 @@ use Rattle.shop_jobs.specs.Replies.{IsShopOf}
 -- a folder of this host was opened: it is that of the image at a path, whose file was opened there
 abbrev pub IsFolderAt : {H F : Type 0} {g : HostGhosts H F} {r : ReadGhosts F} {s : SeekGhosts F} → Rights H → Traces H F → H
     → (path : List ℕ) → ImageFolder H F g r s → Type 0
-IsFolderAt rights traces host path d = (d.rt.now ≡ host) × (rights.leads host path (string_bytes d.names.now.image) ≡ true)
-    × traces.opened host Write path d.image
+IsFolderAt rights traces host path d = (d.at.rt.now ≡ host)
+    × (rights.leads host path (string_bytes d.at.names.now.image) ≡ true) × traces.opened host Write path d.at.image
 
 module _ {F D : Type 0} {G : Ghosts F} (h : FolderHistory D) where
   -- A log was begun in such a folder. If it is known that the folder gave an image, it gave this one, for which the log stands,

@@ -13,6 +13,7 @@ ghost use Rattle.shop_jobs.specs.ShopRuns.{IsPlayedOverLog};
 ghost use Rattle.shop_jobs.specs.LandedRuns.{HasLanded, IsDoneAndLanded};
 ghost use Rattle.shop_jobs.specs.LoggedPlays.{IsLoggedPlay};
 ghost use Rattle.opened_files.specs.Losses.{IsEndOfRun};
+ghost use Rattle.image_log.specs.life.HostLogs.{asked_logs, untagged_folders};
 ghost use Rattle.image_log.specs.life.LiveLogs.{of_live};
 ghost use Rattle.line_server.specs.logged.Serves.{shop_behind};
 ghost use Rattle.line_text.specs.scripts.Lines.{first_reset, lines};
@@ -133,7 +134,7 @@ where
     ensures lines { AreReplyLines W.contents out.old out.new }
     ensures done { OnOk result (AreAnswered W.contents (IsShopAt R.stands rt.now path.now) (lines script.now)
         out.old out.new) }
-    ensures kept { IsServiceKept R.HostFiles F.Read F.Seek R.logs R.folders R.stands R.rights R.traces W.contents
+    ensures kept { IsServiceKept R.HostFiles F.Read F.Seek (asked_logs R.logs) (untagged_folders R.folders) R.stands R.rights R.traces W.contents
         (Some (crlf_text (lines script.now))) rt.now path.now out.old out.new result }
 {
     let alloc = rt.alloc();
@@ -163,7 +164,7 @@ where
     requires image { MayChangeImage R.rights rt.now path.now }
     requires script { MayReadText R.rights rt.now script.now }
     ensures told { IsPlayedOverLog R.rights R.stands W.contents rt.now path.now script.now out.old out.new result }
-    ensures kept { IsPlayKept R.HostFiles F.Read F.Seek R.logs R.folders R.stands R.rights R.traces W.contents rt.now
+    ensures kept { IsPlayKept R.HostFiles F.Read F.Seek (asked_logs R.logs) (untagged_folders R.folders) R.stands R.rights R.traces W.contents rt.now
         path.now script.now out.old out.new result }
 {
     let image = opened_alone(rt, path)?;

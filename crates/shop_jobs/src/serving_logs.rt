@@ -16,6 +16,7 @@ ghost use Rattle.opened_files.specs.HostFiles.{OfWritten};
 ghost use Rattle.shop_jobs.specs.LoggedRuns.{IsLoggedRun, IsUnlogged};
 ghost use Rattle.opened_files.specs.Losses.{IsEndOfRun, IsGuarded};
 ghost use Rattle.shop_jobs.specs.WatchedFiles.{while_there};
+ghost use Rattle.image_log.specs.life.HostLogs.{asked_logs, untagged_folders};
 ghost use Rattle.image_log.specs.life.LiveLogs.{of_live};
 ghost use Rattle.image_log.specs.life.Tags.{SaysLogAway};
 ghost use Rattle.line_server.specs.logged.Reporting.{of_output};
@@ -229,7 +230,7 @@ where
     requires image { MayWrite R.rights rt.now path.now }
     requires log { MayKeepLogOf R.rights rt.now (string_bytes names.now.image) }
     requires leads { R.rights.leads rt.now path.now (string_bytes names.now.image) ≡ true }
-    ensures begun { IfOk result (λ begun. IsBegunIn (R.folders _ _ _) (IsFolderAt R.rights R.traces rt.now path.now)
+    ensures begun { IfOk result (λ begun. IsBegunIn (untagged_folders R.folders _ _ _) (IsFolderAt R.rights R.traces rt.now path.now)
         (vec_items begun.0) begun.1) }
     ensures read { IfOk result (λ begun. OfWritten R.stands rt.now path.now (λ all. vec_items begun.0 ≡ take 174849 all)) }
 {
@@ -270,7 +271,7 @@ where
     W: Write,
     requires { MayChangeImage R.rights rt.now path.now }
     ensures told { IsLoggedService W.contents (IsShopAt R.stands rt.now path.now) out.old out.new result }
-    ensures kept { IsServiceKept R.HostFiles F.Read F.Seek R.logs R.folders R.stands R.rights R.traces W.contents
+    ensures kept { IsServiceKept R.HostFiles F.Read F.Seek (asked_logs R.logs) (untagged_folders R.folders) R.stands R.rights R.traces W.contents
         (R.given rt.now) rt.now path.now out.old out.new result }
 {
     let alloc = rt.alloc();

@@ -1,14 +1,16 @@
 -- What a folder in memory does, what has it does.
-use Rattle.std.proofs.Common.{◌≡◌, subst, sym}
+use Rattle.std.proofs.Common.{◌≡◌, ◌∙◌, ap, subst, sym}
 use Rattle.std.proofs.lemmas.Bool.{false≢true}
 use Rattle.std.proofs.lemmas.Option.{none-some}
-use Rattle.std.specs.Prelude.{IfSome, IsSome, None, Option, Result, Some}
+use Rattle.std.specs.Prelude.{IfSome, IsSome, None, Option, Result, Some, option_map}
 use Rattle.d64_image.specs.Images.{Image}
 use Rattle.image_log.specs.declared.life.mem_folder.MemFolder.{MemFolder}
 use Rattle.image_log.specs.life.Bringing.{RestsAlone}
 use Rattle.image_log.specs.life.Folders.{Acts, Brings, Folder, FolderHistory, LeavesFolders}
 use Rattle.image_log.specs.life.MemFolders.{folder_in_memory}
 use Rattle.image_log.specs.life.Replacing.{KeepsOrGives}
+use Rattle.image_log.specs.life.Tags.{untagged_image}
+use Rattle.image_log.specs.life.Untagged.{untagged_folder, untagged_in}
 use Rattle.test_files.specs.KnownFolders.{HasTurned, folder_in, held_in}
 
 -- what such a folder holds, if it is that one
@@ -71,15 +73,35 @@ rests-in : (o : Option MemFolder) (image : Image) → IsSome o → IfSome o (λ 
 rests-in None image some rests = absurd (false≢true some)
 rests-in (Some m) image some rests = record { some = rests.some; held = rests.held; is = rests.is; left = rests.left }
 
-pub rests : {E : Type 0} (of : E → Option MemFolder) (d : E) (found : Option MemFolder) (image : Image) → of d ≡ found
-    → IsSome found → IfSome found (λ m. RestsAlone folder_in_memory m image) → RestsAlone (folder_in of) d image
-rests of d found image is some there =
-    let r : RestsAlone maybe (of d) image = subst (λ (o : Option MemFolder). RestsAlone maybe o image) (sym is)
-    (rests-in found image some there) in
-    record { some = r.some; held = r.held; is = r.is; left = r.left }
+-- without the tag, where the image has none
+untagged : {E D : Type 0} (inner : E → D) (h : FolderHistory D) (e : E) (image : Image) → untagged_image image ≡ image
+    → RestsAlone h (inner e) image → RestsAlone (untagged_in inner h) e image
+untagged inner h e image none rests = record {
+  some = untagged_folder rests.some;
+  held = ap (option_map untagged_folder) rests.held;
+  is = (ap untagged_image rests.is.0 ∙ none, rests.is.1);
+  left = λ s may.
+      let is = rests.left may.0 may.1 in
+      (
+        ap (λ (t : Folder). t.image) may.2 ∙ ap untagged_image is.0 ∙ none,
+        ap (λ (t : Folder). t.log) may.2 ∙ is.1,
+      );
+}
 
-turned-in : (o p : Option MemFolder) (before after : Image) → RestsAlone maybe o before → RestsAlone maybe p after
-    → LeavesFolders maybe o p (KeepsOrGives None before after) → HasTurned before after
+pub rests : {E D : Type 0} (inner : E → D) (of : D → Option MemFolder) (e : E) (found : Option MemFolder) (image : Image)
+    → untagged_image image ≡ image → of (inner e) ≡ found → IsSome found
+    → IfSome found (λ m. RestsAlone folder_in_memory m image) → RestsAlone (untagged_in inner (folder_in of)) e image
+rests inner of e found image none is some there =
+    let r : RestsAlone maybe (of (inner e)) image = subst (λ (o : Option MemFolder). RestsAlone maybe o image) (sym is)
+    (rests-in found image some there) in
+    untagged inner (folder_in of) e image none (record { some = r.some; held = r.held; is = r.is; left = r.left })
+
+-- the same of one that may be there
+abbrev told : FolderHistory (Option MemFolder)
+told = untagged_in (λ o. o) maybe
+
+turned-in : (o p : Option MemFolder) (before after : Image) → RestsAlone told o before → RestsAlone told p after
+    → LeavesFolders told o p (KeepsOrGives None before after) → HasTurned before after
 turned-in None p before after was is moments = absurd (none-some was.some was.held)
 turned-in (Some m) None before after was is moments = absurd (none-some is.some is.held)
 turned-in (Some m) (Some n) before after was is moments = (
@@ -91,10 +113,10 @@ turned-in (Some m) (Some n) before after was is moments = (
 )
 
 -- and so one went there that is found to have gone
-pub turned : {E : Type 0} (of : E → Option MemFolder) (old new : E) (before after : Image) → RestsAlone (folder_in of) old before
-    → RestsAlone (folder_in of) new after → LeavesFolders (folder_in of) old new (KeepsOrGives None before after)
-    → HasTurned before after
-turned of old new before after was is moments = turned-in (of old) (of new) before after
+pub turned : {E D : Type 0} (inner : E → D) (of : D → Option MemFolder) (old new : E) (before after : Image)
+    → RestsAlone (untagged_in inner (folder_in of)) old before → RestsAlone (untagged_in inner (folder_in of)) new after
+    → LeavesFolders (untagged_in inner (folder_in of)) old new (KeepsOrGives None before after) → HasTurned before after
+turned inner of old new before after was is moments = turned-in (of (inner old)) (of (inner new)) before after
     (record { some = was.some; held = was.held; is = was.is; left = was.left })
     (record { some = is.some; held = is.held; is = is.is; left = is.left })
     (record { later = moments.later; each = moments.each; before = moments.before })

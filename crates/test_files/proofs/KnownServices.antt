@@ -2,7 +2,7 @@
 use Rattle.std.proofs.Common.{◌≡◌, ◌∙◌, [], ◌∷◌, ℕ, List, ap, arith, inl, inr, refl, subst, sym}
 use Rattle.std.proofs.lemmas.Bool.{false≢true}
 use Rattle.std.proofs.lemmas.List.{take_all}
-use Rattle.std.specs.Prelude.{◌⊎◌, Err, IfSome, None, Ok, Option, Some, length, take}
+use Rattle.std.specs.Prelude.{◌⊎◌, Err, IfSome, None, Ok, Option, Some, length, option_map, take}
 use Rattle.std.specs.declared.io.traits.Read.{Ghosts as ReadGhosts}
 use Rattle.std.specs.declared.io.traits.Seek.{Ghosts as SeekGhosts}
 use Rattle.command_faults.specs.declared.faults.CommandFault.TheVariants as faults
@@ -18,6 +18,8 @@ use Rattle.image_log.specs.life.FolderCalls.{began}
 use Rattle.image_log.specs.life.Folders.{Folder}
 use Rattle.image_log.specs.life.LiveLogs.{IsBeginning, IsEnding, of_live}
 use Rattle.image_log.specs.life.Shops.{Gives, GivesOneOf}
+use Rattle.image_log.specs.life.Tags.{untagged_image}
+use Rattle.image_log.specs.life.Untagged.{untagged_folder}
 use Rattle.line_server.specs.Scripts.{crlf_text}
 use Rattle.line_server.specs.logged.Serves.{HoldsFirst, IsSafe, shop_behind}
 use Rattle.line_text.specs.scripts.Lines.{lines}
@@ -51,18 +53,23 @@ module _ {W : Type 0} (g : HostGhosts Snapshot SnapshotFile) (r : ReadGhosts Sna
   abbrev Live : Type 0
   Live = LiveLog (SystemLog Snapshot SnapshotFile g r s) Folders (record { history = snapshot_logs g r s })
 
+  -- what it gives, without the tag
+  abbrev first : Image
+  first = untagged_image (sectors_in host.image.now)
+
   fresh-gives : (found : Option MemFolder) → IsFresh host found
-      → (held_in found ≡ Some (began (sectors_in host.image.now) None))
-      × ((t : Folder) → left_in found t → GivesOneOf (sectors_in host.image.now ∷ []) t)
+      → (option_map untagged_folder (held_in found) ≡ Some (began first None))
+      × ((t : Folder) → (raw : Folder) × left_in found raw × (t ≡ untagged_folder raw) → GivesOneOf (first ∷ []) t)
   fresh-gives found fresh = (
-    ap held_in fresh.1 ∙ fresh.2,
-    λ t may. subst (GivesOneOf (sectors_in host.image.now ∷ []))
-        (sym (fresh.3 t (subst (λ (o : Option MemFolder). left_in o t) fresh.1 may))) (one-of (sectors_in host.image.now)),
+    ap (λ o. option_map untagged_folder (held_in o)) fresh.1 ∙ ap (option_map untagged_folder) fresh.2,
+    λ t may. subst (GivesOneOf (first ∷ []))
+        (sym (may.2 ∙ ap untagged_folder (fresh.3 may.0 (subst (λ (o : Option MemFolder). left_in o may.0) fresh.1 may.1))))
+        (one-of first),
   )
 
   -- the folder that was landed
   of-folder : (image : List ℕ) → image ≡ host.image.now → (left : Live) (ls : List (List ℕ)) (opened : Folders)
-      → IsFresh host opened.image.folder → (begun : Live)
+      → IsFresh host opened.at.image.folder → (begun : Live)
       → IsBeginning (snapshot_folders g r s) opened begun (λ t. Gives t (sectors_in image)) → (turns : List (Reply × Live))
       → IsSafe (of_live (snapshot_folders g r s)) shop (sectors_in image) ls turns begun left → (folder : Option Folders)
       → HasLanded (snapshot_folders g r s) (shop_behind shop ls) folder
@@ -90,9 +97,8 @@ module _ {W : Type 0} (g : HostGhosts Snapshot SnapshotFile) (r : ReadGhosts Sna
   leaves given Told end out image read begun (folder, at, known) x =
       let image-is = whole host image is.0 read in
       let fresh = at.2 refl is.0 in
-      let gives = fresh-gives folder.image.folder fresh in
-      let stood = known (sectors_in host.image.now) (began (sectors_in host.image.now) None) gives.0
-      (one-of (sectors_in host.image.now)) gives.1 in
+      let gives = fresh-gives folder.at.image.folder fresh in
+      let stood = known first (began first None) gives.0 (one-of first) gives.1 in
       let is-shop : IsShopOf image shop = subst (λ (bytes : List ℕ). IsShopOf bytes shop) (sym image-is) is in
       let landed = x.done out shop is-shop stood.0 in
       of-folder image image-is x.left (lines x.handled) folder fresh begun stood.2 x.turns (x.safe shop is-shop stood.0)

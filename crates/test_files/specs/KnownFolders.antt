@@ -1,5 +1,5 @@
 -- What a snapshot says of the folder of its image, and of the log in it. Our own.
-use Rattle.std.specs.Prelude.{◌≡◌, ⊤, ℕ, Bool, List, None, OnOk, Option, Result, Some, length, true}
+use Rattle.std.specs.Prelude.{◌≡◌, ◌≤◌, ⊤, ℕ, Bool, List, None, OnOk, Option, Result, Some, length, true}
 use Rattle.d64_image.specs.Images.{Image}
 use Rattle.d64_image.specs.Memory.{disk_image, sectors_in}
 use Rattle.command_faults.specs.declared.faults.CommandFault.{CommandFault}
@@ -15,9 +15,10 @@ use Rattle.image_log.specs.declared.mem_log.MemLog.{MemLog}
 use Rattle.image_log.specs.life.Bringing.{RestsAlone, RestsWith}
 use Rattle.image_log.specs.life.FolderCalls.{began}
 use Rattle.image_log.specs.life.Folders.{AllLeft, Folder, FolderHistory, LeavesFolders}
-use Rattle.image_log.specs.life.HostLogs.{FolderHistories, LogBytes, LogHistories}
+use Rattle.image_log.specs.life.HostLogs.{FolderHistories, HostFolders, LogBytes, LogHistories, asked_logs, untagged_folders}
 use Rattle.image_log.specs.life.MemFolders.{folder_in_memory}
 use Rattle.image_log.specs.life.Replacing.{KeepsOrGives}
+use Rattle.image_log.specs.life.Untagged.{untagged_in}
 use Rattle.test_files.specs.Snapshots.{image_path}
 use Rattle.test_files.specs.declared.snapshots.host.Snapshot.{Snapshot}
 use Rattle.test_files.specs.declared.snapshots.open_file.SnapshotFile.{SnapshotFile}
@@ -57,6 +58,10 @@ pub only_in : (folder : Option MemFolder) (s : Folder) → since_in folder (mome
 only_in None s left = left
 only_in (Some folder) s left = folder_in_memory.only_now folder s left
 
+pub now_in : (folder : Option MemFolder) (t : ℕ) (s : Folder) → t ≤ moment_in folder → left_in folder s → since_in folder t s
+now_in None t s le left = left
+now_in (Some folder) t s le left = folder_in_memory.now folder t s le left
+
 -- the history of what has such a folder
 abbrev pub folder_in : {E : Type 0} → (E → Option MemFolder) → FolderHistory E
 folder_in of = record {
@@ -67,6 +72,7 @@ folder_in of = record {
   lent = λ e. lent_in (of e);
   has_failed = λ e. failed_in (of e);
   only_now = λ e s left. only_in (of e) s left;
+  now = λ e t s le left. now_in (of e) t s le left;
 }
 
 -- the history of what has a file in memory
@@ -80,13 +86,19 @@ log_in of = record {
   only_now = λ e c left. memory.only_now (of e) c left;
 }
 
--- the folders of a snapshot's images
-abbrev pub snapshot_folders : FolderHistories Snapshot SnapshotFile
-snapshot_folders g r s = folder_in (λ d. d.image.folder)
+-- the folders of a snapshot's images, and without the tag
+abbrev pub tagged_folders : HostFolders Snapshot SnapshotFile
+tagged_folders g r s = folder_in (λ d. d.image.folder)
 
--- the logs in them
+abbrev pub snapshot_folders : FolderHistories Snapshot SnapshotFile
+snapshot_folders = untagged_folders tagged_folders
+
+-- the files of the logs in them, and the logs
+abbrev pub log_files : FileHistory SnapshotFile
+log_files = log_in (λ file. file.log)
+
 abbrev pub snapshot_logs : LogHistories Snapshot SnapshotFile
-snapshot_logs g r s = log_in (λ l. l.file.log)
+snapshot_logs = asked_logs log_files
 
 -- what reads of such a log give
 abbrev pub snapshot_log_bytes : LogBytes Snapshot SnapshotFile
@@ -118,10 +130,14 @@ snapshot_traces = record {
   synced = λ _ _. ⊤;
 }
 
--- a folder in memory went from one image at rest, with no log, to another: a power loss on the way left one of them
+-- a folder in memory, of which the tag of IMAGE isn't told
+abbrev pub untagged_memory : FolderHistory MemFolder
+untagged_memory = untagged_in (λ folder. folder) folder_in_memory
+
+-- such a folder went from one image at rest, with no log, to another: a power loss on the way left one of them
 abbrev pub HasTurned : (before after : Image) → Type 0
-HasTurned before after = (old : MemFolder) × (new : MemFolder) × RestsAlone folder_in_memory old before
-    × RestsAlone folder_in_memory new after × LeavesFolders folder_in_memory old new (KeepsOrGives None before after)
+HasTurned before after = (old : MemFolder) × (new : MemFolder) × RestsAlone untagged_memory old before
+    × RestsAlone untagged_memory new after × LeavesFolders untagged_memory old new (KeepsOrGives None before after)
 
 -- a change was made of the image in such a folder, or not
 abbrev pub IsChangedIn : {D W : Type 0} → FolderHistory D → (IsAt : D → Type 0) → Change → (image : List ℕ)

@@ -21,7 +21,7 @@ module _ (g : HostGhosts Snapshot SnapshotFile) (r : ReadGhosts SnapshotFile) (s
   -- The folder of the host's image was opened, and left with the shop after these lines.
   pub record LeavesShop : Type 0 where
     pub opened : ImageFolder Snapshot SnapshotFile g r s
-    pub fresh : IsFresh host opened.image.folder
+    pub fresh : IsFresh host opened.at.image.folder
     pub folder : ImageFolder Snapshot SnapshotFile g r s
     -- a power loss at any moment on the way left the image as it was, or the shop of some first lines, at rest
     pub moments : LeavesShops (snapshot_folders g r s) opened folder

@@ -81,6 +81,11 @@ left_last first (call ∷ earlier) t s late (inl before) =
 left_last first (call ∷ earlier) t s late (inr (inl lent)) = absurd (omega (arith, late, lent.0))
 left_last first (call ∷ earlier) t s late (inr (inr now)) = now.1
 
+pub left_now : (first : Folder) (calls : List FolderCall) (t : ℕ) (s : Folder) → t ≤ moments calls → leaves first calls s
+    → left_by first calls t s
+left_now first [] t s le left = (le, left)
+left_now first (call ∷ earlier) t s le left = inr (inr (le, left))
+
 -- no file failed that was closed
 abbrev pub none_failed : List FolderCall → Bool
 none_failed [] = true

@@ -1,8 +1,8 @@
 -- The folder in which an image stands, with its log beside it: what it holds, and what a power loss may leave. Our own.
-use Rattle.std.specs.Prelude.{ℕ, ◌+◌, ◌-◌, ◌≡◌, ◌≤◌, ◌<◌, ◌⊎◌, Bool, IsSome, List, None, OnErr, OnOk, Option, Result, Some, false, slice_index, slice_set, true}
+use Rattle.std.specs.Prelude.{ℕ, ◌+◌, ◌-◌, ◌≡◌, ◌≤◌, ◌⊎◌, Bool, IsSome, List, None, OnErr, OnOk, Option, Result, Some, [], false, slice_index_or, slice_set, true}
 use Rattle.d64_image.specs.Images.{Image}
 use Rattle.image_log.specs.Files.{FileHistory}
-use Rattle.image_log.specs.life.Mixes.{byte_of}
+use Rattle.image_log.specs.life.Mixes.{IsTorn}
 
 -- To which file the name of a log in the making leads.
 pub data Making : Type 0 where
@@ -37,11 +37,17 @@ pub record FolderHistory (D : Type 0) : Type 1 where
   pub has_failed : D → Bool
   -- since now there is no other moment
   pub only_now : (d : D) (s : Folder) → left_since d (moment d) s → may_leave d s
+  -- this moment is one of those since an earlier one
+  pub now : (d : D) (t : ℕ) (s : Folder) → t ≤ moment d → may_leave d s → left_since d t s
 
 module _ {D : Type 0} (h : FolderHistory D) where
   -- whatever a power loss may leave now has P
   abbrev pub AllLeft : D → (Folder → Type 0) → Type 0
   AllLeft d P = (s : Folder) → h.may_leave d s → P s
+
+  -- Whatever a power loss leaves now has this sector, unless it may leave anything.
+  abbrev pub LeavesSector : D → ℕ → List ℕ → Type 0
+  LeavesSector d index bytes = AllLeft d (λ s. slice_index_or s.image index [] ≡ bytes) ⊎ ((s : Folder) → h.may_leave d s)
 
   -- Time goes on: a power loss since t might have left what it might have left before, or what it may leave now.
   pub record Passes (old new : D) : Type 0 where
@@ -92,12 +98,13 @@ module _ {D : Type 0} (h : FolderHistory D) where
 abbrev pub Same : Folder → Folder → Type 0
 Same from s = s ≡ from
 
--- This sector of IMAGE may be torn: each byte of it is as it was, or as it is written. The rest is as it was.
+-- This sector of IMAGE may be torn. The rest is as it was.
 pub record IsImageWritten (index : ℕ) (bytes : List ℕ) (from s : Folder) : Type 0 where
   pub log : s.log ≡ from.log
   pub making : s.making ≡ from.making
-  pub each : (i j : ℕ) → i < 683 → j < 256 → (byte_of s.image i j ≡ byte_of from.image i j)
-      ⊎ ((i ≡ index) × (byte_of s.image i j ≡ slice_index bytes j))
+  pub sector : List ℕ
+  pub torn : IsTorn (slice_index_or from.image index []) bytes sector
+  pub image : s.image ≡ slice_set from.image index sector
 
 -- A log is being made: its name leads to it, or to what it led to before, or to nothing.
 pub record IsMaking (from s : Folder) : Type 0 where

@@ -1,9 +1,10 @@
 -- A folder in memory. Our own.
 use Rattle.std.specs.Prelude.{ℕ, ◌+◌, ◌-◌, ◌≡◌, ◌≤◌, Bool, List, None, Option, Some, false, if◌then◌else◌, option_map, true}
-use Rattle.std.proofs.Common.{arith, refl}
+use Rattle.std.proofs.Common.{arith, refl, sym}
+use Rattle.std.proofs.lemmas.Bool.{false≢true}
 use Rattle.image_log.specs.Memory.{memory}
 use Rattle.image_log.specs.declared.mem_log.MemLog.{MemLog}
-use Rattle.image_log.specs.life.FolderCalls.{began, leaves, left_by, left_last, left_le, moments, seen_after}
+use Rattle.image_log.specs.life.FolderCalls.{began, leaves, left_by, left_last, left_le, left_now, moments, seen_after}
 use Rattle.image_log.specs.life.Folders.{Folder, FolderHistory}
 use Rattle.image_log.specs.declared.life.mem_folder.FolderCall.{FolderCall}
 use Rattle.image_log.specs.declared.life.mem_folder.MemFolder.{MemFolder}
@@ -33,6 +34,11 @@ only_last first calls true more s left =
     absurd (omega (arith, le))
 only_last first calls false more s left = (refl, left_last first calls (moments calls + 0) s (omega arith) left)
 
+pub now_left : (first : Folder) (calls : List FolderCall) (failed : Bool) (more t : ℕ) (s : Folder)
+    → t ≤ moment_of calls failed more → failed ≡ false → leaves first calls s → left_by first calls t s
+now_left first calls true more t s le not left = absurd (false≢true (sym not))
+now_left first calls false more t s le not left = left_now first calls t s (omega (arith, le)) left
+
 -- It knows all that a power loss may leave, at each moment. Once memory was refused time stops: no power loss comes, and
 -- of what it holds nothing is known if that was while a file was closed.
 abbrev pub folder_in_memory : FolderHistory MemFolder
@@ -44,4 +50,5 @@ folder_in_memory = record {
   lent = λ d. d.lent;
   has_failed = λ d. d.failed;
   only_now = λ d s left. only_last (first_of d) d.calls.items d.failed (lost_moments d.lost d.lent) s left;
+  now = λ d t s le may. now_left (first_of d) d.calls.items d.failed (lost_moments d.lost d.lent) t s le may.0 may.1;
 }

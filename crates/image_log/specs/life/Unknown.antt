@@ -25,6 +25,7 @@ unknown_folder = record {
   lent = λ _. 0;
   has_failed = λ _. true;
   only_now = λ d s left. tt;
+  now = λ d t s le may. tt;
 }
 
 -- a log of which nothing is known

@@ -1,30 +1,29 @@
-//! The folders of a host in which images stand with their logs.
-ghost use Rattle.std.specs.Prelude.{◌≡◌, ◌≢◌, ◌⊎◌, ◌*◌, ◌↔◌, ◌≤◌, ◌<◌, [], IfOk, IsErr, IsTrue, List, OnErr, OnOk, Some, length, string_bytes, true, ℕ, ⊤};
+//! The calls of a host on the folders in which images stand with their logs.
+ghost use Rattle.std.specs.Prelude.{◌≡◌, ◌*◌, ◌↔◌, ◌≤◌, ◌<◌, [], IfOk, IsTrue, List, OnOk, Some, length, slice_index_or, string_bytes, ℕ, ⊤};
 ghost use Rattle.image_file.specs.Remains.{IsBroughtWhole, IsEndedBehind, IsPutOver, Remains, unknown};
 ghost use Rattle.image_file.specs.paths.Rights.{Make};
-ghost use Rattle.image_file.specs.paths.Standing.{IsMissing};
 ghost use Rattle.image_log.specs.Blocks.{block_at};
-ghost use Rattle.image_log.specs.Files.{Lengthens, Only, SyncsBytes, WritesBytes};
+ghost use Rattle.image_log.specs.Files.{FileHistory, Lengthens, Only, SyncsBytes, WritesBytes};
 ghost use Rattle.image_log.specs.Readers.{IsOpened, Reads};
 ghost use Rattle.image_log.specs.Recovered.{is_marked as marked};
-ghost use Rattle.image_log.specs.life.Folders.{Acts, Brings, Folder, HasImage, HasNames, IsGivenUp, IsImageWritten, IsMaking, IsNaming, IsRemoving, IsReturned, LogOf, Same, being_made, named, unlogged, with_sector};
+ghost use Rattle.image_log.specs.life.Folders.{Acts, Brings, Folder, HasImage, HasNames, IsImageWritten, IsMaking, IsNaming, IsRemoving, IsReturned, LeavesSector, LogOf, Same, being_made, named, unlogged, with_sector};
 
-use crate::life::image_folder::ImageFolder;
+use crate::life::host_folder::HostFolder;
 use crate::life::read_log::ReadLog;
-use crate::life::system_log::SystemLog;
 use image_file::HostFiles;
+use std::fs::Metadata;
 use std::io;
 
-/// The calls of a host on a folder in which an image stands with its log. They do what those of `LogFolder`, of `LogFile` and
-/// of `LogReader` do that have their names, by calls at their paths and on their open files.
+/// The calls of a host on the open file of an image, on the names beside it, and on the files of logs. Here IMAGE is its file
+/// as it is, with the tag if that is there.
 pub trait HostLogs: HostFiles {
-    ghost use Rattle.image_log.specs.life.HostLogs.{FolderHistories, LogBytes, LogFailures, LogHistories};
+    ghost use Rattle.image_log.specs.life.HostLogs.{HostFolders, LogBytes, LogFailures};
 
     // what a folder holds, and what a power loss may leave of it
-    ghost folders: { FolderHistories Self Self.File };
+    ghost folders: { HostFolders Self Self.File };
 
-    // the same of the log's file
-    ghost logs: { LogHistories Self Self.File };
+    // the same of a log's file
+    ghost logs: { FileHistory Self.File };
 
     // what a log that is read has, and whether one of its calls may have failed
     ghost log_bytes: { LogBytes Self Self.File };
@@ -37,103 +36,100 @@ pub trait HostLogs: HostFiles {
     // the bytes of one were synced
     ghost IsSynced: { Self.File → Type 0 } = { λ _. ⊤ };
 
-    /// `LogFolder::read_image`.
-    fn read_image(folder: &mut ImageFolder<'_, Self>, image: &mut [[u8; 256]]) -> io::Result<()>
+    /// Reads the 683 sectors of IMAGE.
+    fn read_image(folder: &mut HostFolder<'_, Self>, image: &mut [[u8; 256]]) -> io::Result<()>
         requires sized { length image.old ≡ 683 }
         ensures sized { length image.new ≡ 683 }
         ensures image { OnOk result ((s : Folder) → (folders _ _ _).held folder.old ≡ Some s → image.new ≡ s.image) }
         ensures acts { Acts (folders _ _ _) folder.old folder.new (λ s. s) Same result };
 
-    /// `LogFolder::write_sector`.
+    /// Syncs IMAGE, and reads the sector with this index.
+    fn read_synced(folder: &mut HostFolder<'_, Self>, index: usize) -> io::Result<[u8; 256]>
+        requires within { index < 683 }
+        ensures sector { IfOk result (λ sector. (s : Folder) → (folders _ _ _).held folder.new ≡ Some s
+            → slice_index_or s.image index [] ≡ sector) }
+        ensures left { IfOk result (LeavesSector (folders _ _ _) folder.new index) }
+        ensures lent { (folders _ _ _).lent folder.new ≡ (folders _ _ _).lent folder.old }
+        ensures acts { Acts (folders _ _ _) folder.old folder.new (λ s. s) Same result };
+
+    /// Writes the sector of IMAGE with this index.
     fn write_sector(
-        folder: &mut ImageFolder<'_, Self>,
+        folder: &mut HostFolder<'_, Self>,
         index: usize,
         sector: &[u8; 256],
     ) -> io::Result<()>
         requires within { index < 683 }
         ensures acts { Acts (folders _ _ _) folder.old folder.new (with_sector index sector.now)
             (IsImageWritten index sector.now) result }
-        // 18/0 may be tagged
-        ensures put { index ≢ 357 → IsPutOver files folder.old.image folder.new.image sector.now (256 * index) result };
+        ensures lent { (folders _ _ _).lent folder.new ≡ (folders _ _ _).lent folder.old }
+        ensures put { IsPutOver files folder.old.image folder.new.image sector.now (256 * index) result };
 
-    /// `LogFolder::sync_image`.
-    fn sync_image(folder: &mut ImageFolder<'_, Self>) -> io::Result<()>
+    /// Syncs IMAGE.
+    fn sync_image(folder: &mut HostFolder<'_, Self>) -> io::Result<()>
         ensures brings { Brings (folders _ _ _) folder.old folder.new HasImage result }
         ensures synced { IsBroughtWhole files folder.old.image folder.new.image result };
 
-    /// `LogFolder::read_log`.
-    fn read_log<'a>(folder: &mut ImageFolder<'a, Self>) -> io::Result<Option<ReadLog<'a, Self>>>
+    /// Opens the log to be read; None if there is none.
+    fn read_log<'a>(folder: &mut HostFolder<'a, Self>) -> io::Result<Option<ReadLog<'a, Self>>>
         ensures log { IfOk result (λ log. (s : Folder) → (folders _ _ _).held folder.old ≡ Some s
             → IsOpened log_bytes log s.log) }
         ensures acts { Acts (folders _ _ _) folder.old folder.new (λ s. s) Same result };
 
-    /// `LogFolder::leave_log`, before the log is closed.
-    fn leave_log<'a>(folder: &mut ImageFolder<'a, Self>, log: &ReadLog<'a, Self>)
-        ensures { IsGivenUp (folders _ _ _) folder.old folder.new (log_has_failed log.now) };
-
-    /// `LogFolder::open_log`.
-    fn open_log<'a>(folder: &mut ImageFolder<'a, Self>) -> io::Result<SystemLog<'a, Self>>
-        ensures file { IfOk result (LogOf (folders _ _ _) (logs _ _ _) folder.old) }
-        ensures lent { IfOk result (λ file. (logs _ _ _).moment file ≡ (folders _ _ _).lent folder.new) }
+    /// Opens the log to be changed.
+    fn open_log(folder: &mut HostFolder<'_, Self>) -> io::Result<Self::File>
+        ensures file { IfOk result (LogOf (folders _ _ _) logs folder.old) }
+        ensures lent { IfOk result (λ file. logs.moment file ≡ (folders _ _ _).lent folder.new) }
         ensures acts { Acts (folders _ _ _) folder.old folder.new (λ s. s) Same result };
 
-    /// `LogFolder::close_log`, before the file is closed.
-    fn close_log<'a>(
-        folder: &mut ImageFolder<'a, Self>,
-        file: &mut SystemLog<'a, Self>,
-    ) -> io::Result<()>
-        ensures returned { IsReturned (folders _ _ _) (logs _ _ _) folder.old folder.new file.old result }
-        ensures away { IsMissing Self.stands file.old.rt.now file.old.name.now → IsErr result };
+    /// What was done to the log's file, which is about to be closed, was done to the folder's log.
+    fn return_log(folder: &mut HostFolder<'_, Self>, file: &mut Self::File) -> io::Result<()>
+        ensures { IsReturned (folders _ _ _) logs folder.old folder.new file.old result };
 
-    /// `LogFolder::make_log`.
-    fn make_log<'a>(folder: &mut ImageFolder<'a, Self>) -> io::Result<SystemLog<'a, Self>>
-        ensures empty { IfOk result (λ file. (f : List ℕ) → (logs _ _ _).held file ≡ Some f → f ≡ []) }
-        ensures known { IfOk result (λ file. (s : Folder) → (folders _ _ _).held folder.old ≡ Some s
-            → (logs _ _ _).held file ≡ Some []) }
+    /// Makes an empty `IMAGE-log.new` in place of one that may be there, for those who may use a file like this one, and opens it.
+    fn make_log(folder: &mut HostFolder<'_, Self>, like: &Metadata) -> io::Result<Self::File>
+        ensures empty { IfOk result (λ file. (f : List ℕ) → logs.held file ≡ Some f → f ≡ []) }
+        ensures known { IfOk result (λ file. (s : Folder) → (folders _ _ _).held folder.old ≡ Some s → logs.held file ≡ Some []) }
         ensures acts { Acts (folders _ _ _) folder.old folder.new being_made IsMaking result }
         ensures made { IfOk result (λ file. Self.traces.opened folder.old.rt.now Make
-            (string_bytes folder.old.names.now.making) file.file) };
+            (string_bytes folder.old.names.now.making) file) };
 
-    /// `LogFolder::leave_making`, before the file is closed.
-    fn leave_making<'a>(folder: &mut ImageFolder<'a, Self>, file: &mut SystemLog<'a, Self>)
-        ensures { IsGivenUp (folders _ _ _) folder.old folder.new ((logs _ _ _).has_failed file.old) };
-
-    /// `LogFolder::name_log`.
-    fn name_log<'a>(
-        folder: &mut ImageFolder<'a, Self>,
-        file: &SystemLog<'a, Self>,
-    ) -> io::Result<()>
-        ensures lent { OnOk result ((folders _ _ _).lent folder.new ≡ (logs _ _ _).moment file.now) }
-        ensures acts { (f : List ℕ) → (logs _ _ _).held file.now ≡ Some f → Only f ((logs _ _ _).may_leave file.now)
+    /// Gives the name of the log to `IMAGE-log.new`, whose file this is, in place of one that may have it.
+    fn name_log(folder: &mut HostFolder<'_, Self>, file: &Self::File) -> io::Result<()>
+        ensures lent { OnOk result ((folders _ _ _).lent folder.new ≡ logs.moment file.now) }
+        ensures acts { (f : List ℕ) → logs.held file.now ≡ Some f → Only f (logs.may_leave file.now)
             → Acts (folders _ _ _) folder.old folder.new (named f) (IsNaming f) result }
-        ensures cause { OnErr result ((folders _ _ _).has_failed folder.new ≡ true) }
         ensures renamed { OnOk result (Self.traces.renamed folder.old.rt.now (string_bytes folder.old.names.now.making)
             (string_bytes folder.old.names.now.log)) };
 
-    /// `LogFolder::remove_log`.
-    fn remove_log(folder: &mut ImageFolder<'_, Self>) -> io::Result<()>
+    /// Takes away the log's name.
+    fn remove_log(folder: &mut HostFolder<'_, Self>) -> io::Result<()>
         ensures acts { Acts (folders _ _ _) folder.old folder.new unlogged IsRemoving result }
         ensures removed { OnOk result (Self.traces.removed folder.old.rt.now (string_bytes folder.old.names.now.log)) };
 
-    /// `LogFolder::sync_folder`.
-    fn sync_folder(folder: &mut ImageFolder<'_, Self>) -> io::Result<()>
+    /// Syncs the names.
+    fn sync_folder(folder: &mut HostFolder<'_, Self>) -> io::Result<()>
         ensures brings { Brings (folders _ _ _) folder.old folder.new HasNames result }
         ensures synced { OnOk result (Self.traces.synced folder.old.rt.now (string_bytes folder.old.names.now.image)) };
 
     /// `LogFile::write_at`.
-    fn write_at(log: &mut SystemLog<'_, Self>, at: usize, bytes: &[u8]) -> io::Result<()>
-        ensures written { WritesBytes (logs _ _ _) log.old log.new at bytes.now result }
-        ensures put { IsPutOver files log.old.file log.new.file bytes.now at result };
+    fn write_at(log: &mut Self::File, at: usize, bytes: &[u8]) -> io::Result<()>
+        ensures written { WritesBytes logs log.old log.new at bytes.now result }
+        ensures put { IsPutOver files log.old log.new bytes.now at result };
 
     /// `LogFile::lengthen`.
-    fn lengthen(log: &mut SystemLog<'_, Self>, size: usize) -> io::Result<()>
-        ensures lengthened { Lengthens (logs _ _ _) log.old log.new size result }
-        ensures ended { IsEndedBehind files log.old.file log.new.file size result };
+    fn lengthen(log: &mut Self::File, size: usize) -> io::Result<()>
+        ensures lengthened { Lengthens logs log.old log.new size result }
+        ensures ended { IsEndedBehind files log.old log.new size result };
 
     /// `LogFile::sync`.
-    fn sync(log: &mut SystemLog<'_, Self>) -> io::Result<()>
-        ensures synced { SyncsBytes (logs _ _ _) log.old log.new result }
-        ensures brought { OnOk result (IsBroughtWhole files log.old.file log.new.file result ⊎ IsSynced log.new.file) };
+    fn sync_log(log: &mut Self::File) -> io::Result<()>
+        ensures synced { SyncsBytes logs log.old log.new result }
+        ensures brought { IsBroughtWhole files log.old log.new result };
+
+    /// The same, of a log whose length hasn't changed since the last sync.
+    fn sync_bytes(log: &mut Self::File) -> io::Result<()>
+        ensures synced { SyncsBytes logs log.old log.new result }
+        ensures brought { OnOk result (IsSynced log.new) };
 
     /// `LogReader::is_sized`.
     fn is_sized(log: &mut ReadLog<'_, Self>) -> io::Result<bool>

@@ -8,6 +8,7 @@ ghost use Rattle.image_log.specs.life.Views.{unseen};
 use crate::life::image_folder::{log_to_read, read_sectors};
 use crate::life::log_names::LogNames;
 use crate::life::open_log::OpenLog;
+use crate::life::tags::{TAGGED, take_tag};
 use crate::life::viewing::ViewsImage;
 use crate::log_reader::LogReader;
 use image_file::HostFiles;
@@ -55,7 +56,9 @@ where
     }
 
     fn read_image(&mut self, image: &mut [[u8; 256]]) -> io::Result<()> {
-        read_sectors(&mut self.image, image)
+        read_sectors(&mut self.image, image)?;
+        take_tag(&mut image[TAGGED]);
+        Ok(())
     }
 
     fn has_landed(&mut self, log: &mut OpenLog<R::File>, marked: bool) -> io::Result<bool> {

@@ -32,7 +32,8 @@ pub trait LogFolder<F: LogFile> {
     /// now, in any mix. An error does that too.
     fn write_sector(&mut self, index: usize, sector: &[u8; 256]) -> io::Result<()>
         requires within { index < 683 }
-        ensures { Acts history self.old self.new (with_sector index sector.now) (IsImageWritten index sector.now) result };
+        ensures acts { Acts history self.old self.new (with_sector index sector.now) (IsImageWritten index sector.now) result }
+        ensures lent { history.lent self.new ≡ history.lent self.old };
 
     /// Syncs IMAGE.
     fn sync_image(&mut self) -> io::Result<()>
@@ -77,6 +78,11 @@ pub trait LogFolder<F: LogFile> {
         ensures acts { (f : List ℕ) → F.history.held file.now ≡ Some f → Only f (F.history.may_leave file.now)
             → Acts history self.old self.new (named f) (IsNaming f) result }
         ensures cause { OnErr result (history.has_failed self.new ≡ true) };
+
+    /// Says in IMAGE that its log has the rest of it, if the folder does that; of what it holds nothing changes.
+    fn tag(&mut self) -> io::Result<()>
+        ensures acts { Acts history self.old self.new (λ s. s) Same result }
+        ensures lent { history.lent self.new ≡ history.lent self.old };
 
     /// Takes away the log's name.
     fn remove_log(&mut self) -> io::Result<()>

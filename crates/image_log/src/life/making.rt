@@ -13,7 +13,7 @@ use crate::log_room::LogRoom;
 use std::io;
 
 /// Makes a log whose base is the image, under the name of one in the making, and syncs its bytes and that name. Then it
-/// gives it the log's name, in place of a log that may have it and gives that image too.
+/// gives it the log's name, in place of a log that may have it and gives that image too, syncs that, and tags IMAGE.
 pub(crate) fn make_new<F: LogFile, D: LogFolder<F>>(
     folder: &mut D,
     room: LogRoom,
@@ -40,5 +40,6 @@ pub(crate) fn make_new<F: LogFile, D: LogFolder<F>>(
     folder.sync_folder()?;
     folder.name_log(log.file())?;
     folder.sync_folder()?;
+    folder.tag()?;
     Ok(log)
 }

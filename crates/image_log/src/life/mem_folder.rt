@@ -1,5 +1,5 @@
 //! The folder of an image in memory.
-ghost use Rattle.std.specs.Prelude.{◌≡◌, ◌∷◌, IfErr, IfOk, IsErr, OnErr, OnOk, false, length, option_map, true};
+ghost use Rattle.std.specs.Prelude.{◌≡◌, ◌∷◌, ◌<◌, [], IfErr, IfOk, IsErr, None, OnErr, OnOk, false, length, option_map, slice_index_or, true};
 ghost use Rattle.image_log.specs.life.FolderCalls.{began, none_failed, seen_after};
 ghost use Rattle.image_log.specs.declared.life.mem_folder.FolderCall.TheVariants.{Return};
 ghost use Rattle.std.proofs.Props.{props};
@@ -50,6 +50,7 @@ pub struct MemFolder {
     ghost sized: { length image.items ≡ 683 },
     ghost image_is: { failed ≡ false → image.items ≡ (seen_after (began first_image.items (option_map (λ b. b.items) first_log)) calls.items).image } by { Prim.hlevel props },
     ghost log_is: { failed ≡ false → option_map (λ b. b.items) log ≡ (seen_after (began first_image.items (option_map (λ b. b.items) first_log)) calls.items).log } by { Prim.hlevel props },
+    ghost kept: { failed ≡ false → lost ≡ None } by { Prim.hlevel props },
     ghost fine: { failed ≡ false → none_failed calls.items ≡ true } by { Prim.hlevel props },
 }
 
@@ -97,9 +98,9 @@ fn note_return(calls: &mut Vec<FolderCall>, lent: usize, file: MemLog) -> Result
 }
 
 impl MemFolder {
-    ghost use Rattle.std.specs.Prelude.{None, Some};
+    ghost use Rattle.std.specs.Prelude.{Some};
     ghost use Rattle.image_log.specs.life.FolderCalls.{began as began_with};
-    ghost use Rattle.image_log.specs.life.Folders.{AllLeft, IsReturned};
+    ghost use Rattle.image_log.specs.life.Folders.{Acts, AllLeft, Folder, IsReturned, LeavesSector, Same};
     ghost use Rattle.image_log.specs.Memory.{memory};
     ghost use Rattle.image_log.specs.life.MemFolders.{folder_in_memory};
 
@@ -169,6 +170,22 @@ impl MemFolder {
             }
             Some(_) => refused(),
         }
+    }
+
+    /// Syncs IMAGE, and reads the sector with this index.
+    pub fn read_synced(&mut self, index: usize) -> io::Result<[u8; 256]>
+        requires within { index < 683 }
+        ensures sector { IfOk result (λ sector. (s : Folder) → folder_in_memory.held self.new ≡ Some s
+            → slice_index_or s.image index [] ≡ sector) }
+        ensures left { IfOk result (LeavesSector folder_in_memory self.new index) }
+        ensures lent { folder_in_memory.lent self.new ≡ folder_in_memory.lent self.old }
+        ensures acts { Acts folder_in_memory self.old self.new (λ s. s) Same result }
+    {
+        if self.failed {
+            return refused();
+        }
+        self.sync_image()?;
+        Ok(self.image[index])
     }
 
     /// Whether a call failed: from then on each one does.
@@ -289,6 +306,10 @@ impl LogFolder<MemLog> for MemFolder {
         self.log = Some(log);
         self.lent = file.calls();
         self.failed = false;
+        Ok(())
+    }
+
+    fn tag(&mut self) -> io::Result<()> {
         Ok(())
     }
 

@@ -3,6 +3,7 @@ ghost use Rattle.std.specs.Prelude.{IsErr};
 ghost use Rattle.std.proofs.Props.{props};
 ghost use Rattle.image_file.specs.paths.Rights.{Look, May};
 ghost use Rattle.image_file.specs.paths.Standing.{IsMissing};
+ghost use Rattle.image_log.specs.life.Untagged.{asked_in};
 
 use crate::life::host_logs::HostLogs;
 use crate::life::log_names::see_file;
@@ -39,17 +40,21 @@ impl<R: HostFiles> SystemLog<'_, R> {
 }
 
 impl<R: HostLogs> LogFile for SystemLog<'_, R> {
-    ghost history = { R.logs _ _ _ };
+    ghost history = { asked_in (λ log. log.file) R.logs };
 
     fn write_at(&mut self, at: usize, bytes: &[u8]) -> io::Result<()> {
-        R::write_at(self, at, bytes)
+        R::write_at(&mut self.file, at, bytes)
     }
 
     fn lengthen(&mut self, size: usize) -> io::Result<()> {
-        R::lengthen(self, size)
+        R::lengthen(&mut self.file, size)
     }
 
     fn sync(&mut self) -> io::Result<()> {
-        R::sync(self)
+        if !self.named.get() {
+            return R::sync_log(&mut self.file);
+        }
+        R::sync_bytes(&mut self.file)?;
+        self.see_name()
     }
 }

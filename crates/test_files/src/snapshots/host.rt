@@ -8,7 +8,7 @@ use crate::snapshots::open_file::SnapshotFile;
 use crate::snapshots::store::Store;
 use d64_image::IMAGE_BYTES;
 use image_file::{HostFiles, HostInput};
-use image_log::{MemFolder, sectors_of};
+use image_log::{BLOCK, BLOCKS, MemFolder, sectors_of};
 use std::alloc::{Allocator, Global};
 use std::fs::{Metadata, OpenFile};
 use std::io::{self, BufRead, ErrorKind, Lines};
@@ -91,6 +91,13 @@ impl<'a> Snapshot<'a> {
         ensures { IsMissing snapshot_stands self.now path.now → result ≡ true }
     {
         self.quiet && path == "a.d64-log"
+    }
+
+    /// Shows in the store, at its path, that a log got its name: a file of its length.
+    pub(crate) fn show_log(&self, path: &str) {
+        if let Ok(number) = self.store.add(path, b"") {
+            let _ = self.store.resize(number, BLOCK * (BLOCKS + 1));
+        }
     }
 
     /// The file that is made at a path.

@@ -1,21 +1,15 @@
 //! The folder of a snapshot's image, in memory.
 ghost use Rattle.std.specs.Prelude.{false};
-ghost use Rattle.test_files.specs.KnownFolders.{snapshot_folders, snapshot_log_bytes, snapshot_logs};
+ghost use Rattle.test_files.specs.KnownFolders.{log_files, snapshot_log_bytes, tagged_folders};
 
 use crate::snapshots::host::Snapshot;
 use crate::snapshots::open_file::SnapshotFile;
-use image_file::{HostFiles, Identity};
 use image_log::{
-    HostLogs, ImageFolder, LogFile, LogFolder, LogReader, MemLog, OpenLog, ReadLog, SystemLog,
+    HostFolder, HostLogs, LogFile, LogFolder, LogReader, MemLog, OpenLog, ReadLog,
 };
 use std::fs::Metadata;
 use std::io::{self, ErrorKind};
 use std::mem;
-
-/// Which file a log is: a snapshot has but one.
-fn identity() -> Identity {
-    Identity::sized(&Metadata::of_file(0), 0)
-}
 
 /// The error of a folder of which nothing is known.
 fn unknown() -> io::Error {
@@ -24,16 +18,16 @@ fn unknown() -> io::Error {
 
 // The image and its log are those of a folder in memory, which the open file of the image has.
 impl<'s> HostLogs for Snapshot<'s> {
-    ghost folders = { snapshot_folders };
+    ghost folders = { tagged_folders };
 
-    ghost logs = { snapshot_logs };
+    ghost logs = { log_files };
 
     ghost log_bytes = { snapshot_log_bytes };
 
     ghost log_has_failed = { λ _. false };
 
     fn read_image(
-        folder: &mut ImageFolder<'_, Snapshot<'s>>,
+        folder: &mut HostFolder<'_, Snapshot<'s>>,
         image: &mut [[u8; 256]],
     ) -> io::Result<()> {
         match &mut folder.image.folder {
@@ -42,8 +36,18 @@ impl<'s> HostLogs for Snapshot<'s> {
         }
     }
 
+    fn read_synced(
+        folder: &mut HostFolder<'_, Snapshot<'s>>,
+        index: usize,
+    ) -> io::Result<[u8; 256]> {
+        match &mut folder.image.folder {
+            Some(known) => known.read_synced(index),
+            None => Err(unknown()),
+        }
+    }
+
     fn write_sector(
-        folder: &mut ImageFolder<'_, Snapshot<'s>>,
+        folder: &mut HostFolder<'_, Snapshot<'s>>,
         index: usize,
         sector: &[u8; 256],
     ) -> io::Result<()> {
@@ -55,7 +59,7 @@ impl<'s> HostLogs for Snapshot<'s> {
         Ok(())
     }
 
-    fn sync_image(folder: &mut ImageFolder<'_, Snapshot<'s>>) -> io::Result<()> {
+    fn sync_image(folder: &mut HostFolder<'_, Snapshot<'s>>) -> io::Result<()> {
         match &mut folder.image.folder {
             Some(known) => known.sync_image(),
             None => Err(unknown()),
@@ -63,7 +67,7 @@ impl<'s> HostLogs for Snapshot<'s> {
     }
 
     fn read_log<'a>(
-        folder: &mut ImageFolder<'a, Snapshot<'s>>,
+        folder: &mut HostFolder<'a, Snapshot<'s>>,
     ) -> io::Result<Option<ReadLog<'a, Snapshot<'s>>>> {
         let rt = folder.rt;
         let read = match &mut folder.image.folder {
@@ -80,93 +84,80 @@ impl<'s> HostLogs for Snapshot<'s> {
         }
     }
 
-    fn leave_log<'a>(
-        _folder: &mut ImageFolder<'a, Snapshot<'s>>,
-        _log: &ReadLog<'a, Snapshot<'s>>,
-    ) {}
-
-    fn open_log<'a>(
-        folder: &mut ImageFolder<'a, Snapshot<'s>>,
-    ) -> io::Result<SystemLog<'a, Snapshot<'s>>> {
+    fn open_log(folder: &mut HostFolder<'_, Snapshot<'s>>) -> io::Result<SnapshotFile<'s>> {
         let rt = folder.rt;
         let log = match &mut folder.image.folder {
             Some(known) => known.open_log()?,
             None => return Err(unknown()),
         };
-        let file = SnapshotFile::of_log(rt.alloc, rt.store, log);
-        Ok(folder.log_of(file, identity(), true))
+        Ok(SnapshotFile::of_log(rt.alloc, rt.store, log))
     }
 
-    fn close_log<'a>(
-        folder: &mut ImageFolder<'a, Snapshot<'s>>,
-        file: &mut SystemLog<'a, Snapshot<'s>>,
+    fn return_log(
+        folder: &mut HostFolder<'_, Snapshot<'s>>,
+        file: &mut SnapshotFile<'s>,
     ) -> io::Result<()> {
-        let rt = file.rt;
-        let is_away = rt.is_away(file.name);
-        let log = mem::replace(&mut file.file.log, MemLog::new(rt.alloc));
+        let log = mem::replace(&mut file.log, MemLog::new(folder.rt.alloc));
         match &mut folder.image.folder {
-            Some(known) if is_away => known.lose(log),
             Some(known) => known.close_log(log),
             None => Err(unknown()),
         }
     }
 
-    fn make_log<'a>(
-        folder: &mut ImageFolder<'a, Snapshot<'s>>,
-    ) -> io::Result<SystemLog<'a, Snapshot<'s>>> {
+    fn make_log(
+        folder: &mut HostFolder<'_, Snapshot<'s>>,
+        _like: &Metadata,
+    ) -> io::Result<SnapshotFile<'s>> {
         let rt = folder.rt;
         let log = match &mut folder.image.folder {
             Some(known) => known.make_log()?,
             None => return Err(unknown()),
         };
-        let file = SnapshotFile::of_log(rt.alloc, rt.store, log);
-        Ok(folder.log_of(file, identity(), false))
+        Ok(SnapshotFile::of_log(rt.alloc, rt.store, log))
     }
 
-    fn leave_making<'a>(
-        folder: &mut ImageFolder<'a, Snapshot<'s>>,
-        file: &mut SystemLog<'a, Snapshot<'s>>,
-    ) {
-        let log = mem::replace(&mut file.file.log, MemLog::new(file.rt.alloc));
-        if let Some(known) = &mut folder.image.folder {
-            known.leave_making(log);
-        }
-    }
-
-    fn name_log<'a>(
-        folder: &mut ImageFolder<'a, Snapshot<'s>>,
-        file: &SystemLog<'a, Snapshot<'s>>,
+    fn name_log(
+        folder: &mut HostFolder<'_, Snapshot<'s>>,
+        file: &SnapshotFile<'s>,
     ) -> io::Result<()> {
         match &mut folder.image.folder {
-            Some(known) => known.name_log(&file.file.log),
-            None => Err(unknown()),
+            Some(known) => known.name_log(&file.log)?,
+            None => return Err(unknown()),
         }
+        folder.rt.show_log(folder.names.log());
+        Ok(())
     }
 
-    fn remove_log(folder: &mut ImageFolder<'_, Snapshot<'s>>) -> io::Result<()> {
+    fn remove_log(folder: &mut HostFolder<'_, Snapshot<'s>>) -> io::Result<()> {
         match &mut folder.image.folder {
-            Some(known) => known.remove_log(),
-            None => Err(unknown()),
+            Some(known) => known.remove_log()?,
+            None => return Err(unknown()),
         }
+        let _ = folder.rt.store.rename(folder.names.log(), "");
+        Ok(())
     }
 
-    fn sync_folder(folder: &mut ImageFolder<'_, Snapshot<'s>>) -> io::Result<()> {
+    fn sync_folder(folder: &mut HostFolder<'_, Snapshot<'s>>) -> io::Result<()> {
         match &mut folder.image.folder {
             Some(known) => known.sync_folder(),
             None => Err(unknown()),
         }
     }
 
-    fn write_at(log: &mut SystemLog<'_, Snapshot<'s>>, at: usize, bytes: &[u8]) -> io::Result<()> {
-        log.file.log.write_at(at, bytes)
+    fn write_at(log: &mut SnapshotFile<'s>, at: usize, bytes: &[u8]) -> io::Result<()> {
+        log.log.write_at(at, bytes)
     }
 
-    fn lengthen(log: &mut SystemLog<'_, Snapshot<'s>>, size: usize) -> io::Result<()> {
-        log.file.log.lengthen(size)
+    fn lengthen(log: &mut SnapshotFile<'s>, size: usize) -> io::Result<()> {
+        log.log.lengthen(size)
     }
 
-    fn sync(log: &mut SystemLog<'_, Snapshot<'s>>) -> io::Result<()> {
-        log.file.log.sync()
+    fn sync_log(log: &mut SnapshotFile<'s>) -> io::Result<()> {
+        log.log.sync()
+    }
+
+    fn sync_bytes(log: &mut SnapshotFile<'s>) -> io::Result<()> {
+        log.log.sync()
     }
 
     fn is_sized(log: &mut ReadLog<'_, Snapshot<'s>>) -> io::Result<bool> {

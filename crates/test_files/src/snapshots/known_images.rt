@@ -1,9 +1,11 @@
 //! Images of a snapshot that are changed and replaced.
-ghost use Rattle.std.specs.Prelude.{◌≡◌, IfOk, IfSome, IsErr, IsSome, length, string_bytes};
+ghost use Rattle.std.specs.Prelude.{◌≡◌, ◌↔◌, IfOk, IfSome, IsErr, IsOk, IsSome, length, string_bytes};
 ghost use Rattle.d64_image.specs.Memory.{sectors_in};
 ghost use Rattle.disk_changes.specs.Changes.{IsFit};
 ghost use Rattle.image_log.specs.life.Bringing.{RestsAlone};
+ghost use Rattle.image_log.specs.life.HostLogs.{untagged_folders};
 ghost use Rattle.image_log.specs.life.LogRights.{MayKeepLogOf};
+ghost use Rattle.image_log.specs.life.Tags.{SaysLogAway};
 ghost use Rattle.image_log.specs.life.MemFolders.{folder_in_memory};
 ghost use Rattle.test_files.specs.KnownFolders.{IsChangedIn, IsReplacedIn, snapshot_changed, snapshot_replaced};
 
@@ -14,16 +16,20 @@ use d64_image::IMAGE_BYTES;
 use disk_changes::Change;
 use folder_changes::{HostImages, change_image, put_image_in};
 use image_file::HostFiles;
-use image_log::{HostLogs, ImageFolder, LogNames, MemFolder, sectors_of};
+use image_log::{HostLogs, ImageFolder, LogNames, MemFolder, is_log_away, sectors_of};
 use std::alloc::Global;
 use std::fs::OpenFile;
 use std::io::{self, ErrorKind, Write};
 
-/// A folder in memory with this image alone, if it is one.
+/// A folder in memory with this image alone, if it is one. An error if it says that its log is away.
 fn folder_with(alloc: Global, image: &[u8]) -> io::Result<Option<MemFolder>>
     ensures rests { IfOk result (λ found. IfSome found (λ folder. RestsAlone folder_in_memory folder (sectors_in image.now))) }
-    ensures some { IfOk result (λ found. length image.now ≡ 174848 → IsSome found) }
+    ensures some { IfOk result (λ found. IsSome found ↔ (length image.now ≡ 174848)) }
+    ensures there { IsOk result → SaysLogAway image.now → ⊥ }
 {
+    if is_log_away(image) {
+        return Err(ErrorKind::InvalidData.into());
+    }
     if image.len() != IMAGE_BYTES {
         return Ok(None);
     }
@@ -47,7 +53,7 @@ where
     W: Write,
     requires log { MayKeepLogOf R.rights rt.now (string_bytes names.now.image) }
     requires fit { IsFit what.now }
-    ensures run { IfOk result (IsChangedIn (R.folders R.HostFiles F.Read F.Seek) (λ d. d.image ≡ file) what.now image.now
+    ensures run { IfOk result (IsChangedIn (untagged_folders R.folders R.HostFiles F.Read F.Seek) (λ d. d.at.image ≡ file) what.now image.now
         W.contents out.old out.new) }
     ensures quiet { IsErr result → out.new ≡ out.old }
 {
@@ -68,7 +74,7 @@ where
     R: HostFiles<File = F> + HostLogs,
     requires log { MayKeepLogOf R.rights rt.now (string_bytes names.now.image) }
     requires size { length image.now ≡ 174848 }
-    ensures { IfOk result (IsReplacedIn (R.folders R.HostFiles F.Read F.Seek) (λ d. d.image ≡ file) image.now) }
+    ensures { IfOk result (IsReplacedIn (untagged_folders R.folders R.HostFiles F.Read F.Seek) (λ d. d.at.image ≡ file) image.now) }
 {
     let mut folder = ImageFolder::new(rt, names, file)?;
     Ok(put_image_in(alloc, &mut folder, image))

@@ -8,7 +8,7 @@ use Rattle.image_log.specs.Logs.{StandsFor, log_file}
 use Rattle.image_log.specs.declared.log.Log.{Log}
 use Rattle.image_log.specs.declared.log_file.LogFile.{Ghosts}
 use Rattle.image_log.specs.life.Bringing.{IsBrought, IsWith, RestsAlone}
-use Rattle.image_log.specs.life.Folders.{Acts, AllLeft, Brings, Folder, FolderHistory, HasNames, IsGivenUp, IsMaking, IsNaming, LeavesFolders, Making, being_made, named}
+use Rattle.image_log.specs.life.Folders.{Acts, AllLeft, Brings, Folder, FolderHistory, HasNames, IsGivenUp, IsMaking, IsNaming, LeavesFolders, Making, Same, being_made, named}
 use Rattle.image_log.specs.life.Folders.Making.{Fresh, Missing, Older}
 use Rattle.image_log.specs.life.Serving.{IsServing}
 use Rattle.image_log.specs.life.Shops.{Gives, GivesOneOf, LogGives, given_by}
@@ -136,3 +136,20 @@ module _ {D : Type 0} (h : FolderHistory D) (old mid new : D) (shop : Image) (sh
   pub begun_moments : LeavesFolders h mid new (IsBrought shop) → LeavesFolders h old new (GivesOneOf shops)
   begun_moments making = joined h old mid new (GivesOneOf shops) landing
       (weaker h mid new (IsBrought shop) (GivesOneOf shops) (λ o is. (shop, one_gives shops s shop one landed.1, is.1)) making)
+
+-- nothing that the folder holds changes
+pub serving_on : {F D T E : Type 0} {G : Ghosts F} (h : FolderHistory D) (old new : D) (log : Log F G) (shop : Image) (r : Result T E)
+    → IsServing h old log shop → Acts h old new (λ s. s) Same r → ((s : Folder) → h.held old ≡ Some s → h.held new ≡ Some s)
+    → h.lent new ≡ h.lent old → IsServing h new log shop
+serving_on h old new log shop r serving acts held lent = record {
+  stands = serving.stands;
+  some = serving.some;
+  held = held serving.some serving.held;
+  image = serving.image;
+  beside = serving.beside;
+  left = λ s may.
+      let from = acts.outcomes s may in
+      subst (λ (t : Folder). (t.image ≡ shop) × (t.log ≡ Some serving.stands.bytes) × (t.making ≡ serving.some.making)) (sym from.2)
+      (serving.left from.0 from.1);
+  lent = lent ∙ serving.lent;
+}

@@ -7,7 +7,6 @@ use Rattle.image_log.specs.Files.{Rests}
 use Rattle.image_log.specs.Memory.{mem_bytes, memory}
 use Rattle.image_log.specs.declared.mem_log.MemLog.{MemLog}
 use Rattle.image_log.proofs.Remembered.{all_came}
-use Rattle.image_log.proofs.lemmas.life.Mixed.{sector_set}
 use Rattle.image_log.specs.life.FolderCalls.{leaves, left_by, left_le, moments, none_failed, seen_after}
 use Rattle.image_log.specs.life.Folders.{Folder, IsReturned, LeftOpen, LogOf, with_log}
 use Rattle.image_log.specs.life.MemFolders.{first_of, folder_in_memory, held_of, lost_moments}
@@ -29,7 +28,7 @@ folder_came first [] fine = refl
 folder_came first (Write index bytes ∷ e) fine = (
   seen_after first e,
   folder_came first e fine,
-  record { log = refl; making = refl; each = λ i j low small. sector_set (seen_after first e).image index bytes i j },
+  record { log = refl; making = refl; sector = bytes; torn = record { size = λ is. sym is; each = λ j. inr refl }; image = refl },
 )
 folder_came first (SyncImage ∷ e) fine = (seen_after first e, folder_came first e fine, (refl, refl))
 folder_came first (Make ∷ e) fine = (seen_after first e, folder_came first e fine, record { image = refl; log = refl })
@@ -50,7 +49,7 @@ from_err : {T E : Type 0} (P : Type 0) (r : Result T E) → P → OnErr r P
 from_err P (Ok x) p = tt
 from_err P (Err e) p = p
 
-held_is : (o : Option MemLog) (x s : Folder) → held_of o x ≡ Some s → (o ≡ None) × (x ≡ s)
+pub held_is : (o : Option MemLog) (x s : Folder) → held_of o x ≡ Some s → (o ≡ None) × (x ≡ s)
 held_is None x s is = (refl, same_Some x s is)
 held_is (Some file) x s is = absurd (none-some s is)
 

@@ -1,7 +1,7 @@
 -- Images that are written over another one.
-use Rattle.std.proofs.Common.{◌≡◌, ◌≤◌, ◌<◌, ◌⊎◌, ◌∙◌, ℕ, List, [], ap, arith, get_or, inl, inr, length, slice_index, sym, ⊎_elim}
+use Rattle.std.proofs.Common.{◌≡◌, ◌≤◌, ◌<◌, ◌⊎◌, ◌∙◌, ℕ, List, [], ap, arith, get_or, inl, inr, length, refl, slice_index, sym, ⊎_elim}
 use Rattle.std.proofs.lemmas.Bool.{cases_eq, cases_lt}
-use Rattle.std.proofs.lemmas.List.{get_or-set_other, get_or-set_same, get_or_past, length-set}
+use Rattle.std.proofs.lemmas.List.{get_or-set_other, get_or-set_same, get_or_past, length-set, set-get_or}
 use Rattle.std.specs.Prelude.{slice_index_or, slice_set}
 use Rattle.d64_image.specs.Images.{Image}
 use Rattle.image_log.specs.Recovered.{base_of}
@@ -44,7 +44,7 @@ mix_back base shop first then last one two same mix = record {
 }
 
 -- a sector of it was written
-pub sector_set : (image : Image) (index : ℕ) (bytes : List ℕ) (i j : ℕ)
+sector_set : (image : Image) (index : ℕ) (bytes : List ℕ) (i j : ℕ)
     → (byte_of (slice_set image index bytes) i j ≡ byte_of image i j)
     ⊎ ((i ≡ index) × (byte_of (slice_set image index bytes) i j ≡ slice_index bytes j))
 sector_set image index bytes i j = ⊎_elim same other (cases_eq i index)
@@ -70,14 +70,36 @@ sector_set image index bytes i j = ⊎_elim same other (cases_eq i index)
         )))
         (cases_lt index (length image))
 
+-- nothing of it was
+pub unwritten : (index : ℕ) (bytes : List ℕ) (s : Folder) → IsImageWritten index bytes s s
+unwritten index bytes s = record {
+  log = refl;
+  making = refl;
+  sector = slice_index_or s.image index [];
+  torn = record { size = λ is. refl; each = λ j. inl refl };
+  image = sym (set-get_or s.image index []);
+}
+
 -- or is torn
+written_each : (index : ℕ) (bytes : List ℕ) (from s : Folder) → IsImageWritten index bytes from s → (i j : ℕ)
+    → (byte_of s.image i j ≡ byte_of from.image i j) ⊎ ((i ≡ index) × (byte_of s.image i j ≡ slice_index bytes j))
+written_each index bytes from s written i j =
+    let is = ap (λ (x : Image). byte_of x i j) written.image in
+    ⊎_elim
+    (λ stays. inl (is ∙ stays))
+    (λ new. ⊎_elim
+    (λ old. inl (is ∙ new.1 ∙ old ∙ ap (λ (k : ℕ). byte_of from.image k j) (sym new.0)))
+    (λ put. inr (new.0, is ∙ new.1 ∙ put))
+    (written.torn.each j))
+    (sector_set from.image index written.sector i j)
+
 pub mix_sector : (index : ℕ) (bytes : List ℕ) (base shop : Image) (from s : Folder) → slice_index_or shop index [] ≡ bytes
     → IsImageWritten index bytes from s → IsMixOf base shop from.image → IsMixOf base shop s.image
 mix_sector index bytes base shop from s is written mix = record {
   each = λ i j low small. ⊎_elim
       (λ stays. ⊎_elim (λ was. inl (stays ∙ was)) (λ was. inr (stays ∙ was)) (mix.each i j low small))
       (λ new. inr (new.1 ∙ ap (λ (b : List ℕ). slice_index b j) (sym is) ∙ ap (λ (k : ℕ). byte_of shop k j) (sym new.0)))
-      (written.each i j low small);
+      (written_each index bytes from s written i j);
 }
 
 pub landing_sector : (log : List ℕ) (index : ℕ) (bytes : List ℕ) (base shop : Image) (from s : Folder)

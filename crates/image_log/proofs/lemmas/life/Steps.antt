@@ -1,6 +1,7 @@
 -- How a run of calls on a folder goes on.
-use Rattle.std.proofs.Common.{arith, inl, inr, ⊎_elim}
-use Rattle.image_log.specs.life.Folders.{AllLeft, Folder, FolderHistory, LeavesFolders, Passes}
+use Rattle.std.proofs.Common.{arith, inl, inr, subst, sym, ⊎_elim}
+use Rattle.std.specs.Prelude.{Result}
+use Rattle.image_log.specs.life.Folders.{Acts, AllLeft, Folder, FolderHistory, LeavesFolders, Passes, Same}
 
 module _ {D : Type 0} (h : FolderHistory D) where
   -- before the first call
@@ -20,6 +21,14 @@ module _ {D : Type 0} (h : FolderHistory D) where
     before = λ t c le left. ⊎_elim (so_far.before t c le) (λ now. inr (here c now))
         (time.nothing_else t c (omega (arith, le, so_far.later)) left);
   }
+
+  -- one that changes nothing
+  pub stays : {T E : Type 0} (old mid new : D) (P : Folder → Type 0) (r : Result T E) → LeavesFolders h old mid P
+      → Acts h mid new (λ s. s) Same r → LeavesFolders h old new P
+  stays old mid new P r so_far acts = goes_on old mid new P so_far acts.time
+      (λ s may.
+      let from = acts.outcomes s may in
+      subst P (sym from.2) (so_far.each from.0 (h.now mid (h.moment old) from.0 so_far.later from.1)))
 
   -- one run behind another
   pub joined : (old mid new : D) (P : Folder → Type 0) → LeavesFolders h old mid P → LeavesFolders h mid new P

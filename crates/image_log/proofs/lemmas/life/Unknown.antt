@@ -1,10 +1,9 @@
 -- Folders and files of which nothing is known.
-use Rattle.std.proofs.Common.{◌≡◌, ◌⊎◌, ℕ, List, [], ap, arith, inl, inr, le_refl, refl, true, Bool}
+use Rattle.std.proofs.Common.{◌≡◌, ◌⊎◌, ℕ, List, [], ap, arith, inl, inr, refl, true}
 use Rattle.std.proofs.lemmas.Option.{none-some}
-use Rattle.std.specs.Prelude.{Err, None, Ok, OnErr, OnOk, Option, Result, Some}
-use Rattle.image_file.specs.Remains.{Changes, IsBroughtWhole, IsEndedBehind, IsPutOver, unknown}
+use Rattle.std.specs.Prelude.{Err, IfOk, None, Ok, OnErr, OnOk, Option, Result, Some}
 use Rattle.image_log.specs.Files.{Lengthens, NotesFailure, SyncsBytes, WritesBytes}
-use Rattle.image_log.specs.life.Folders.{Acts, Brings, CountsFailure, Folder, IsGivenUp, IsReturned, LogOf, Passes, with_log}
+use Rattle.image_log.specs.life.Folders.{Acts, Brings, CountsFailure, Folder, IsReturned, LogOf, Passes, with_log}
 use Rattle.image_log.specs.life.Folders.Making.{Missing}
 use Rattle.image_log.specs.life.Unknown.{unknown_file, unknown_folder}
 
@@ -90,6 +89,11 @@ module _ {F : Type 0} (old new : F) where
     failures = notes r;
   }
 
+-- a power loss may leave anything
+pub anything : {T E : Type 0} (P : T → Type 0) (r : Result T E) → IfOk r (λ x. P x ⊎ ((s : Folder) → Unit {0}))
+anything P (Ok x) = inr (λ s. tt)
+anything P (Err e) = tt
+
 pub log_of : {D F : Type 0} (d : D) (file : F) → LogOf unknown_folder unknown_file d file
 log_of d file = record {
   held = λ s f never is. absurd (none-some s never);
@@ -102,15 +106,6 @@ put_back : (s : Folder) (o : Option (List ℕ)) → s.log ≡ o
 put_back s None is = inl (refl, is)
 put_back s (Some c) is = inr (c, tt, ap (λ (l : Option (List ℕ)). record { image = s.image; log = l; making = s.making }) is)
 
-pub given_up : {D : Type 0} (old new : D) (has_failed : Bool) → IsGivenUp unknown_folder old new has_failed
-given_up old new has_failed = record {
-  held = refl;
-  outcomes = λ s may. tt;
-  time = passes old new;
-  failed = λ is. refl;
-  passed = λ is. refl;
-}
-
 pub returned : {D F E : Type 0} (old new : D) (file : F) (r : Result Unit E)
     → IsReturned unknown_folder unknown_file old new file r
 returned old new file r = record {
@@ -122,26 +117,3 @@ returned old new file r = record {
   failures = counts old new r;
   file_failures = λ failed. refl;
 }
-
--- what is said of open files of which nothing is known
-module _ {F : Type 0} (old new : F) where
-  none_ok : {E : Type 0} (r : Result Unit E) → OnOk r (◌≡◌ {A = Option (List ℕ)} None None)
-  none_ok (Ok x) = refl
-  none_ok (Err e) = tt
-
-  none_left : {E : Type 0} (P : List ℕ → Type 0) (r : Result Unit E) → ((s : List ℕ) → P s)
-      → OnOk r ((s : List ℕ) → P s)
-  none_left P (Ok x) all = all
-  none_left P (Err e) all = tt
-
-  changes : (makes : List ℕ → List ℕ → Type 0) → Changes unknown old new makes
-  changes makes = record { later = le_refl 0; each = λ t s le never. absurd never }
-
-  pub put : {E : Type 0} (bytes : List ℕ) (n : ℕ) (r : Result Unit E) → IsPutOver unknown old new bytes n r
-  put bytes n r = record { held = none_ok r; remain = changes _ }
-
-  pub ended : {E : Type 0} (n : ℕ) (r : Result Unit E) → IsEndedBehind unknown old new n r
-  ended n r = record { held = none_ok r; remain = changes _ }
-
-  pub brought : {E : Type 0} (r : Result Unit E) → IsBroughtWhole unknown old new r
-  brought r = record { same = refl; remain = changes _; ok = none_left _ r (λ s never. absurd never) }

@@ -7,14 +7,8 @@ use Rattle.image_log.proofs.life.plain_logs.AnyHostLogs.make_log.Goals as goal
 pub returns-in_err-forget_making-clause-acts : goal.returns-in_err-forget_making-clause-acts
 returns-in_err-forget_making-clause-acts g c = acts _ _ being_made IsMaking _ (λ s. record { image = refl; log = refl })
 
-pub returns-in_err-like-clause-acts : goal.returns-in_err-like-clause-acts
-returns-in_err-like-clause-acts g c = acts _ _ being_made IsMaking _ (λ s. record { image = refl; log = refl })
-
 pub returns-in_err-file-clause-acts : goal.returns-in_err-file-clause-acts
 returns-in_err-file-clause-acts g c = acts _ _ being_made IsMaking _ (λ s. record { image = refl; log = refl })
-
-pub returns-in_err-identity-clause-acts : goal.returns-in_err-identity-clause-acts
-returns-in_err-identity-clause-acts g c = acts _ _ being_made IsMaking _ (λ s. record { image = refl; log = refl })
 
 pub returns-clause-acts : goal.returns-clause-acts
 returns-clause-acts g c = acts _ _ being_made IsMaking _ (λ s. record { image = refl; log = refl })

@@ -4,11 +4,5 @@ use Rattle.image_log.specs.life.Folders.{IsRemoving, unlogged}
 use Rattle.image_log.proofs.lemmas.life.Unknown.{acts}
 use Rattle.image_log.proofs.life.plain_logs.AnyHostLogs.remove_log.Goals as goal
 
-pub returns-in_err-see_log-clause-acts : goal.returns-in_err-see_log-clause-acts
-returns-in_err-see_log-clause-acts g c = acts _ _ unlogged IsRemoving _ (λ s. inl refl)
-
 pub returns-clause-acts : goal.returns-clause-acts
 returns-clause-acts g c = acts _ _ unlogged IsRemoving _ (λ s. inl refl)
-
-pub returns-in_err-untag_file-clause-acts : goal.returns-in_err-untag_file-clause-acts
-returns-in_err-untag_file-clause-acts g c = acts _ _ unlogged IsRemoving _ (λ s. inl refl)
