@@ -130,7 +130,7 @@ snapshot_traces = record {
   synced = λ _ _. ⊤;
 }
 
--- a folder in memory, of which the tag of IMAGE isn't told
+-- a folder in memory, without the tag of IMAGE
 abbrev pub untagged_memory : FolderHistory MemFolder
 untagged_memory = untagged_in (λ folder. folder) folder_in_memory
 
