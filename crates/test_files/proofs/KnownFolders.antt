@@ -81,8 +81,7 @@ untagged inner h e image none rests = record {
   held = ap (option_map untagged_folder) rests.held;
   is = (ap untagged_image rests.is.0 ∙ none, rests.is.1);
   left = λ s may.
-      let is = rests.left may.0 may.1 in
-      (
+      let is = rests.left may.0 may.1 in (
         ap (λ (t : Folder). t.image) may.2 ∙ ap untagged_image is.0 ∙ none,
         ap (λ (t : Folder). t.log) may.2 ∙ is.1,
       );

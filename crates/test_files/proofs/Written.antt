@@ -1,17 +1,8 @@
 -- Bytes that were written whole, in part or not at all.
-use Rattle.std.proofs.Common.{◌≡◌, ◌∙◌, ◌+◌, ◌++◌, ◌⊎◌, ℕ, List, [], Some}
-use Rattle.std.proofs.Common.{ap, arith, drop, inl, inr}
-use Rattle.std.proofs.Common.{sym, take}
-use Rattle.std.proofs.lemmas.List.{append-nil, take-append-drop}
+use Rattle.std.proofs.Common.{◌≡◌, ◌∙◌, ◌⊎◌, ℕ, List, Some, ap, inl, inr, sym, take}
 use Rattle.d64_image.specs.Offsets.{overwritten}
 use Rattle.image_file.specs.Durable.{IsOverwritten}
-
-pub overwritten_none : (all : List ℕ) (n : ℕ) → overwritten all n [] ≡ all
-overwritten_none all n =
-    let none : n + 0 ≡ n = omega arith in
-    ap (λ xs. xs ++ drop (n + 0) all) (append-nil (take n all))
-    ∙ ap (λ m. take n all ++ drop m all) none
-    ∙ take-append-drop n all
+use Rattle.image_file.proofs.lemmas.Unwritten.{overwritten_none}
 
 -- at an error
 pub part_written : (old new : List ℕ) (n : ℕ) (bytes part : List ℕ) (count : ℕ) → part ≡ take count bytes

@@ -134,7 +134,8 @@ snapshot_traces = record {
 abbrev pub untagged_memory : FolderHistory MemFolder
 untagged_memory = untagged_in (λ folder. folder) folder_in_memory
 
--- such a folder went from one image at rest, with no log, to another: a power loss on the way left one of them
+-- There are two such folders, the second of which comes of the first: each has an image at rest, with no log, and a power loss on
+-- the way left one of the two. A snapshot alone doesn't say that a job had them.
 abbrev pub HasTurned : (before after : Image) → Type 0
 HasTurned before after = (old : MemFolder) × (new : MemFolder) × RestsAlone untagged_memory old before
     × RestsAlone untagged_memory new after × LeavesFolders untagged_memory old new (KeepsOrGives None before after)

@@ -18,7 +18,8 @@ use Rattle.test_files.specs.declared.snapshots.open_file.SnapshotFile.{SnapshotF
 
 module _ (g : HostGhosts Snapshot SnapshotFile) (r : ReadGhosts SnapshotFile) (s : SeekGhosts SnapshotFile) (host : Snapshot)
     (shop : Shop) (ls : List (List ℕ)) where
-  -- The folder of the host's image was opened, and left with the shop after these lines.
+  -- There is a folder with the host's image, and one that comes of it with the shop after these lines. A snapshot alone doesn't say
+  -- that a job had these two.
   pub record LeavesShop : Type 0 where
     pub opened : ImageFolder Snapshot SnapshotFile g r s
     pub fresh : IsFresh host opened.at.image.folder

@@ -4,9 +4,7 @@ ghost use Rattle.test_files.specs.KnownFolders.{log_files, snapshot_log_bytes, t
 
 use crate::snapshots::host::Snapshot;
 use crate::snapshots::open_file::SnapshotFile;
-use image_log::{
-    HostFolder, HostLogs, LogFile, LogFolder, LogReader, MemLog, OpenLog, ReadLog,
-};
+use image_log::{HostFolder, HostLogs, LogFile, LogFolder, LogReader, MemLog, OpenLog, ReadLog};
 use std::fs::Metadata;
 use std::io::{self, ErrorKind};
 use std::mem;

@@ -2,6 +2,7 @@
 use Rattle.std.proofs.Common.{◌≡◌, List, ℕ}
 use Rattle.std.specs.Prelude.{IsErr, vec_items}
 use Rattle.opened_files.specs.HostFiles.{OfText}
+use Rattle.image_log.specs.life.HostLogs.{asked_logs, untagged_folders}
 use Rattle.shop_jobs.proofs.LogPlayKept.{of-script}
 use Rattle.shop_jobs.proofs.PlayTold.{played-text}
 use Rattle.shop_jobs.specs.KeptServices.{IsServiceAt}
@@ -24,7 +25,7 @@ returns-clause-kept g c =
     let host = c.args.rt.now in
     of-script (IsErr end × (c.play_beside.new.out ≡ c.args.out.now))
     (λ (text : List ℕ). OfText g.R.HostFiles.stands host c.args.script.now (λ all. text ≡ all))
-    (λ given. IsServiceAt g.R.HostFiles g.F.Read g.F.Seek g.R.HostLogs.logs g.R.HostLogs.folders g.R.HostFiles.stands
+    (λ given. IsServiceAt g.R.HostFiles g.F.Read g.F.Seek (asked_logs g.R.HostLogs.logs) (untagged_folders g.R.HostLogs.folders) g.R.HostFiles.stands
     g.R.HostFiles.rights g.R.HostFiles.traces g.W.Write.contents given host c.args.path.now c.args.out.now
     c.play_beside.new.out end)
     (vec_items c.in_ok-script.script) c.as_slice.result.now c.as_slice.ensures.value c.in_ok-script.ensures.read

@@ -2,6 +2,7 @@
 use Rattle.std.proofs.Common.{subst, sym}
 use Rattle.std.specs.Prelude.{OnOk, vec_items}
 use Rattle.line_text.specs.scripts.Lines.{lines}
+use Rattle.image_log.specs.life.HostLogs.{untagged_folders}
 use Rattle.shop_jobs.proofs.PlayTold.{answered-at, shop-at}
 use Rattle.shop_jobs.proofs.ServiceBegun.{kept_at}
 use Rattle.opened_files.specs.Ends.{JobEnd}
@@ -24,7 +25,7 @@ returns-clause-done g c =
 
 pub returns-clause-kept : goal.returns-clause-kept
 returns-clause-kept g c =
-    kept_at (g.R.HostLogs.folders g.R.HostFiles g.F.Read g.F.Seek) _ _ _ _ c.as_slice.result.now
+    kept_at (untagged_folders g.R.HostLogs.folders g.R.HostFiles g.F.Read g.F.Seek) _ _ _ _ c.as_slice.result.now
     (vec_items c.in_ok-bytes.bytes) c.in_ok-bytes.log _ c.args.out.now c.play_printed-ended.new.out
     c.play_printed-ended.result c.cleared_end.result c.cleared_end.ensures c.as_slice.ensures.value
     c.in_ok-bytes.ensures.read c.in_ok-bytes.ensures.begun (λ all is. is) c.play_printed-ended.ensures.kept

@@ -1,6 +1,7 @@
 -- The shop that was served is that of the image that the host says.
 use Rattle.std.proofs.Common.{subst, sym}
 use Rattle.std.specs.Prelude.{vec_items}
+use Rattle.image_log.specs.life.HostLogs.{untagged_folders}
 use Rattle.shop_jobs.proofs.ServiceBegun.{fresh_reader, kept_at}
 use Rattle.shop_jobs.proofs.PlayTold.{logged-at, shop-at}
 use Rattle.opened_files.specs.Ends.{JobEnd}
@@ -22,7 +23,7 @@ returns-clause-told g c =
 
 pub returns-clause-kept : goal.returns-clause-kept
 returns-clause-kept g c =
-    kept_at (g.R.HostLogs.folders g.R.HostFiles g.F.Read g.F.Seek) _ _ _ _ c.as_slice.result.now
+    kept_at (untagged_folders g.R.HostLogs.folders g.R.HostFiles g.F.Read g.F.Seek) _ _ _ _ c.as_slice.result.now
     (vec_items c.in_ok-bytes.bytes) c.in_ok-bytes.log _ c.args.out.now c.serve_printed-ended.new.out
     c.serve_printed-ended.result c.cleared_end.result c.cleared_end.ensures c.as_slice.ensures.value
     c.in_ok-bytes.ensures.read c.in_ok-bytes.ensures.begun
