@@ -120,8 +120,8 @@ fn identity_of<F: OpenFile>(file: &F) -> io::Result<Identity> {
 }
 
 impl<R: HostLogs> ImageFolder<'_, R> {
-    /// Writes sector 18/0, with the tag if this one, which is there, has it. `InvalidData`, and nothing is written, if the tag
-    /// can't be kept.
+    /// Writes sector 18/0 in the place of `before`, with the tag if that has it. `InvalidData`, and nothing is written, if a cut
+    /// write could look like a tag, or the tag would hide other bytes.
     fn write_over(&mut self, before: &[u8; 256], sector: &[u8; 256]) -> io::Result<()>
         requires left { LeavesSector (R.folders _ _ _) self.old.at 357 before.now }
         requires held { (s : Folder) → (R.folders _ _ _).held self.old.at ≡ Some s → slice_index_or s.image 357 [] ≡ before.now }
@@ -136,7 +136,7 @@ impl<R: HostLogs> ImageFolder<'_, R> {
         R::write_sector(&mut self.at, TAGGED, &bytes)
     }
 
-    /// Writes sector 18/0, of which the tag alone changes, over this one, and syncs that.
+    /// Writes sector 18/0 in the place of `before`, of which the tag alone changes, and syncs that.
     fn change_tag(&mut self, before: &[u8; 256], sector: &[u8; 256]) -> io::Result<()>
         requires left { LeavesSector (R.folders _ _ _) self.old.at 357 before.now }
         requires held { (s : Folder) → (R.folders _ _ _).held self.old.at ≡ Some s → slice_index_or s.image 357 [] ≡ before.now }

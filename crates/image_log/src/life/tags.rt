@@ -101,8 +101,8 @@ fn have_room(one: &[u8; 256], two: &[u8; 256]) -> bool
     true
 }
 
-/// Makes a sector 18/0 ready to be written over this one: it gets the tag if that has it. False if it can't be written, since
-/// its last eight bytes would be lost, or since a part of it could look as if it had the tag.
+/// Makes a sector 18/0 ready to be written in the place of `before`: it gets the tag if that has it. False if it can't be
+/// written: the tag would hide its last eight bytes, or a cut write could look like a tag.
 pub(crate) fn keep_tag(before: &[u8; 256], sector: &mut [u8; 256]) -> bool
     ensures is { IsTrue result → untagged sector.new ≡ sector.old }
     ensures torn { IsTrue result → (torn : List ℕ) → IsTorn before.now sector.new torn
