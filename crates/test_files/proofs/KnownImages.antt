@@ -62,4 +62,4 @@ module _ {E D : Type 0} (inner : E → D) (of : D → Option MemFolder) (IsAt : 
   pub replaced : {X : Type 0} (other : List ℕ) → IsSome found → length image ≡ 174848 → (r : Result (Result Unit CommandFault) X)
       → IfOk r (IsReplacedIn (untagged_in inner (folder_in of)) IsAt other) → IfOk r (λ ended. OnOk ended (HasTurned (sectors_in image) (sectors_in other)))
   replaced other some size (Err e) is = is
-  replaced other some (Ok ended) (old, new, is, moments, ok) = done other old new is some size moments ended ok
+  replaced other some size (Ok ended) (old, new, is, moments, ok) = done other old new is some size moments ended ok

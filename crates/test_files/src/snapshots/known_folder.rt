@@ -118,12 +118,11 @@ impl<'s> HostLogs for Snapshot<'s> {
         folder: &mut HostFolder<'_, Snapshot<'s>>,
         file: &SnapshotFile<'s>,
     ) -> io::Result<()> {
-        match &mut folder.image.folder {
-            Some(known) => known.name_log(&file.log)?,
-            None => return Err(unknown()),
-        }
         folder.rt.show_log(folder.names.log());
-        Ok(())
+        match &mut folder.image.folder {
+            Some(known) => known.name_log(&file.log),
+            None => Err(unknown()),
+        }
     }
 
     fn remove_log(folder: &mut HostFolder<'_, Snapshot<'s>>) -> io::Result<()> {
