@@ -318,7 +318,7 @@ class Logs:
         want(served.finish() == (0, [], ""), "the end isn't quiet")
         steps = list(steps_of(calls.read_text(), self.folder))
         wanted = ["lock image", "sync image", "sync folder", "make new", "sync new", "write new", "sync new", "write new", "sync new", "sync folder",
-                  "rename", "sync folder", "write image", "sync image", "share image", "write log", "sync log", "reply", "write log", "sync log", "reply", "reply",
+                  "rename", "sync folder", "sync image", "write image", "sync image", "share image", "write log", "sync log", "reply", "write log", "sync log", "reply", "reply",
                   "sync image", "sync folder", "write log", "sync log", *["write image", "sync image"] * 2, "remove log", "sync folder"]
         want(steps == wanted, f"the calls are {steps}")
 
