@@ -59,7 +59,8 @@ where
     requires image { MayWrite R.rights rt.now path.now }
     requires log { MayKeepLogOf R.rights rt.now (string_bytes names.now.image) }
     requires leads { R.rights.leads rt.now path.now (string_bytes names.now.image) ≡ true }
-    ensures { IfOk result (IsFolderAt R.rights R.traces rt.now path.now) }
+    ensures at { IfOk result (IsFolderAt R.rights R.traces rt.now path.now) }
+    ensures tags { IfOk result (λ folder. folder.tags ≡ true) }
 {
     see_no_lost_log(rt, names)?;
     let image = opened_to_change(rt, path)?;

@@ -1,5 +1,5 @@
 -- What a snapshot says of the folder of its image, and of the log in it. Our own.
-use Rattle.std.specs.Prelude.{◌≡◌, ◌≤◌, ⊤, ℕ, Bool, List, None, OnOk, Option, Result, Some, length, true}
+use Rattle.std.specs.Prelude.{◌≡◌, ◌≤◌, ⊤, ℕ, Bool, List, None, OnOk, Option, Result, Some, false, length, true}
 use Rattle.d64_image.specs.Images.{Image}
 use Rattle.d64_image.specs.Memory.{disk_image, sectors_in}
 use Rattle.command_faults.specs.declared.faults.CommandFault.{CommandFault}
@@ -132,7 +132,7 @@ snapshot_traces = record {
 
 -- a folder in memory, without the tag of IMAGE
 abbrev pub untagged_memory : FolderHistory MemFolder
-untagged_memory = untagged_in (λ folder. folder) folder_in_memory
+untagged_memory = untagged_in (λ folder. folder) (λ folder. false) folder_in_memory
 
 -- There are two such folders, the second of which comes of the first: each has an image at rest, with no log, and a power loss on
 -- the way left one of the two. A snapshot alone doesn't say that a job had them.

@@ -45,9 +45,18 @@ module _ {D : Type 0} (h : FolderHistory D) where
   abbrev pub AllLeft : D → (Folder → Type 0) → Type 0
   AllLeft d P = (s : Folder) → h.may_leave d s → P s
 
+  -- What the folder holds now has P of what it held.
+  abbrev pub IsNow : D → D → (Folder → Folder → Type 0) → Type 0
+  IsNow old new P = (s : Folder) → h.held old ≡ Some s → (t : Folder) × (h.held new ≡ Some t) × P s t
+
   -- Whatever a power loss leaves now has this sector, unless it may leave anything.
   abbrev pub LeavesSector : D → ℕ → List ℕ → Type 0
   LeavesSector d index bytes = AllLeft d (λ s. slice_index_or s.image index [] ≡ bytes) ⊎ ((s : Folder) → h.may_leave d s)
+
+  -- This sector of IMAGE has P now, and so does what a power loss leaves of it, unless it may leave anything.
+  abbrev pub HasSector : D → D → ℕ → (List ℕ → Type 0) → Type 0
+  HasSector old new index P = (s : Folder) → h.held old ≡ Some s → (t : Folder) × (h.held new ≡ Some t)
+      × P (slice_index_or t.image index []) × LeavesSector new index (slice_index_or t.image index [])
 
   -- Time goes on: a power loss since t might have left what it might have left before, or what it may leave now.
   pub record Passes (old new : D) : Type 0 where

@@ -33,8 +33,8 @@ LogFailures H F = ReadLog H F → Bool
 
 -- what is known of the folders by these histories
 abbrev pub untagged_folders : {H F : Type 0} → HostFolders H F → FolderHistories H F
-untagged_folders folders g r s = untagged_in (λ folder. folder.at) (folders g r s)
+untagged_folders folders g r s = untagged_in (λ folder. folder.at) (λ folder. folder.checks.failed) (folders g r s)
 
 -- and of the logs in them
 abbrev pub asked_logs : {H F : Type 0} → FileHistory F → LogHistories H F
-asked_logs logs g r s = asked_in (λ log. log.file) logs
+asked_logs logs g r s = asked_in (λ log. log.file) (λ log. log.checks.failed) logs

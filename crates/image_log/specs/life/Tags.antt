@@ -29,9 +29,17 @@ LacksRoomAt sector j = (slice_index sector (248 + j) ≢ 0) × (slice_index sect
 abbrev pub IsTagged : (sector : List ℕ) → Type 0
 IsTagged sector = HasTagRoom sector × ¬ (HasNoTag sector)
 
+-- it has that, if it has room for it
+abbrev pub IsTaggedIfRoom : (sector : List ℕ) → Type 0
+IsTaggedIfRoom sector = HasTagRoom sector → IsTagged sector
+
+-- an image has the tag
+abbrev pub HasTag : Image → Type 0
+HasTag image = IsTagged (slice_index_or image 357 [])
+
 -- an image says that its log has the rest of it
 abbrev pub SaysLogAway : (image : List ℕ) → Type 0
-SaysLogAway image = (length image ≡ 174848) × IsTagged (slice_index_or (sectors_in image) 357 [])
+SaysLogAway image = (length image ≡ 174848) × HasTag (sectors_in image)
 
 -- whether the first n of the last eight are 0, or the tag's
 abbrev pub has_room : (sector : List ℕ) → ℕ → Bool

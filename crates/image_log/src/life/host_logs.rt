@@ -1,17 +1,16 @@
 //! The calls of a host on the folders in which images stand with their logs.
-ghost use Rattle.std.specs.Prelude.{◌≡◌, ◌*◌, ◌↔◌, ◌≤◌, ◌<◌, [], IfOk, IsTrue, List, OnOk, Some, length, slice_index_or, string_bytes, ℕ, ⊤};
+ghost use Rattle.std.specs.Prelude.{◌≡◌, ◌*◌, ◌↔◌, ◌≤◌, ◌<◌, [], IfOk, IsTrue, List, Ok, OnErr, OnOk, Some, length, slice_index_or, string_bytes, true, ℕ, ⊤};
 ghost use Rattle.image_file.specs.Remains.{IsBroughtWhole, IsEndedBehind, IsPutOver, Remains, unknown};
 ghost use Rattle.image_file.specs.paths.Rights.{Make};
 ghost use Rattle.image_log.specs.Blocks.{block_at};
 ghost use Rattle.image_log.specs.Files.{FileHistory, Lengthens, Only, SyncsBytes, WritesBytes};
 ghost use Rattle.image_log.specs.Readers.{IsOpened, Reads};
 ghost use Rattle.image_log.specs.Recovered.{is_marked as marked};
-ghost use Rattle.image_log.specs.life.Folders.{Acts, Brings, Folder, HasImage, HasNames, IsImageWritten, IsMaking, IsNaming, IsRemoving, IsReturned, LeavesSector, LogOf, Same, being_made, named, unlogged, with_sector};
+ghost use Rattle.image_log.specs.life.Folders.{Acts, Brings, Folder, HasImage, HasNames, IsGivenUp, IsImageWritten, IsMaking, IsNaming, IsRemoving, IsReturned, LeavesSector, LogOf, Same, being_made, named, unlogged, with_sector};
 
 use crate::life::host_folder::HostFolder;
 use crate::life::read_log::ReadLog;
 use image_file::HostFiles;
-use std::fs::Metadata;
 use std::io;
 
 /// The calls of a host on the open file of an image, on the names beside it, and on the files of logs. Here IMAGE is its file
@@ -50,7 +49,8 @@ pub trait HostLogs: HostFiles {
             → slice_index_or s.image index [] ≡ sector) }
         ensures left { IfOk result (LeavesSector (folders _ _ _) folder.new index) }
         ensures lent { (folders _ _ _).lent folder.new ≡ (folders _ _ _).lent folder.old }
-        ensures acts { Acts (folders _ _ _) folder.old folder.new (λ s. s) Same result };
+        ensures acts { Acts (folders _ _ _) folder.old folder.new (λ s. s) Same result }
+        ensures synced { IfOk result (λ _. (file : Self.File) × IsBroughtWhole {E = Unit} files folder.old.image file (Ok tt)) };
 
     /// Writes the sector of IMAGE with this index.
     fn write_sector(
@@ -75,6 +75,10 @@ pub trait HostLogs: HostFiles {
             → IsOpened log_bytes log s.log) }
         ensures acts { Acts (folders _ _ _) folder.old folder.new (λ s. s) Same result };
 
+    /// Closes the log that was read.
+    fn leave_log(folder: &mut HostFolder<'_, Self>, log: &ReadLog<'_, Self>)
+        ensures { IsGivenUp (folders _ _ _) folder.old folder.new (log_has_failed log.now) };
+
     /// Opens the log to be changed.
     fn open_log(folder: &mut HostFolder<'_, Self>) -> io::Result<Self::File>
         ensures file { IfOk result (LogOf (folders _ _ _) logs folder.old) }
@@ -85,19 +89,24 @@ pub trait HostLogs: HostFiles {
     fn return_log(folder: &mut HostFolder<'_, Self>, file: &mut Self::File) -> io::Result<()>
         ensures { IsReturned (folders _ _ _) logs folder.old folder.new file.old result };
 
-    /// Makes an empty `IMAGE-log.new` in place of one that may be there, for those who may use a file like this one, and opens it.
-    fn make_log(folder: &mut HostFolder<'_, Self>, like: &Metadata) -> io::Result<Self::File>
+    /// Makes an empty `IMAGE-log.new` in place of one that may be there, for those who may use IMAGE, and opens it.
+    fn make_log(folder: &mut HostFolder<'_, Self>) -> io::Result<Self::File>
         ensures empty { IfOk result (λ file. (f : List ℕ) → logs.held file ≡ Some f → f ≡ []) }
         ensures known { IfOk result (λ file. (s : Folder) → (folders _ _ _).held folder.old ≡ Some s → logs.held file ≡ Some []) }
         ensures acts { Acts (folders _ _ _) folder.old folder.new being_made IsMaking result }
         ensures made { IfOk result (λ file. Self.traces.opened folder.old.rt.now Make
             (string_bytes folder.old.names.now.making) file) };
 
+    /// Closes a log in the making whose making failed.
+    fn leave_making(folder: &mut HostFolder<'_, Self>, file: Self::File)
+        ensures { IsGivenUp (folders _ _ _) folder.old folder.new (logs.has_failed file) };
+
     /// Gives the name of the log to `IMAGE-log.new`, whose file this is, in place of one that may have it.
     fn name_log(folder: &mut HostFolder<'_, Self>, file: &Self::File) -> io::Result<()>
         ensures lent { OnOk result ((folders _ _ _).lent folder.new ≡ logs.moment file.now) }
         ensures acts { (f : List ℕ) → logs.held file.now ≡ Some f → Only f (logs.may_leave file.now)
             → Acts (folders _ _ _) folder.old folder.new (named f) (IsNaming f) result }
+        ensures cause { OnErr result ((folders _ _ _).has_failed folder.new ≡ true) }
         ensures renamed { OnOk result (Self.traces.renamed folder.old.rt.now (string_bytes folder.old.names.now.making)
             (string_bytes folder.old.names.now.log)) };
 

@@ -1,20 +1,21 @@
 //! The folder of an image, of a host.
-ghost use Rattle.image_log.specs.life.Folders.{Acts, Folder, IsImageWritten, LeavesSector, Same, with_sector};
+ghost use Rattle.image_log.specs.life.Checks.{IsCounted};
+ghost use Rattle.image_log.specs.life.Folders.{Acts, Folder, HasSector, IsImageWritten, IsNow, LeavesSector, Same, with_sector};
 ghost use Rattle.image_log.specs.life.HostLogs.{untagged_folders};
 ghost use Rattle.image_log.specs.life.LogRights.{MayKeepLogOf, MayReadLogOf, log_of};
 ghost use Rattle.image_log.specs.life.Mixes.{IsTorn};
-ghost use Rattle.image_log.specs.life.Tags.{untagged};
+ghost use Rattle.image_log.specs.life.Tags.{HasTag, IsTagged, IsTaggedIfRoom, untagged};
 ghost use Rattle.image_file.specs.paths.Standing.{IsMissing};
-ghost use Rattle.std.specs.Prelude.{◌≡◌, [], IfOk, IsNone, List, Some, length, slice_index_or, string_bytes, ℕ};
+ghost use Rattle.std.specs.Prelude.{◌≡◌, [], IfOk, IsNone, List, OnOk, Some, false, length, slice_index_or, string_bytes, true, ℕ};
 
+use crate::life::checks::Checks;
 use crate::life::host_folder::HostFolder;
 use crate::life::host_logs::HostLogs;
 use crate::life::log_folder::LogFolder;
-use crate::life::log_names::{LogNames, see_log};
+use crate::life::log_names::LogNames;
 use crate::life::read_log::ReadLog;
 use crate::life::system_log::SystemLog;
-use crate::life::tags::{TAGGED, keep_tag, set_tag, take_tag};
-use crate::log::LOG_BYTES;
+use crate::life::tags::{TAGGED, set_tag, take_tag};
 use image_file::{HostFiles, Identity, opened_to_read, regular};
 use std::cell::Cell;
 use std::fs::OpenFile;
@@ -33,6 +34,8 @@ pub struct ImageFolder<'a, R: HostFiles> {
     log: Option<Identity>,
     // whether IMAGE is tagged once its log has its name
     tags: bool,
+    // whether a check of its own has failed
+    checks: Checks,
 }
 
 /// The log's file, open to be read. None if there is no log.
@@ -61,7 +64,8 @@ impl<'a, R: HostFiles> ImageFolder<'a, R> {
     /// has a second name, by which it would have another log.
     pub fn new(rt: &'a R, names: &'a LogNames, image: R::File) -> io::Result<ImageFolder<'a, R>>
         requires { MayKeepLogOf R.rights rt.now (string_bytes names.now.image) }
-        ensures { IfOk result (λ folder. (folder.at.rt.now ≡ rt.now) × (folder.at.names.now ≡ names.now) × (folder.at.image ≡ image)) }
+        ensures { IfOk result (λ folder. (folder.at.rt.now ≡ rt.now) × (folder.at.names.now ≡ names.now) × (folder.at.image ≡ image)
+            × (folder.checks.failed ≡ false)) }
     {
         if regular(OpenFile::metadata(&image))?.nlink() > 1 {
             return Err(io::ErrorKind::InvalidInput.into());
@@ -70,53 +74,43 @@ impl<'a, R: HostFiles> ImageFolder<'a, R> {
             at: HostFolder { rt, names, image },
             log: None,
             tags: false,
+            checks: Checks::new(),
         })
     }
 
     /// The same for a service, which tags IMAGE once its log has its name, and that is synced.
     pub fn tagging(mut self) -> ImageFolder<'a, R>
-        ensures { result.at ≡ self.entry.at }
+        ensures at { result.at ≡ self.entry.at }
+        ensures checks { result.checks ≡ self.entry.checks }
+        ensures tags { result.tags ≡ true }
     {
         self.tags = true;
         self
     }
 
     /// An open file as the log, or as one in the making that hasn't its name yet.
-    fn log_of(&self, file: R::File, named: bool) -> io::Result<SystemLog<'a, R>>
-        ensures { IfOk result (λ log. log.file ≡ file) }
+    fn log_of(&self, file: R::File, identity: Identity, named: bool) -> SystemLog<'a, R>
+        ensures { result.file ≡ file }
     {
-        let identity = identity_of(&file)?;
-        Ok(SystemLog {
+        SystemLog {
             rt: self.at.rt,
             name: self.at.names.log(),
             file,
             identity,
             named: Cell::new(named),
-        })
-    }
-
-    /// Takes this file for the log. An error if another one was that.
-    fn know(&mut self, log: Identity) -> io::Result<()>
-        ensures { self.new.at ≡ self.old.at }
-    {
-        let known = self.log;
-        if known.is_some() && known != Some(log) {
-            return Err(io::ErrorKind::NotFound.into());
+            checks: Checks::new(),
         }
-        self.log = Some(log);
-        Ok(())
     }
 
-    /// An error if the log's name doesn't lead to the log, or if there is none and the name leads to a file.
-    fn see_log(&self) -> io::Result<()> {
-        see_log(self.at.rt, self.at.names.log(), self.log)
+    /// Takes this open file for the log. `NotFound` if another one was that.
+    fn know(&mut self, file: &R::File) -> io::Result<Identity>
+        ensures at { self.new.at ≡ self.old.at }
+        ensures counted { IsCounted self.old.checks self.new.checks result }
+    {
+        let identity = self.checks.identity_of(file, self.log)?;
+        self.log = Some(identity);
+        Ok(identity)
     }
-}
-
-/// Which file an open log is, as long as a log.
-fn identity_of<F: OpenFile>(file: &F) -> io::Result<Identity> {
-    let found = OpenFile::metadata(file)?;
-    Ok(Identity::sized(&found, LOG_BYTES as u64))
 }
 
 impl<R: HostLogs> ImageFolder<'_, R> {
@@ -128,11 +122,10 @@ impl<R: HostLogs> ImageFolder<'_, R> {
         ensures acts { Acts (untagged_folders R.folders _ _ _) self.old self.new (with_sector 357 sector.now)
             (IsImageWritten 357 sector.now) result }
         ensures lent { (untagged_folders R.folders _ _ _).lent self.new ≡ (untagged_folders R.folders _ _ _).lent self.old }
+        ensures kept { OnOk result (IsNow (R.folders _ _ _) self.old.at self.new.at (λ s t. HasTag s.image → HasTag t.image)) }
     {
         let mut bytes = *sector;
-        if !keep_tag(before, &mut bytes) {
-            return Err(io::ErrorKind::InvalidData.into());
-        }
+        self.checks.keep_tag(before, &mut bytes)?;
         R::write_sector(&mut self.at, TAGGED, &bytes)
     }
 
@@ -143,6 +136,7 @@ impl<R: HostLogs> ImageFolder<'_, R> {
         requires tag { (torn : List ℕ) → IsTorn before.now sector.now torn → untagged torn ≡ untagged before.now }
         ensures acts { Acts (untagged_folders R.folders _ _ _) self.old self.new (λ s. s) Same result }
         ensures lent { (untagged_folders R.folders _ _ _).lent self.new ≡ (untagged_folders R.folders _ _ _).lent self.old }
+        ensures is { OnOk result (HasSector (R.folders _ _ _) self.old.at self.new.at 357 (λ bytes. bytes ≡ sector.now)) }
     {
         R::write_sector(&mut self.at, TAGGED, sector)?;
         R::sync_image(&mut self.at)
@@ -152,10 +146,14 @@ impl<R: HostLogs> ImageFolder<'_, R> {
     fn put_tag(&mut self) -> io::Result<()>
         ensures acts { Acts (untagged_folders R.folders _ _ _) self.old self.new (λ s. s) Same result }
         ensures lent { (untagged_folders R.folders _ _ _).lent self.new ≡ (untagged_folders R.folders _ _ _).lent self.old }
+        ensures tagged { OnOk result (HasSector (R.folders _ _ _) self.old.at self.new.at 357 IsTaggedIfRoom) }
     {
         let before = R::read_synced(&mut self.at, TAGGED)?;
         let mut sector = before;
-        if set_tag(&mut sector) && sector != before {
+        if !set_tag(&mut sector) {
+            return Ok(());
+        }
+        if sector != before {
             return self.change_tag(&before, &sector);
         }
         Ok(())
@@ -163,7 +161,8 @@ impl<R: HostLogs> ImageFolder<'_, R> {
 
     /// Takes the tag off IMAGE, and syncs that. At an error a part of it may be there, which counts as the tag.
     fn take_off(&mut self) -> io::Result<()>
-        ensures { Acts (untagged_folders R.folders _ _ _) self.old self.new (λ s. s) Same result }
+        ensures acts { Acts (untagged_folders R.folders _ _ _) self.old self.new (λ s. s) Same result }
+        ensures untagged { OnOk result (HasSector (R.folders _ _ _) self.old.at self.new.at 357 (λ bytes. ¬ (IsTagged bytes))) }
     {
         let before = R::read_synced(&mut self.at, TAGGED)?;
         let mut sector = before;
@@ -180,6 +179,12 @@ impl<'a, R: HostLogs> LogFolder<SystemLog<'a, R>> for ImageFolder<'a, R> {
     ghost history = { untagged_folders R.folders _ _ _ };
 
     ghost IsAway = { λ _ file. IsMissing R.stands file.rt.now file.name.now };
+
+    ghost IsTagged = { λ old new. old.tags ≡ true → HasSector (R.folders _ _ _) old.at new.at 357 IsTaggedIfRoom };
+
+    ghost KeepsTag = { λ old new. IsNow (R.folders _ _ _) old.at new.at (λ s t. HasTag s.image → HasTag t.image) };
+
+    ghost IsUntagged = { λ old new. IsNow (R.folders _ _ _) old.at new.at (λ s t. ¬ (HasTag t.image)) };
 
     fn read_image(&mut self, image: &mut [[u8; 256]]) -> io::Result<()> {
         R::read_image(&mut self.at, image)?;
@@ -202,38 +207,44 @@ impl<'a, R: HostLogs> LogFolder<SystemLog<'a, R>> for ImageFolder<'a, R> {
     fn read_log(&mut self) -> io::Result<Option<ReadLog<'a, R>>> {
         match R::read_log(&mut self.at)? {
             Some(log) => {
-                self.know(identity_of(&log.log.file)?)?;
+                self.know(&log.log.file)?;
                 Ok(Some(log))
             }
             None => Ok(None),
         }
     }
 
-    fn leave_log(&mut self, _log: ReadLog<'a, R>) {}
+    fn leave_log(&mut self, log: ReadLog<'a, R>) {
+        R::leave_log(&mut self.at, &log);
+    }
 
     fn open_log(&mut self) -> io::Result<SystemLog<'a, R>> {
         let file = R::open_log(&mut self.at)?;
-        let log = self.log_of(file, true)?;
-        self.know(log.identity)?;
-        Ok(log)
+        let identity = self.know(&file)?;
+        Ok(self.log_of(file, identity, true))
     }
 
     fn close_log(&mut self, file: SystemLog<'a, R>) -> io::Result<()> {
         let mut file = file;
         R::return_log(&mut self.at, &mut file.file)?;
-        file.see_name()
+        self.checks.take(&file.checks)?;
+        self.checks.see_file(file.rt, file.name, file.identity)
     }
 
     fn make_log(&mut self) -> io::Result<SystemLog<'a, R>> {
-        let like = OpenFile::metadata(&self.at.image)?;
-        let file = R::make_log(&mut self.at, &like)?;
-        self.log_of(file, false)
+        let file = R::make_log(&mut self.at)?;
+        let identity = self.checks.identity_of(&file, None)?;
+        Ok(self.log_of(file, identity, false))
     }
 
-    fn leave_making(&mut self, _file: SystemLog<'a, R>) {}
+    fn leave_making(&mut self, file: SystemLog<'a, R>) {
+        let _ = self.checks.take(&file.checks);
+        R::leave_making(&mut self.at, file.file);
+    }
 
     fn name_log(&mut self, file: &SystemLog<'a, R>) -> io::Result<()> {
-        self.see_log()?;
+        let (rt, name) = (self.at.rt, self.at.names.log());
+        self.checks.see_log(rt, name, self.log)?;
         R::name_log(&mut self.at, &file.file)?;
         self.log = Some(file.identity);
         file.named.set(true);
@@ -248,7 +259,8 @@ impl<'a, R: HostLogs> LogFolder<SystemLog<'a, R>> for ImageFolder<'a, R> {
     }
 
     fn remove_log(&mut self) -> io::Result<()> {
-        self.see_log()?;
+        let (rt, name) = (self.at.rt, self.at.names.log());
+        self.checks.see_log(rt, name, self.log)?;
         self.take_off()?;
         self.log = None;
         R::remove_log(&mut self.at)

@@ -53,6 +53,7 @@ impl<F: LogFile, D: LogFolder<F> + Drop> LiveLog<F, D> {
             → AllLeft D.history folder (IsBrought shop.items) → IsBeginning D.history folder live (IsBrought shop.items)) }
         // it takes a commit
         ensures room { IfOk result (λ live. (of_live D.history).is_over live ≡ false) }
+        ensures tagged { IfOk result (λ live. (named : D) × D.IsTagged named live.folder) }
         ensures err { IfErr result (λ e. (s : Folder) → D.history.held folder ≡ Some s
             → AllLeft D.history folder (IsBrought shop.items)
             → LeavesFolders D.history folder e.1 (IsBrought shop.items)) }

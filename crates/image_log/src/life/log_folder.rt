@@ -1,5 +1,5 @@
 //! The folder in which an image stands, as its log's life sees it.
-ghost use Rattle.std.specs.Prelude.{◌≡◌, ◌<◌, [], IfOk, IsErr, List, None, OnErr, OnOk, Some, length, true, ℕ};
+ghost use Rattle.std.specs.Prelude.{◌≡◌, ◌<◌, [], IfOk, IsErr, List, None, OnErr, OnOk, Some, length, true, ℕ, ⊤};
 ghost use Rattle.image_log.specs.life.Folders.{Acts, Brings, Folder, FolderHistory, HasImage, HasNames, IsGivenUp, IsImageWritten, IsMaking, IsNaming, IsRemoving, IsReturned, LogOf, Same, being_made, named, unlogged, with_sector};
 ghost use Rattle.image_log.specs.Files.{Only};
 ghost use Rattle.image_log.specs.Readers.{IsOpened};
@@ -21,6 +21,13 @@ pub trait LogFolder<F: LogFile> {
     // it is known that the log's name doesn't lead to this open file, which is the log
     ghost IsAway: { Self → F → Type 0 } = { λ _ _. ⊥ };
 
+    // from the one to the other, IMAGE got the tag, kept it, or lost it
+    ghost IsTagged: { Self → Self → Type 0 } = { λ _ _. ⊤ };
+
+    ghost KeepsTag: { Self → Self → Type 0 } = { λ _ _. ⊤ };
+
+    ghost IsUntagged: { Self → Self → Type 0 } = { λ _ _. ⊤ };
+
     /// Reads the 683 sectors of IMAGE.
     fn read_image(&mut self, image: &mut [[u8; 256]]) -> io::Result<()>
         requires sized { length image.old ≡ 683 }
@@ -33,7 +40,8 @@ pub trait LogFolder<F: LogFile> {
     fn write_sector(&mut self, index: usize, sector: &[u8; 256]) -> io::Result<()>
         requires within { index < 683 }
         ensures acts { Acts history self.old self.new (with_sector index sector.now) (IsImageWritten index sector.now) result }
-        ensures lent { history.lent self.new ≡ history.lent self.old };
+        ensures lent { history.lent self.new ≡ history.lent self.old }
+        ensures kept { OnOk result (KeepsTag self.old self.new) };
 
     /// Syncs IMAGE.
     fn sync_image(&mut self) -> io::Result<()>
@@ -82,11 +90,13 @@ pub trait LogFolder<F: LogFile> {
     /// Says in IMAGE that its log has the rest of it, if the folder does that; of what it holds nothing changes.
     fn tag(&mut self) -> io::Result<()>
         ensures acts { Acts history self.old self.new (λ s. s) Same result }
-        ensures lent { history.lent self.new ≡ history.lent self.old };
+        ensures lent { history.lent self.new ≡ history.lent self.old }
+        ensures tagged { OnOk result (IsTagged self.old self.new) };
 
-    /// Takes away the log's name.
+    /// Takes away the log's name, and what `tag` said in IMAGE.
     fn remove_log(&mut self) -> io::Result<()>
-        ensures { Acts history self.old self.new unlogged IsRemoving result };
+        ensures acts { Acts history self.old self.new unlogged IsRemoving result }
+        ensures untagged { OnOk result (IsUntagged self.old self.new) };
 
     /// Syncs the names.
     fn sync_folder(&mut self) -> io::Result<()>

@@ -26,6 +26,7 @@ pub(crate) fn make_new<F: LogFile, D: LogFolder<F>>(
     ensures ok { IfOk result (λ log. (s : Folder) → D.history.held folder.old ≡ Some s → s.image ≡ shop.now
         → AllLeft D.history folder.old (IsBrought shop.now) → IsServing D.history folder.new log shop.now) }
     ensures room { IfOk result (λ log. takes_none log ≡ false) }
+    ensures tagged { IfOk result (λ log. (named : D) × D.IsTagged named folder.new) }
     // an error is returned only after a failure of the folder, or of the log's file
     ensures cause { OnErr result (D.history.has_failed folder.new ≡ true) }
 {

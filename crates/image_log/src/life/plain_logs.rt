@@ -12,7 +12,7 @@ use crate::life::read_log::ReadLog;
 use crate::life::tagged_files::read_sector;
 use crate::log_reader::LogReader;
 use image_file::{EndedFile, PlainFiles, WritesAt, opened_to_change, private_mode};
-use std::fs::Metadata;
+use std::fs::OpenFile;
 use std::io;
 
 // Nothing is known of what the files of a system hold: they are trusted to satisfy these contracts.
@@ -64,6 +64,8 @@ where
         }
     }
 
+    fn leave_log(_folder: &mut HostFolder<'_, R>, _log: &ReadLog<'_, R>) {}
+
     fn open_log(folder: &mut HostFolder<'_, R>) -> io::Result<R::File> {
         opened_to_change(folder.rt, folder.names.log())
     }
@@ -72,14 +74,17 @@ where
         Ok(())
     }
 
-    fn make_log(folder: &mut HostFolder<'_, R>, like: &Metadata) -> io::Result<R::File> {
+    fn make_log(folder: &mut HostFolder<'_, R>) -> io::Result<R::File> {
+        let like = OpenFile::metadata(&folder.image)?;
         forget_making(folder.rt, folder.names)?;
         let file = folder
             .rt
-            .make_file(folder.names.making(), private_mode(like))?;
-        file.guard_as(like);
+            .make_file(folder.names.making(), private_mode(&like))?;
+        file.guard_as(&like);
         Ok(file)
     }
+
+    fn leave_making(_folder: &mut HostFolder<'_, R>, _file: R::File) {}
 
     fn name_log(folder: &mut HostFolder<'_, R>, _file: &R::File) -> io::Result<()> {
         folder.rt.rename(folder.names.making(), folder.names.log())

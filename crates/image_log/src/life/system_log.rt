@@ -1,12 +1,10 @@
 //! A log's file of the system.
-ghost use Rattle.std.specs.Prelude.{IsErr};
 ghost use Rattle.std.proofs.Props.{props};
 ghost use Rattle.image_file.specs.paths.Rights.{Look, May};
-ghost use Rattle.image_file.specs.paths.Standing.{IsMissing};
 ghost use Rattle.image_log.specs.life.Untagged.{asked_in};
 
+use crate::life::checks::Checks;
 use crate::life::host_logs::HostLogs;
-use crate::life::log_names::see_file;
 use crate::log_file::LogFile;
 use image_file::{HostFiles, Identity};
 use std::cell::Cell;
@@ -26,21 +24,14 @@ pub struct SystemLog<'a, R: HostFiles> {
     pub(crate) identity: Identity,
     // whether it has the name
     pub(crate) named: Cell<bool>,
+    // whether a check of its name has failed
+    pub(crate) checks: Checks,
     // the log's name may be looked at
     ghost looks: { May R.rights rt.now Look name.now } by { Prim.hlevel props },
 }
 
-impl<R: HostFiles> SystemLog<'_, R> {
-    /// An error if the log's name leads to another file, to none, or to one that isn't as long as a log.
-    pub(crate) fn see_name(&self) -> io::Result<()>
-        ensures { IsMissing R.stands self.now.rt.now self.now.name.now → IsErr result }
-    {
-        see_file(self.rt, self.name, self.identity)
-    }
-}
-
 impl<R: HostLogs> LogFile for SystemLog<'_, R> {
-    ghost history = { asked_in (λ log. log.file) R.logs };
+    ghost history = { asked_in (λ log. log.file) (λ log. log.checks.failed) R.logs };
 
     fn write_at(&mut self, at: usize, bytes: &[u8]) -> io::Result<()> {
         R::write_at(&mut self.file, at, bytes)
@@ -55,6 +46,6 @@ impl<R: HostLogs> LogFile for SystemLog<'_, R> {
             return R::sync_log(&mut self.file);
         }
         R::sync_bytes(&mut self.file)?;
-        self.see_name()
+        self.checks.see_file(self.rt, self.name, self.identity)
     }
 }

@@ -107,6 +107,7 @@ pub(crate) fn keep_tag(before: &[u8; 256], sector: &mut [u8; 256]) -> bool
     ensures is { IsTrue result → untagged sector.new ≡ sector.old }
     ensures torn { IsTrue result → (torn : List ℕ) → IsTorn before.now sector.new torn
         → IsTorn (untagged before.now) sector.old (untagged torn) }
+    ensures kept { IsTrue result → IsTagged before.now → IsTagged sector.new }
 {
     if is_tagged(before) {
         if !has_no_tag(sector) {

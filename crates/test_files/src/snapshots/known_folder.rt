@@ -5,7 +5,6 @@ ghost use Rattle.test_files.specs.KnownFolders.{log_files, snapshot_log_bytes, t
 use crate::snapshots::host::Snapshot;
 use crate::snapshots::open_file::SnapshotFile;
 use image_log::{HostFolder, HostLogs, LogFile, LogFolder, LogReader, MemLog, OpenLog, ReadLog};
-use std::fs::Metadata;
 use std::io::{self, ErrorKind};
 use std::mem;
 
@@ -82,6 +81,8 @@ impl<'s> HostLogs for Snapshot<'s> {
         }
     }
 
+    fn leave_log(_folder: &mut HostFolder<'_, Snapshot<'s>>, _log: &ReadLog<'_, Snapshot<'s>>) {}
+
     fn open_log(folder: &mut HostFolder<'_, Snapshot<'s>>) -> io::Result<SnapshotFile<'s>> {
         let rt = folder.rt;
         let log = match &mut folder.image.folder {
@@ -102,16 +103,19 @@ impl<'s> HostLogs for Snapshot<'s> {
         }
     }
 
-    fn make_log(
-        folder: &mut HostFolder<'_, Snapshot<'s>>,
-        _like: &Metadata,
-    ) -> io::Result<SnapshotFile<'s>> {
+    fn make_log(folder: &mut HostFolder<'_, Snapshot<'s>>) -> io::Result<SnapshotFile<'s>> {
         let rt = folder.rt;
         let log = match &mut folder.image.folder {
             Some(known) => known.make_log()?,
             None => return Err(unknown()),
         };
         Ok(SnapshotFile::of_log(rt.alloc, rt.store, log))
+    }
+
+    fn leave_making(folder: &mut HostFolder<'_, Snapshot<'s>>, file: SnapshotFile<'s>) {
+        if let Some(known) = &mut folder.image.folder {
+            known.leave_making(file.log);
+        }
     }
 
     fn name_log(

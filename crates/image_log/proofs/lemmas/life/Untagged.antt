@@ -1,57 +1,62 @@
 -- What is known of a folder is known of it without the tag of IMAGE.
-use Rattle.std.proofs.Common.{◌≡◌, ◌∙◌, ℕ, List, [], ap, arith, inl, inr, refl, subst, sym, true, ⊎_elim}
-use Rattle.std.proofs.lemmas.Bool.{false≢true}
+use Rattle.std.proofs.Common.{◌≡◌, ◌∙◌, Bool, ℕ, List, [], ap, false, inl, inr, refl, subst, sym, true, ⊎_elim}
 use Rattle.std.proofs.lemmas.Option.{none-some, same_Some}
-use Rattle.std.specs.Prelude.{Err, IsErr, None, Ok, OnErr, OnOk, Option, Result, Some, length, option_map, slice_index_or}
-use Rattle.image_log.specs.Files.{FileHistory, Lengthens, NotesFailure, Only, SyncsBytes, WritesBytes}
-use Rattle.image_log.specs.life.Folders.{Acts, AllLeft, Brings, CountsFailure, Folder, FolderHistory, IsGivenUp, IsImageWritten, IsReturned, LeavesSector, LogOf, Passes, Same, with_log, with_sector}
+use Rattle.std.specs.Prelude.{if◌then◌else◌, IsErr, None, OnErr, OnOk, Option, Result, Some, length, option_map, slice_index_or}
+use Rattle.image_log.specs.life.Folders.{Acts, AllLeft, Brings, CountsFailure, Folder, FolderHistory, IsGivenUp, IsImageWritten, LeavesSector, Passes, Same, with_sector}
 use Rattle.image_log.specs.life.Mixes.{IsTorn}
 use Rattle.image_log.specs.life.Tags.{untagged}
-use Rattle.image_log.specs.life.Untagged.{asked_in, untagged_folder, untagged_in}
+use Rattle.image_log.specs.life.Untagged.{untagged_folder, untagged_in}
 use Rattle.image_log.proofs.lemmas.life.Mixed.{unwritten}
-use Rattle.image_log.proofs.lemmas.life.Tagged.{same_set, same_step, tagged_set, tagged_step}
-use Rattle.image_log.proofs.lemmas.life.Times.{on_ok}
-
-at_err : {T E : Type 0} (r : Result T E) → OnErr r (true ≡ true)
-at_err (Ok x) = tt
-at_err (Err e) = refl
-
-at_ok : {T E : Type 0} (r : Result T E) → OnOk r (true ≡ true)
-at_ok (Ok x) = refl
-at_ok (Err e) = tt
-
-pub always : {T E : Type 0} (P : Type 0) (r : Result T E) → P → OnOk r P
-always P (Ok x) p = p
-always P (Err e) p = tt
-
-pub not_ok : {T E : Type 0} (P : Type 0) (r : Result T E) → IsErr r → OnOk r P
-not_ok P (Ok x) is = absurd (false≢true is)
-not_ok P (Err e) is = tt
-
-both_ok : {T E : Type 0} (A B C : Type 0) (r : Result T E) → (A → B → C) → OnOk r A → OnOk r B → OnOk r C
-both_ok A B C (Ok x) f a b = f a b
-both_ok A B C (Err e) f a b = tt
+use Rattle.image_log.proofs.lemmas.life.TaggedImages.{same_set, same_step, tagged_set, tagged_step}
+use Rattle.image_log.proofs.lemmas.life.Times.{on_err, on_ok}
+use Rattle.image_log.proofs.lemmas.life.Failing.{always, both_ok, failing, not_ok, or_false, or_left, or_right, or_same, or_true}
 
 -- what is held without the tag is held with it
 pub raw : (o : Option Folder) (t : Folder) → option_map untagged_folder o ≡ Some t → (s : Folder) × (o ≡ Some s) × (untagged_folder s ≡ t)
 raw None t is = absurd (none-some t is)
 raw (Some s) t is = (s, refl, same_Some (untagged_folder s) t is)
 
-module _ {E D : Type 0} (inner : E → D) (h : FolderHistory D) where
+module _ {E D : Type 0} (inner : E → D) (failed : E → Bool) (h : FolderHistory D) where
   abbrev H : FolderHistory E
-  H = untagged_in inner h
+  H = untagged_in inner failed h
 
-  counts : {T X : Type 0} (a b : E) (r : Result T X) → CountsFailure H a b r
-  counts a b r = record { failed = at_err r; passed = at_ok r }
+  counts : {T X : Type 0} (a b : E) (r : Result T X) → failed b ≡ failed a → CountsFailure h (inner a) (inner b) r
+      → CountsFailure H a b r
+  counts a b r same there = record {
+    failed = on_err (h.has_failed (inner b) ≡ true) (H.has_failed b ≡ true) r (or_right (failed b) (h.has_failed (inner b)))
+        there.failed;
+    passed = on_ok (h.has_failed (inner b) ≡ h.has_failed (inner a)) (H.has_failed b ≡ H.has_failed a) r
+        (or_same (failed a) (failed b) (h.has_failed (inner a)) (h.has_failed (inner b)) same) there.passed;
+  }
 
-  passes : (a b : E) → Passes h (inner a) (inner b) → Passes H a b
+  -- a check was made
+  pub checked : {T X : Type 0} (a b : E) (r : Result T X) → h.has_failed (inner b) ≡ h.has_failed (inner a)
+      → OnErr r (failed b ≡ true) → OnOk r (failed b ≡ failed a) → CountsFailure H a b r
+  checked a b r same err ok = record {
+    failed = on_err (failed b ≡ true) (H.has_failed b ≡ true) r (or_left (failed b) (h.has_failed (inner b))) err;
+    passed = on_ok (failed b ≡ failed a) (H.has_failed b ≡ H.has_failed a) r
+        (λ is. or_same (failed a) (failed b) (h.has_failed (inner a)) (h.has_failed (inner b)) is same) ok;
+  }
+
+  -- a check has failed
+  pub fails : (e : E) → failed e ≡ true → H.has_failed e ≡ true
+  fails e is = or_left (failed e) (h.has_failed (inner e)) is
+
+  -- a call before failed
+  pub failed_before : {T X : Type 0} (a b : E) (r : Result T X) → IsErr r → H.has_failed b ≡ true → CountsFailure H a b r
+  failed_before a b r err is = record {
+    failed = failing (H.has_failed b ≡ true) r is;
+    passed = not_ok (H.has_failed b ≡ H.has_failed a) r err;
+  }
+
+  pub passes : (a b : E) → Passes h (inner a) (inner b) → Passes H a b
   passes a b time = record {
     later = time.later;
     nothing_else = λ t s le left. ⊎_elim (λ old. inl (left.0, old, left.2)) (λ new. inr (left.0, new, left.2))
         (time.nothing_else t left.0 le left.1);
   }
 
-  module _ (a b : E) where
+  module _ (a b : E) (same_checks : failed b ≡ failed a) where
     held_on : {T X : Type 0} (to to2 : Folder → Folder) (r : Result T X)
         → OnOk r ((s : Folder) → h.held (inner a) ≡ Some s → untagged_folder (to s) ≡ to2 (untagged_folder s))
         → OnOk r ((s : Folder) → h.held (inner a) ≡ Some s → h.held (inner b) ≡ Some (to s))
@@ -75,7 +80,7 @@ module _ {E D : Type 0} (inner : E → D) (h : FolderHistory D) where
           let x = there.outcomes may.0 may.1 in
           (untagged_folder x.0, (x.0, x.1, refl), subst (step2 (untagged_folder x.0)) (sym may.2) (steps x.0 may.0 x.1 x.2));
       time = passes a b there.time;
-      failures = counts a b r;
+      failures = counts a b r same_checks there.failures;
     }
 
     -- also where a power loss may leave anything
@@ -87,7 +92,7 @@ module _ {E D : Type 0} (inner : E → D) (h : FolderHistory D) where
       ok = held_on to to2 r same there.ok;
       outcomes = λ s may. (s, (may.0, any may.0, may.2), still s);
       time = passes a b there.time;
-      failures = counts a b r;
+      failures = counts a b r same_checks there.failures;
     }
 
     -- one that changes nothing of IMAGE
@@ -148,153 +153,16 @@ module _ {E D : Type 0} (inner : E → D) (h : FolderHistory D) where
           there.ok;
       outcomes = λ s may. (may.0, there.outcomes may.0 may.1, may.2);
       time = passes a b there.time;
-      failures = counts a b r;
+      failures = counts a b r same_checks there.failures;
     }
 
-    -- nothing was done, and a file may have failed
-    pub given_up : inner a ≡ inner b → (has_failed : _) → IsGivenUp H a b has_failed
-    given_up same has_failed =
-        let idle : Passes h (inner a) (inner b) = subst (λ (d : D). Passes h (inner a) d) same (record {
-          later = omega arith;
-          nothing_else = λ t s le left. inl left;
-        }) in
-        record {
-          held = ap (λ (d : D). option_map untagged_folder (h.held d)) (sym same);
-          outcomes = λ s may. (may.0, subst (λ (d : D). h.may_leave d may.0) (sym same) may.1, may.2);
-          time = passes a b idle;
-          failed = λ is. refl;
-          passed = λ is. refl;
-        }
-
-  module _ {L F : Type 0} (file_of : L → F) (g : FileHistory F) where
-    pub log_of : (a : E) (l : L) → LogOf h g (inner a) (file_of l) → LogOf H (asked_in file_of g) a l
-    log_of a l there = record {
-      held = λ t f held is.
-          let s = raw (h.held (inner a)) t held in
-          there.held s.0 f s.1 (ap (λ (x : Folder). x.log) s.2 ∙ is);
-      left = λ c may. let s = there.left c may in (untagged_folder s.0, (s.0, s.1, refl), s.2);
-    }
-
-    pub returned : {X Y : Type 0} (a b : E) (l : L) (r : Result Unit X) (r2 : Result Unit Y)
-        → OnOk r2 ((s : Folder) (f : List ℕ) → h.held (inner a) ≡ Some s → g.held (file_of l) ≡ Some f
-        → h.held (inner b) ≡ Some (with_log f s))
-        → IsReturned h g (inner a) (inner b) (file_of l) r → IsReturned H (asked_in file_of g) a b l r2
-    returned a b l r r2 held there = record {
-      held = on_ok
-          ((s : Folder) (f : List ℕ) → h.held (inner a) ≡ Some s → g.held (file_of l) ≡ Some f
-          → h.held (inner b) ≡ Some (with_log f s))
-          ((s : Folder) (f : List ℕ) → H.held a ≡ Some s → g.held (file_of l) ≡ Some f → H.held b ≡ Some (with_log f s)) r2
-          (λ is t f was there.
-          let s = raw (h.held (inner a)) t was in
-          ap (option_map untagged_folder) (is s.0 f s.1 there) ∙ ap Some (ap (with_log f) s.2))
-          held;
-      outcomes = λ t may.
-          let x = there.outcomes may.0 may.1 in (
-            untagged_folder x.0,
-            (x.0, x.1, refl),
-            ⊎_elim (λ same. inl (may.2 ∙ ap untagged_folder same.0, same.1))
-                (λ put. inr (put.0, put.1, may.2 ∙ ap untagged_folder put.2)) x.2,
-          );
-      later = there.later;
-      counted = λ t was. let s = raw (h.held (inner a)) t was in there.counted s.0 s.1;
-      since = λ t s le left.
-          ⊎_elim
-          (λ lent. inl (⊎_elim (λ old. inl (old.0, (left.0, old.1, left.2)))
-          (λ put. inr (untagged_folder put.0, (put.0, put.1, refl), put.2, put.3, left.2 ∙ ap untagged_folder put.4)) lent))
-          (λ now. inr (left.0, now, left.2))
-          (there.since t left.0 le left.1);
-      failures = counts a b r2;
-      file_failures = λ failed. refl;
-    }
-
-  -- a call whose result is another one
-  pub answered : {T X T2 X2 : Type 0} (a b : E) (to : Folder → Folder) (step : Folder → Folder → Type 0) (r : Result T X)
-      (r2 : Result T2 X2) → OnOk r2 ((s : Folder) → H.held a ≡ Some s → H.held b ≡ Some (to s)) → Acts H a b to step r
-      → Acts H a b to step r2
-  answered a b to step r r2 ok one = record { ok = ok; outcomes = one.outcomes; time = one.time; failures = counts a b r2 }
-
-  -- the call before changed nothing
-  pub behind : {T X T2 X2 : Type 0} (a b c : E) (to : Folder → Folder) (step : Folder → Folder → Type 0) (r : Result T X)
-      (r2 : Result T2 X2) → ((s : Folder) → H.held a ≡ Some s → H.held b ≡ Some s) → Acts H a b (λ s. s) Same r
-      → Acts H b c to step r2 → Acts H a c to step r2
-  behind a b c to step r r2 same one two = record {
-    ok = on_ok ((s : Folder) → H.held b ≡ Some s → H.held c ≡ Some (to s)) ((s : Folder) → H.held a ≡ Some s → H.held c ≡ Some (to s))
-        r2 (λ ok s held. ok s (same s held)) two.ok;
-    outcomes = λ s may.
-        let x = two.outcomes s may in
-        let y = one.outcomes x.0 x.1 in
-        (y.0, y.1, subst (λ (from : Folder). step from s) y.2 x.2);
-    time = record {
-      later = omega (arith, one.time.later, two.time.later);
-      nothing_else = λ t s le left. ⊎_elim
-          (λ mid. ⊎_elim (λ old. inl old)
-          (λ may. let y = one.outcomes s may in inl (subst (λ (u : Folder). H.left_since a t u) (sym y.2) (H.now a t y.0 le y.1)))
-          (one.time.nothing_else t s le mid))
-          (λ now. inr now)
-          (two.time.nothing_else t s (omega (arith, le, one.time.later)) left);
-    };
-    failures = counts a c r2;
-  }
-
-  -- or it failed
-  pub early : {T X T2 X2 : Type 0} (a b : E) (to : Folder → Folder) (step : Folder → Folder → Type 0) (r : Result T X)
-      (r2 : Result T2 X2) → IsErr r2 → ((s : Folder) → step s s) → Acts H a b (λ s. s) Same r → Acts H a b to step r2
-  early a b to step r r2 err still one = record {
-    ok = not_ok _ r2 err;
-    outcomes = λ s may. let x = one.outcomes s may in (x.0, x.1, subst (step x.0) (sym x.2) (still x.0));
-    time = one.time;
-    failures = counts a b r2;
-  }
-
-  -- nothing was done
-  pub idle : {T X : Type 0} (a : E) (r : Result T X) → Acts H a a (λ s. s) Same r
-  idle a r = record {
-    ok = always _ r (λ s held. held);
-    outcomes = λ s may. (s, may, refl);
-    time = record { later = omega arith; nothing_else = λ t s le left. inl left };
-    failures = counts a a r;
-  }
-
-  -- a sync is a call that changes nothing
-  pub synced : {X : Type 0} (a b : E) (P : Folder → Folder → Type 0) (r : Result Unit X) → Brings H a b P r → Acts H a b (λ s. s) Same r
-  synced a b P r there = record {
-    ok = always _ r (λ s held. there.held ∙ held);
-    outcomes = λ s may. (s, there.outcomes s may, refl);
-    time = there.time;
-    failures = counts a b r;
-  }
-
-  -- and failed
-  pub undone : {T X : Type 0} (a : E) (to : Folder → Folder) (step : Folder → Folder → Type 0) (r : Result T X) → IsErr r
-      → ((s : Folder) → step s s) → Acts H a a to step r
-  undone a to step r err still = early a a to step r r err still (idle a r)
-
--- a file whose name may be looked at
-module _ {L F : Type 0} (file_of : L → F) (g : FileHistory F) (a b : L) where
-  notes : {T X : Type 0} (r : Result T X) → NotesFailure (asked_in file_of g) a b r
-  notes r = record { failed = at_err r; passed = at_ok r }
-
-  pub writes : {T X : Type 0} (at : ℕ) (bytes : List ℕ) (r : Result T X) → WritesBytes g (file_of a) (file_of b) at bytes r
-      → WritesBytes (asked_in file_of g) a b at bytes r
-  writes at bytes r there = record {
-    ok = there.ok;
-    unknown = there.unknown;
-    torn = there.torn;
-    time = record { later = there.time.later; nothing_else = there.time.nothing_else };
-    failures = notes r;
-  }
-
-  pub lengthens : {T X : Type 0} (size : ℕ) (r : Result T X) → Lengthens g (file_of a) (file_of b) size r
-      → Lengthens (asked_in file_of g) a b size r
-  lengthens size r there = record { ok = there.ok; unknown = there.unknown; failures = notes r }
-
-  pub syncs : {T X T2 X2 : Type 0} (r : Result T X) (r2 : Result T2 X2)
-      → OnOk r2 ((f : List ℕ) → g.held (file_of a) ≡ Some f → Only f (g.may_leave (file_of b)))
-      → SyncsBytes g (file_of a) (file_of b) r → SyncsBytes (asked_in file_of g) a b r2
-  syncs r r2 ok there = record {
-    held = there.held;
-    ok = ok;
-    outcomes = there.outcomes;
-    time = record { later = there.time.later; nothing_else = there.time.nothing_else };
-    failures = notes r2;
+  -- a file was closed, which may have failed
+  pub given_up : (a b : E) (own theirs : Bool) → (own ≡ true → failed b ≡ true) → (own ≡ false → failed b ≡ failed a)
+      → IsGivenUp h (inner a) (inner b) theirs → IsGivenUp H a b (if own then true else theirs)
+  given_up a b own theirs fails passed there = record {
+    held = ap (option_map untagged_folder) there.held;
+    outcomes = λ s may. (may.0, there.outcomes may.0 may.1, may.2);
+    time = passes a b there.time;
+    failed = or_true own theirs (failed b) (h.has_failed (inner b)) fails there.failed;
+    passed = or_false own theirs (failed a) (failed b) (h.has_failed (inner a)) (h.has_failed (inner b)) passed there.passed;
   }

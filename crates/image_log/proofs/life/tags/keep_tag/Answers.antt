@@ -1,5 +1,6 @@
 -- The tag is kept, and what may be left of the sector on the way is the sector without it, or that before.
 use Rattle.image_log.proofs.lemmas.life.Tagged.{kept_off, kept_torn, low_as, never_letters, never_off, never_room, never_torn, room_as}
+use Rattle.image_log.proofs.lemmas.life.Told.{put_on}
 use Rattle.image_log.proofs.life.tags.keep_tag.Goals as goal
 
 pub returns-then-is_tagged-clause-is : goal.returns-then-is_tagged-clause-is
@@ -35,3 +36,6 @@ returns-then-lacks_letters-clause-torn c is =
     never_torn c.args.before.now c.args.sector.now
     (never_letters c.args.before.now c.args.sector.now (c.lacks_letters.ensures c.if-lacks_letters.true)
     (c.lacks_letters-then-lacks_letters.ensures is))
+
+pub returns-then-is_tagged-clause-kept : goal.returns-then-is_tagged-clause-kept
+returns-then-is_tagged-clause-kept c is tagged = put_on c.set_tag.new.sector (c.set_tag.ensures.put is)
