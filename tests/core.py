@@ -5,7 +5,7 @@ A definition rests on what its text names. The page has its text and its comment
 docs/definitions.txt; a Rust type has its declaration; of the kit's words the page has the names.
 
 Without words the page is written. With `--check` nothing is written, and the status is 1 where the page isn't up to date. In both
-cases the status is 1 where the page has more than LIMIT lines, or a definition has no sentence."""
+cases the status is 1 where a definition has no sentence."""
 
 import re
 import sys
@@ -33,14 +33,12 @@ ROOTS = (
     ("d64_image", "Sectors"),
     ("retry_safe", "retry_after_power_loss"),
 )
-# the most lines of code that the page may have
-LIMIT = 960
 INTRODUCTION = """# The core
 
 The headline is said by [the contracts](#the-contracts) at the end of this page: the device, and one call. They rest on the definitions above,
 and on no others of this repository. A definition stands before those that use it; an *example* is a theorem or a test that decides
 it. "The Guide" is the 1541 User's Guide; *the disk with STOCK* has one relative file of one block. [PROOF.md](PROOF.md) says how to
-read a contract, and what is trusted. `tests/core.py` makes this page, and fails if it grows past {limit:,} lines without comments.
+read a contract, and what is trusted. `tests/core.py` makes this page.
 """
 
 
@@ -174,9 +172,8 @@ def page():
     order = [key for keys in modules.values() for key in keys]
     all_shown = [*((key, known[key]) for key in order), *roots.items()]
     sizes = [(key[0], lines_of(key, it)) for key, it in all_shown]
-    lines = sum(size for _, size in sizes)
-    faults += [f"{lines} lines in the core, {LIMIT} at most"] * (lines > LIMIT) + faults_of(order, found, all_shown, side)
-    text = [INTRODUCTION.format(limit=LIMIT), *table(sizes), *kit_lines({word for _, it in all_shown for word in it.kit})]
+    faults += faults_of(order, found, all_shown, side)
+    text = [INTRODUCTION, *table(sizes), *kit_lines({word for _, it in all_shown for word in it.kit})]
     text += [*chapters(modules, known, side), "\n## The contracts"]
     for (crate, name), it in roots.items():
         text += [f"\n**`{name}`** of `{crate}`\n", "```rust", "\n".join([*it.comment, it.text]), "```"]

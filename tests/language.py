@@ -1,5 +1,5 @@
 #!/usr/bin/env python3
-"""Checks the language, links and length of the documents, and prints a line for each thing that it finds:
+"""Checks the language and links of the documents, and prints a line for each thing that it finds:
   tests/language.py [--counts] [FILE ..]
 
 Documents are README.md, CHANGELOG.md, SECURITY.md, releases/README.md, docs/*.md, crates/*/README.md and each page under examples/;
@@ -8,17 +8,16 @@ FILE names some of them. Of each it checks
   - the words of WORDS below, outside code and quotation marks;
   - links: the file is there, and so is the heading that an anchor, or the name in italics after a link, refers to;
   - file names in backticks that begin with a folder of this repository;
-  - that README.md has at most README_LIMIT words, and that each subcommand of the program has a line in tests/commands.py. (The man
-    page has each flag, since it is made of the help.);
+  - that each subcommand of the program has a line in tests/commands.py. (The man page has each flag, since it is made of the help.);
   - in docs/EMBED.md and docs/PROOF.md the lines of code, each of which is a line of a source (but for comments and `...`).
-It also counts the words of all documents, against LIMIT, without the definitions that they quote whole (tests/quotes.py checks
-those). Of the sources it checks
+It also counts the words of all documents, without the definitions that they quote whole (tests/quotes.py checks those). No
+page has a limit: each has the length that its reader needs. Of the sources it checks
   - that each public item of the product's crates has a `///` over it;
   - the words of WORDS in comments of `src/` and `specs/`;
   - the program's help texts: sentences, words, and lines of more than 80 columns.
 By crate, and as counts that don't change the status, it reports the long sentences of comments, and definitions of `specs/`
 without a comment over them. With --counts it prints one line for each document and no findings. The status is 1 if a document or
-a source has a finding, or all documents together are too long."""
+a source has a finding."""
 
 import re
 import sys
@@ -29,8 +28,6 @@ sys.path.insert(0, str(Path(__file__).resolve().parent))
 from commands import COMMANDS  # noqa: E402
 
 TOP = Path(__file__).resolve().parent.parent
-LIMIT = 28_000
-README_LIMIT = 700
 LONGEST = 35
 FOLDERS = ("bench", "crates", "docs", "examples", "packaging", "tests", "tools", "wrong_bodies")
 GENERATED = ("docs/CORE.md",)
@@ -165,18 +162,12 @@ def count_words(text):
     return sum(1 for it in own.split() if re.search(r"\w", it))
 
 
-def readme_length(text):
-    """A finding if the README has more words than README_LIMIT."""
-    words = count_words(text)
-    return [(1, f"more than {README_LIMIT} words", str(words))] if words > README_LIMIT else []
-
-
 def check(file, shows):
     """Prints what is found of a document, or a line with its counts; gives the number of its findings and of its words."""
     text = file.read_text()
     name = str(file.relative_to(TOP))
     found = [] if name in GENERATED else [*findings(text), *broken_links(file, text)]
-    found += [*untried_commands(), *readme_length(text)] if name == "README.md" else []
+    found += untried_commands() if name == "README.md" else []
     if name in QUOTING:
         found += unknown_code(text, source_lines())
     words = count_words(text) if name not in COPIED else 0
@@ -269,8 +260,8 @@ def main():
     if words:
         return 1 if found else 0
     found += comment_findings() + source_findings()
-    print(f"language: {len(counts)} documents, {length:,} words of {LIMIT:,} at most, {found} findings")
-    return 1 if found or length > LIMIT else 0
+    print(f"language: {len(counts)} documents, {length:,} words, {found} findings")
+    return 1 if found else 0
 
 
 if __name__ == "__main__":
