@@ -5,5 +5,6 @@ pub mod Standing
 pub mod Keeping
 pub mod Answering
 pub mod Handled
+pub mod Opened
 pub mod Settling
 pub mod Mends

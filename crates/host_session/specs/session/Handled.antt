@@ -1,10 +1,9 @@
 -- The result of a message to a session. All of it is our own.
-use Rattle.std.specs.Prelude.{◌≡◌, ◌<◌, ◌≤◌, ◌+◌, ◌⊎◌, ℕ, List, None, false, option_to_list, true}
+use Rattle.std.specs.Prelude.{◌≡◌, ◌<◌, ◌≤◌, ◌+◌, ◌⊎◌, ℕ, List, None, false, true}
 use Rattle.d64_image.specs.History.{Failed, History}
 use Rattle.host_session.specs.Held.{Changes}
 use Rattle.request_cards.specs.Ledgers.{reply_in}
 use Rattle.request_cards.specs.Reading.{request_of}
-use Rattle.request_cards.specs.Sums.{SumsAgree}
 use Rattle.request_cards.specs.declared.reply.Reply.{Reply}
 use Rattle.request_cards.specs.declared.reply.Reply.TheVariants.{Syntax}
 use Rattle.host_session.specs.session.Handling.{IsBeforeOrAfter, IsMedia, MayGrow, after_of, is_next_request, media}
@@ -41,6 +40,3 @@ pub record IsHandled {D : Type 0} (h : History D) (old new : View D) (message : 
   -- the word MEDIA comes exactly if the session is dead, or the device failed now, and then it is dead
   pub failures : (IsMedia told × (new.dead ≡ true) × ((old.dead ≡ true) ⊎ Failed h old.disk new.disk))
       ⊎ (¬ (IsMedia told) × (h.failures new.disk ≡ h.failures old.disk))
-  -- no goods appear and none are lost
-  pub sums : (s : Shop) → IsShop (h.image old.disk) s
-      → SumsAgree (start_of s) (option_to_list (request_of message))

@@ -1,9 +1,5 @@
 //! A disk opened: checked, repaired, and brought to rest.
-ghost use Rattle.std.specs.Prelude.{◌≡◌, ◌↔◌, IfErr, IfOk, IsOk, false};
-ghost use Rattle.d64_image.specs.History.{Failed, NeverFailed};
-ghost use Rattle.host_session.specs.Held.{Changes};
-ghost use Rattle.host_session.specs.session.Opening.{IsAShop, Refuses, TellsOpening, Untouched, disk_of};
-ghost use Rattle.host_session.specs.shop.Shop.{IsSettled, IsShop, Shop};
+ghost use Rattle.host_session.specs.session.Opened.{IsOpened};
 
 use crate::faults::OpenFault;
 use crate::session::Session;
@@ -23,24 +19,7 @@ impl<D: Sectors> Session<D> {
     ///
     /// The session takes 86 kB. docs/EMBED.md says how much stack an opening takes: no clause counts it.
     pub fn open(disk: D) -> Result<Session<D>, (OpenFault, D)>
-        // the disk was a shop's, and is the same shop's now, at rest
-        ensures ok { IfOk result (λ x.
-            (s : Shop) × IsShop (D.history.image disk) s × IsSettled (D.history.image x.disk) s
-            × (x.dead ≡ false)) }
-        // the fault holds, and none that comes before it in the order
-        ensures err { IfErr result (λ e. Refuses (Failed D.history disk e.1) (D.history.image disk) e.0) }
-        // if the device doesn't fail, the result is Ok exactly on a shop
-        ensures opens { NeverFailed D.history disk (disk_of (λ x. x.disk) result)
-            → (IsOk result ↔ IsAShop (D.history.image disk)) }
-        // each image held is the same shop's; at most 883 sectors are written by the repair, 5 for the intent, 64 for
-        // old cards
-        ensures moments { (s : Shop) → IsShop (D.history.image disk) s
-            → Changes D.history disk (disk_of (λ x. x.disk) result) 952 (λ c. IsShop c s) }
-        // a disk that is no shop's isn't written, and neither is a disk at rest
-        ensures unfit { (IsAShop (D.history.image disk) → ⊥) → Untouched D.history disk (disk_of (λ x. x.disk) result) }
-        ensures quiet { (s : Shop) → IsSettled (D.history.image disk) s
-            → Untouched D.history disk (disk_of (λ x. x.disk) result) }
-        ensures failures { TellsOpening (λ x. x.disk) D.history disk result }
+        ensures { IsOpened D.history disk result }
     {
         let mut disk = disk;
         let mut found = LoadedShop::nothing();

@@ -7,7 +7,6 @@ use Rattle.host_session.specs.session.Standing.{View}
 use Rattle.host_session.proofs.lemmas.session.Handled.{media-word, no-moments, no-request, one-bool, one-option}
 use Rattle.host_session.proofs.lemmas.session.Handled.{syntax-other, told-counted, told-failures, told-media}
 use Rattle.host_session.proofs.lemmas.session.Handled.{told-moments, told-quiet, told-reply, told-writes}
-use Rattle.host_session.proofs.lemmas.session.NextCards.{message-sums}
 use Rattle.host_session.proofs.lemmas.shop.Shops.{standing-settled}
 use Rattle.host_session.proofs.session.Session.handle.Given.{Over}
 use Rattle.host_session.proofs.session.Session.handle.Goals as goal
@@ -29,7 +28,6 @@ returns-in_default g c =
       counted = λ s h lt. absurd (omega (arith, lt));
       media = λ m. syntax-other m;
       failures = inr (λ m. syntax-other m, refl);
-      sums = λ s h. message-sums (start_of s) c.args.message.now;
     }
 
 -- a dead session
@@ -52,7 +50,6 @@ returns-then-dead g c =
       counted = λ s h lt. absurd (omega (arith, lt));
       media = λ _. told;
       failures = inl ((c.till.result, c.number.result, refl), was_dead g c, inl (was_dead g c));
-      sums = λ s h. message-sums (start_of s) c.args.message.now;
     }
 
 -- an open one
@@ -77,5 +74,4 @@ returns-else-dead g c =
           c.number.ensures.value c.word_on.result (media-word _ _ _ m);
       failures = told-failures S c.args.self.now c.word_on.new.self c.in-Some.request c.till.result c.number.result
           c.word_on.result answered;
-      sums = λ s h. message-sums (start_of s) c.args.message.now;
     }

@@ -8,86 +8,46 @@ use Rattle.host_session.proofs.lemmas.opening.Opens.{device-ok, device-refused, 
 use Rattle.host_session.proofs.lemmas.opening.Opens.{judged-same, ok-of, opening-later}
 use Rattle.host_session.proofs.session.Session.open.Goals as goal
 
-pub returns-in_err-drive-clause-err : goal.returns-in_err-drive-clause-err
-returns-in_err-drive-clause-err g c =
+pub returns-in_err-drive : goal.returns-in_err-drive
+returns-in_err-drive g c =
     let S = g.D.Sectors.history in
-    let same = judged-same S c.args.disk c.load_shop.new.disk c.load_shop.result c.in_default.not-Err c.load_shop.ensures.failures
-    in
+    let (f, has, j) = ok-of c.load_shop.result c.in_default.not-Err _ c.load_shop.ensures.ok in
+    let shop : IsShop (S.image c.args.disk) (shop_of f) =
+    record { files = f; has = has; records = j.records; is = refl } in
+    let same = judged-same S c.args.disk c.load_shop.new.disk c.load_shop.result c.in_default.not-Err
+    c.load_shop.ensures.failures in
     let p = err_from_is_err_and c.from_residual.result c.from_residual.ensures.1 in
     let is = p.1 ∙ ap Err p.2 in
-    device-refused S (λ (x : View g.row.D.Denot). x.disk) c.args.disk c.load_shop.new.disk same c.from_residual.result
-    (error-told S (λ (x : View g.row.D.Denot). x.disk) c.load_shop.new.disk c.from_residual.result c.in_err-drive.field-0.0
-    is c.in_err-drive.ensures.mends.failures) (S.image c.args.disk)
-    (error-device S (λ (x : View g.row.D.Denot). x.disk) c.load_shop.new.disk c.from_residual.result
-    c.in_err-drive.field-0.0 is c.in_err-drive.ensures.mends.err)
-
-pub returns-in_err-drive-clause-opens : goal.returns-in_err-drive-clause-opens
-returns-in_err-drive-clause-opens g c = λ never.
-    let S = g.D.Sectors.history in
-    let (f, has, j) = ok-of c.load_shop.result c.in_default.not-Err _ c.load_shop.ensures.ok in
-    let shop : IsShop (S.image c.args.disk) (shop_of f) = record {
-      files = f;
-      has = has;
-      records = j.records;
-      is =
-          refl;
-    } in
-    let same = judged-same S c.args.disk c.load_shop.new.disk c.load_shop.result c.in_default.not-Err c.load_shop.ensures.failures
-    in
-    let p = err_from_is_err_and c.from_residual.result c.from_residual.ensures.1 in
-    let is = p.1 ∙ ap Err p.2 in (
-      λ ok. (shop_of f, shop),
-      λ some. device-ok S (λ (x : View g.row.D.Denot). x.disk) c.args.disk c.load_shop.new.disk same c.from_residual.result
-          (error-told S (λ (x : View g.row.D.Denot). x.disk) c.load_shop.new.disk c.from_residual.result
-          c.in_err-drive.field-0.0 is c.in_err-drive.ensures.mends.failures)
-          (error-device S (λ (x : View g.row.D.Denot). x.disk) c.load_shop.new.disk c.from_residual.result
-          c.in_err-drive.field-0.0 is c.in_err-drive.ensures.mends.err) never,
-    )
-
-pub returns-in_err-drive-clause-moments : goal.returns-in_err-drive-clause-moments
-returns-in_err-drive-clause-moments g c = λ s h.
-    let S = g.D.Sectors.history in
-    let now : IsShop (S.image c.load_shop.new.disk) s = subst (λ i. IsShop i s) (sym c.load_shop.ensures.reads.image) h in
-    let p = err_from_is_err_and c.from_residual.result c.from_residual.ensures.1 in
-    changes_then S c.args.disk c.load_shop.new.disk _ 0 952 952 (λ i. IsShop i s) (omega arith)
-    (reads_change S c.args.disk c.load_shop.new.disk 34190 (λ i. IsShop i s) c.load_shop.ensures.reads h)
-    (error-changes S c.load_shop.new.disk 952 952 (λ i. IsShop i s) (λ (x : View g.row.D.Denot). x.disk)
-    c.from_residual.result c.in_err-drive.field-0.0 (omega arith) (p.1 ∙ ap Err p.2)
-    (c.in_err-drive.ensures.mends.moments s now))
-
-pub returns-in_err-drive-clause-unfit : goal.returns-in_err-drive-clause-unfit
-returns-in_err-drive-clause-unfit g c = λ none.
-    let S = g.D.Sectors.history in
-    let (f, has, j) = ok-of c.load_shop.result c.in_default.not-Err _ c.load_shop.ensures.ok in
-    let shop : IsShop (S.image c.args.disk) (shop_of f) = record {
-      files = f;
-      has = has;
-      records = j.records;
-      is =
-          refl;
-    } in
-    absurd (none (shop_of f, shop))
-
-pub returns-in_err-drive-clause-quiet : goal.returns-in_err-drive-clause-quiet
-returns-in_err-drive-clause-quiet g c = λ s r.
-    let S = g.D.Sectors.history in
-    let same = c.load_shop.ensures.reads.image in
-    let now : IsSettled (S.image c.load_shop.new.disk) s = subst (λ i. IsSettled i s) (sym same) r in
-    let p = err_from_is_err_and c.from_residual.result c.from_residual.ensures.1 in
-    changes_then S c.args.disk c.load_shop.new.disk _ 0 0 0 (λ i. i ≡ S.image c.args.disk) (omega arith)
-    (reads_change S c.args.disk c.load_shop.new.disk 34190 (λ i. i ≡ S.image c.args.disk) c.load_shop.ensures.reads refl)
-    (changes_weaker S c.load_shop.new.disk _ 0 0 (λ i. i ≡ S.image c.load_shop.new.disk) (λ i. i ≡ S.image c.args.disk)
-    (omega arith) (λ i e. e ∙ same)
-    (error-changes S c.load_shop.new.disk 0 0 (λ i. i ≡ S.image c.load_shop.new.disk) (λ (x : View g.row.D.Denot). x.disk)
-    c.from_residual.result c.in_err-drive.field-0.0 (omega arith) (p.1 ∙ ap Err p.2)
-    (c.in_err-drive.ensures.mends.quiet (s, now))))
-
-pub returns-in_err-drive-clause-failures : goal.returns-in_err-drive-clause-failures
-returns-in_err-drive-clause-failures g c =
-    let S = g.D.Sectors.history in
-    let same = judged-same S c.args.disk c.load_shop.new.disk c.load_shop.result c.in_default.not-Err c.load_shop.ensures.failures
-    in
-    let p = err_from_is_err_and c.from_residual.result c.from_residual.ensures.1 in
-    opening-later S (λ (x : View g.row.D.Denot). x.disk) c.args.disk c.load_shop.new.disk same c.from_residual.result
-    (error-told S (λ (x : View g.row.D.Denot). x.disk) c.load_shop.new.disk c.from_residual.result c.in_err-drive.field-0.0
-    (p.1 ∙ ap Err p.2) c.in_err-drive.ensures.mends.failures)
+    let told = error-told S (λ (x : View g.row.D.Denot). x.disk) c.load_shop.new.disk c.from_residual.result
+    c.in_err-drive.field-0.0 is c.in_err-drive.ensures.mends.failures in
+    let device = error-device S (λ (x : View g.row.D.Denot). x.disk) c.load_shop.new.disk c.from_residual.result
+    c.in_err-drive.field-0.0 is c.in_err-drive.ensures.mends.err in
+    record {
+      ok = rw is tt;
+      err = device-refused S (λ (x : View g.row.D.Denot). x.disk) c.args.disk c.load_shop.new.disk same
+          c.from_residual.result told (S.image c.args.disk) device;
+      opens = λ never. (
+        λ ok. (shop_of f, shop),
+        λ some. device-ok S (λ (x : View g.row.D.Denot). x.disk) c.args.disk c.load_shop.new.disk same
+            c.from_residual.result told device never,
+      );
+      moments = λ s h.
+          changes_then S c.args.disk c.load_shop.new.disk _ 0 952 952 (λ i. IsShop i s) (omega arith)
+          (reads_change S c.args.disk c.load_shop.new.disk 34190 (λ i. IsShop i s) c.load_shop.ensures.reads h)
+          (error-changes S c.load_shop.new.disk 952 952 (λ i. IsShop i s) (λ (x : View g.row.D.Denot). x.disk)
+          c.from_residual.result c.in_err-drive.field-0.0 (omega arith) is
+          (c.in_err-drive.ensures.mends.moments s (subst (λ i. IsShop i s) (sym c.load_shop.ensures.reads.image) h)));
+      unfit = λ none. absurd (none (shop_of f, shop));
+      quiet = λ s r.
+          changes_then S c.args.disk c.load_shop.new.disk _ 0 0 0 (λ i. i ≡ S.image c.args.disk) (omega arith)
+          (reads_change S c.args.disk c.load_shop.new.disk 34190 (λ i. i ≡ S.image c.args.disk)
+          c.load_shop.ensures.reads refl)
+          (changes_weaker S c.load_shop.new.disk _ 0 0 (λ i. i ≡ S.image c.load_shop.new.disk)
+          (λ i. i ≡ S.image c.args.disk) (omega arith) (λ i e. e ∙ c.load_shop.ensures.reads.image)
+          (error-changes S c.load_shop.new.disk 0 0 (λ i. i ≡ S.image c.load_shop.new.disk)
+          (λ (x : View g.row.D.Denot). x.disk) c.from_residual.result c.in_err-drive.field-0.0 (omega arith) is
+          (c.in_err-drive.ensures.mends.quiet
+          (s, subst (λ i. IsSettled i s) (sym c.load_shop.ensures.reads.image) r))));
+      failures = opening-later S (λ (x : View g.row.D.Denot). x.disk) c.args.disk c.load_shop.new.disk same
+          c.from_residual.result told;
+    }

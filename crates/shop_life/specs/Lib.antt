@@ -1,0 +1,6 @@
+pub mod Lives
+pub mod OneList
+pub mod Goods
+pub mod Rest
+pub mod Tills
+pub mod Worked
