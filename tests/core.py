@@ -31,12 +31,16 @@ from spec_files import (  # noqa: E402
 # what the page begins from: a trait, a public function, or a method `Type::name`, each with its crate
 ROOTS = (
     ("d64_image", "Sectors"),
-    ("retry_safe", "retry_after_power_loss"),
+    ("host_session", "Session::open"),
+    ("host_session", "Session::handle"),
+    ("shop_life", "one_list"),
+    ("shop_life", "answered_stays"),
+    ("shop_life", "all_ends"),
 )
 INTRODUCTION = """# The core
 
-The headline is said by [the contracts](#the-contracts) at the end of this page: the device, and one call. They rest on the definitions above,
-and on no others of this repository. A definition stands before those that use it; an *example* is a theorem or a test that decides
+The theorem is said by [the contracts](#the-contracts) at the end of this page: the device, the two calls that are its steps, and its laws.
+They rest on the definitions above, and on no others of this repository. A definition stands before those that use it; an *example* is a theorem or a test that decides
 it. "The Guide" is the 1541 User's Guide; *the disk with STOCK* has one relative file of one block. [PROOF.md](PROOF.md) says how to
 read a contract, and what is trusted. `tests/core.py` makes this page.
 """

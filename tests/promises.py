@@ -20,14 +20,17 @@ OTHERS = {"HANDLES", "LEFT", "grep", "incremental", "itoa", "native", "search", 
 
 
 def record_fields():
-    """The fields of each record of specs/ and the words of their types, with those of the records among these."""
-    found, cited = {}, {}
+    """The fields of each record of specs/ and the words of their types, with those of the records among these and in the
+    abbreviations that they name."""
+    found, cited, records = {}, {}, set()
     for file in TOP.glob("crates/*/specs/**/*.antt"):
         name = None
         for line in file.read_text().split("\n"):
-            head = re.match(rf" *pub record ({WORD})", line)
+            head = re.match(rf" *(pub record|abbrev pub) ({WORD})", line)
             field = re.match(rf" +pub «?({WORD})»? :", line)
-            name = head[1] if head else name if line.startswith(" ") or not line else None
+            name = head[2] if head else name if line.startswith((" ", f"{name} ")) or not line else None
+            if head and head[1] == "pub record":
+                records.add(name)
             if name and field:
                 found.setdefault(name, set()).add(field[1])
             if name and not head:
@@ -36,7 +39,7 @@ def record_fields():
         for name, words in cited.items():
             beneath = [found[it] for it in words if it in found and it != name]
             found.setdefault(name, set()).update(words, *beneath)
-    return found
+    return {name: words for name, words in found.items() if name in records}
 
 
 def contract_words(fields):

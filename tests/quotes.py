@@ -41,15 +41,16 @@ def definition(file, name):
     lines = (TOP / file).read_text(encoding="utf-8").split("\n")
     if file.endswith(".rt"):
         return bodies(lines, name) or item(lines, name)
-    heads = [at for at, line in enumerate(lines) if re.match(rf"(unfoldable |abbrev )?pub (record |data )?{name}\b", line)]
+    heads = [at for at, line in enumerate(lines) if re.match(rf" *(unfoldable |abbrev )?pub (record |data )?{name}\b", line)]
     if len(heads) != 1:
         return None
     begin = end = heads[0]
-    while begin and lines[begin - 1].startswith("--"):
+    inset = " " * (len(lines[begin]) - len(lines[begin].lstrip()))
+    while begin and lines[begin - 1].startswith(f"{inset}--"):
         begin -= 1
-    while end + 1 < len(lines) and (lines[end + 1].startswith(" ") or re.match(rf"{name}\b", lines[end + 1])):
+    while end + 1 < len(lines) and re.match(rf"{inset}( |{name}\b)", lines[end + 1]):
         end += 1
-    return "\n".join(lines[begin : end + 1]) + "\n"
+    return "".join(f"{line.removeprefix(inset)}\n" for line in lines[begin : end + 1])
 
 
 def main(words):

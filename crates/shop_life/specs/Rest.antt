@@ -1,4 +1,4 @@
--- What else of a disk stays over a life. All of it is our own.
+-- What stays of a disk over a life besides the state of its shop. All of it is our own.
 use Rattle.std.specs.Prelude.{◌≡◌, List}
 use Rattle.d64_image.specs.Images.{Image}
 use Rattle.disk_layout.specs.Layout.{IsSound}

@@ -1,4 +1,4 @@
--- Tills, and a shop whose life goes on between their messages.
+-- Tills that ask until they hear, and a shop whose life goes on between their messages. All of it is our own.
 use Rattle.d64_image.specs.History.{History}
 use Rattle.host_session.specs.shop.Shop.{Shop, start_of}
 use Rattle.shop_life.specs.Lives.{shop_after}
@@ -35,6 +35,7 @@ abbrev pub told_as : ℕ → ℕ → Word → List Reply
 told_as t n Media = []
 told_as t n word = Told t n word ∷ []
 
+-- the replies that tills hear when this one is given: itself, or none
 abbrev pub answers_of : Reply → List Reply
 answers_of Syntax = Syntax ∷ []
 answers_of Cut = Cut ∷ []
@@ -54,6 +55,7 @@ followed start sc (lives_on x) = record sc { place = went sc.place x }
 followed start sc (serves j x) =
     record { place = went sc.place x; talk = record sc.talk { given = sc.talk.given ++ given_in x } }
 
+-- what one happening after another leads to
 abbrev pub followed_all : {D : Type 0} → Start → Scene D → List (Happening D) → Scene D
 followed_all start sc [] = sc
 followed_all start sc (x ∷ xs) = followed_all start (followed start sc x) xs
@@ -74,6 +76,7 @@ module _ {D : Type 0} (hist : History D) where
       × (slice_get sc.talk.sent j ≡ Some a)
   Fits sc x = Unit {0}
 
+  -- each may happen where the ones before it led
   abbrev pub FitAll : Start → Scene D → List (Happening D) → Type 0
   FitAll start sc [] = Unit {0}
   FitAll start sc (x ∷ xs) = Fits sc x × FitAll start (followed start sc x) xs

@@ -4,6 +4,5 @@ mod hole_rows;
 mod life_rows;
 mod log_rows;
 mod logs;
-mod promise_rows;
 mod served_rows;
 mod talks;

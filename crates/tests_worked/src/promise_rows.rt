@@ -1,11 +1,11 @@
-//! The promise as one call, on a disk in memory, with power that goes after each number of writes that a first set can
-//! take. The expected replies come from the trade rule, by hand.
+//! Power that goes after each number of writes that a first set can take, on a disk in memory, and then in openings. The
+//! expected replies come from the trade rule, by hand.
 use crate::comparing::{holds, same_at};
 use crate::disks::fresh;
-use d64_image::Meter;
-use host_session::Event;
+use d64_image::{Fuse, Meter, Sectors};
+use host_session::{Event, play};
 use request_cards::Reply;
-use retry_safe::retry_after_power_loss;
+use shop_life::{handle_a_message, open_a_disk};
 use std::process::Abort;
 
 /// A first set.
@@ -13,6 +13,14 @@ const SET: [Event<'static>; 1] = [Event {
     message: b"1,1,S,15,7",
     cut: None,
 }];
+
+/// Opens the disk, and takes it back if power goes, after so many sector writes.
+fn opened_until<D: Sectors>(disk: D, power: u32) -> D {
+    match open_a_disk(Fuse::new(disk, power)) {
+        Ok(session) => session.close().into_inner(),
+        Err((_, fuse)) => fuse.into_inner(),
+    }
+}
 
 /// The reply to the message that is sent again, how many of its item the shop then has, and how many sectors were written
 /// in all, if power goes after so many writes of the first time and then in these openings.
@@ -22,11 +30,17 @@ fn asked_again(
     recoveries: &[u32],
 ) -> (Reply, Option<u32>, u64) {
     let mut replies: Vec<Reply> = Vec::new(rt.alloc());
-    let disk = Meter::new(fresh(rt));
-    let ran = retry_after_power_loss(disk, &SET, power, recoveries, b"1,1,S,15,7", &mut replies);
-    let Ok((session, reply)) = ran else {
+    let mut disk = match play(Fuse::new(Meter::new(fresh(rt)), power), &SET, &mut replies) {
+        Ok(fuse) => fuse.into_inner(),
+        Err((_, fuse)) => fuse.into_inner(),
+    };
+    for &power in recoveries {
+        disk = opened_until(disk, power);
+    }
+    let Ok(mut session) = open_a_disk(disk) else {
         panic!(rt; "not opened");
     };
+    let reply = handle_a_message(&mut session, b"1,1,S,15,7");
     let on_hand = session.card(15).unwrap_or(None);
     (reply, on_hand, session.close().writes())
 }
