@@ -75,9 +75,13 @@ module _ {L R T : Type 0} (h : LogHistory L) (i : BatchInput R) (o : LogOutput L
 
     -- what power leaves at any moment
     some_behind : (c : Image) → (c ≡ disk_image x.disk) ⊎ HoldsFirst Here Ls 0 c → IsBehindSome s before Ls c
-    some_behind c (inl e) =
-        ([], Ls, refl, subst (λ ls. IsShop c (shop_behind s ls)) (sym (append-nil before))
-        (subst (λ j. IsShop j Here) (sym e) on_disk))
+    some_behind c (inl e) = (
+      [],
+      Ls,
+      refl,
+      subst (λ ls. IsShop c (shop_behind s ls)) (sym (append-nil before))
+          (subst (λ j. IsShop j Here) (sym e) on_disk),
+    )
     some_behind c (inr y) = (y.front, y.rest, y.parts, subst (IsShop c) (behind_behind s before y.front) y.rests.shop)
 
     keeps : (own rest : List (List ℕ)) → own ++ rest ≡ Ls → AreKept h x.at (length own) 0 Turns

@@ -129,7 +129,7 @@ module _ {D : Type 0} (hist : History D) where
             once = inl refl;
             held = held_in s before v new m told at.shop may.0;
             answered = tt;
-      again = tt;
+            again = tt;
             opens_if_unfailed = tt;
             at = stays_at s before (off next) (record { shop = x; rests = tt });
           },
@@ -140,7 +140,7 @@ module _ {D : Type 0} (hist : History D) where
             once = inr refl;
             held = held_in s before v new m told at.shop may.0;
             answered = tt;
-      again = tt;
+            again = tt;
             opens_if_unfailed = tt;
             at = record { shop = x; rests = tt };
           },

@@ -8,3 +8,4 @@ mod Seen
 mod Teeth
 mod Tills
 mod Worked
+mod Chapters

@@ -211,15 +211,19 @@ module _ (rest : Rest) (x : Pictures rest) where
       → IsHandled paper (alive d) (alive (page rest x x.three (x.two.image ∷ []) n)) third_message third_reply
   third d n is le =
       handled s two d (page rest x x.three (x.two.image ∷ []) n) third_message third_ask third_reply asks_third
-      (subst (λ c. IsAfter s two c) (sym is) x.two.has.shop) x.three.has le
-      (inr x.three.has.shop, λ c h. elim h [
-        | inl e ↦ inl (subst (λ c. IsAfter s two c) (sym e) x.two.has.shop)
-        | inr y ↦ absurd y
-      ])
-      (x.three.whole, λ c h. elim h [
-        | inl e ↦ subst IsWhole (sym e) x.two.whole
-        | inr y ↦ absurd y
-      ])
+      (subst (λ c. IsAfter s two c) (sym is) x.two.has.shop) x.three.has le (
+        inr x.three.has.shop,
+        λ c h. elim h [
+          | inl e ↦ inl (subst (λ c. IsAfter s two c) (sym e) x.two.has.shop)
+          | inr y ↦ absurd y
+        ],
+      ) (
+        x.three.whole,
+        λ c h. elim h [
+          | inl e ↦ subst IsWhole (sym e) x.two.whole
+          | inr y ↦ absurd y
+        ],
+      )
       told_third (kept_not_media 1 2 _) (inl next_third)
 
   both : (P : Image → Type 0) (i j : Image) → P i → P j → (c : Image) → IsOneOf (i ∷ j ∷ []) c → P c
@@ -247,17 +251,21 @@ module _ (rest : Rest) (x : Pictures rest) where
         (λ t is. at_rest (page rest x x.none [] 0) (x.none.whole, λ c h. absurd h) (refl, λ c h. absurd h)),
     (
       handled s [] (page rest x x.none [] 0) (page rest x x.one (x.none.image ∷ []) 1) first_message first_ask first_reply
-          asks_first (none_shop x.none.image x.none.has.shop) x.one.has (omega arith)
-          (inr x.one.has.shop, only (λ c. IsAfter s [] c ⊎ IsAfter s one c) x.none.image
-          (inl (none_shop x.none.image x.none.has.shop)))
+          asks_first (none_shop x.none.image x.none.has.shop) x.one.has (omega arith) (
+            inr x.one.has.shop,
+            only (λ c. IsAfter s [] c ⊎ IsAfter s one c) x.none.image
+                (inl (none_shop x.none.image x.none.has.shop)),
+          )
           (x.one.whole, only IsWhole x.none.image x.none.whole) told_first (kept_not_media 1 1 _) (inl next_first),
       (
         (
           handled s one (page rest x x.one (x.none.image ∷ []) 1)
               (page rest x x.two (x.one.image ∷ x.intent.image ∷ []) 2) second_message second_ask second_reply
-              asks_second x.one.has.shop x.two.has (omega arith)
-              (inr x.two.has.shop, both (λ c. IsAfter s one c ⊎ IsAfter s two c) x.one.image x.intent.image
-              (inl x.one.has.shop) (inr x.intent.has.0))
+              asks_second x.one.has.shop x.two.has (omega arith) (
+                inr x.two.has.shop,
+                both (λ c. IsAfter s one c ⊎ IsAfter s two c) x.one.image x.intent.image
+                    (inl x.one.has.shop) (inr x.intent.has.0),
+              )
               (x.two.whole, both IsWhole x.one.image x.intent.image x.one.whole x.intent.whole) told_second
               (kept_not_media 2 1 _) (inl next_second),
           inr (omega arith, inr (inl refl)),
@@ -275,9 +283,11 @@ module _ (rest : Rest) (x : Pictures rest) where
             (
               handled s two (page rest x x.two (x.half.image ∷ []) 1) (page rest x x.two (x.half.image ∷ []) 1)
                   second_message second_ask second_reply asks_second x.two.has.shop
-                  (subst (IsSettled x.two.image) (sym same_twice) x.two.has) (omega arith)
-                  (inl x.two.has.shop, only (λ c. IsAfter s two c ⊎ IsAfter s (two ++ second_ask ∷ []) c) x.half.image
-                  (inl x.half.has.0)) (x.two.whole, only IsWhole x.half.image x.half.whole) told_again
+                  (subst (IsSettled x.two.image) (sym same_twice) x.two.has) (omega arith) (
+                    inl x.two.has.shop,
+                    only (λ c. IsAfter s two c ⊎ IsAfter s (two ++ second_ask ∷ []) c) x.half.image
+                        (inl x.half.has.0),
+                  ) (x.two.whole, only IsWhole x.half.image x.half.whole) told_again
                   (kept_not_media 2 1 _) (inr refl),
               (
                 (third (page rest x x.two (x.half.image ∷ []) 1) 2 refl (omega arith), inr (omega arith, inl refl)),

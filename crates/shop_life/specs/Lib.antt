@@ -4,3 +4,4 @@ pub mod Goods
 pub mod Rest
 pub mod Tills
 pub mod Worked
+pub mod Chapters

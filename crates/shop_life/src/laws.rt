@@ -17,6 +17,7 @@ ghost use Rattle.request_cards.specs.Ledgers.{number_of, reply};
 ghost use Rattle.request_cards.specs.Reading.{request_of};
 ghost use Rattle.request_cards.specs.Requests.{Ask};
 ghost use Rattle.request_cards.specs.declared.reply.Reply.{Reply};
+ghost use Rattle.shop_life.specs.Chapters.{AllHeldIn, AreChapters, Chapter, HasNumbersOf, HaveLists};
 ghost use Rattle.shop_life.specs.Goods.{GoodsAgree};
 ghost use Rattle.shop_life.specs.Lives.{IsHeldIn, IsLife, May, Place, Step, asks_of, disk_at, message_in, off, on};
 ghost use Rattle.shop_life.specs.Lives.{shop_after, went_all};
@@ -89,6 +90,14 @@ pub fn goods_stay<D: Sectors>()
         → IsLife D.history (off disk) steps → IsShop (D.history.image (disk_at (went_all (off disk) steps))) t
         → (parts : List (List Ask)) × KeepAll D.history s [] (off disk) steps parts
         × GoodsAgree s (counted_from [] parts) t }
+{}
+
+/// The life of a disk goes on over other commands: each chapter has its one list, over the shop with which it begins, and no number
+/// of a till that the disk had goes back. Between two chapters a command changed the disk and kept its cards and tills.
+pub fn chapters_have_lists<D: Sectors>()
+    ensures { (s : Shop) (disk : D) (chapters : List (Chapter D)) → IsShop (D.history.image disk) s
+        → AreChapters D.history disk chapters
+        → HaveLists D.history s disk chapters × AllHeldIn D.history (HasNumbersOf s) disk chapters }
 {}
 
 /// No life has an answer other than the rule's over what counted before it, such as one that is decided in another order.
