@@ -9,3 +9,4 @@ mod Teeth
 mod Tills
 mod Worked
 mod Chapters
+mod Onward

@@ -15,13 +15,13 @@ use Rattle.shop_life.specs.OneList.{AllSeen, HasOneList, IsAfter, IsAfterFirst, 
 
 module _ {D : Type 0} (hist : History D) where
   -- where nothing could count
-  none : (s : Shop) (before n : List Ask) (c : Image)
+  pub none : (s : Shop) (before n : List Ask) (c : Image)
       → IsAfter s before c ⊎ IsAfter s (before ++ []) c → IsAfter s before c ⊎ IsAfter s (before ++ n) c
   none s before n c (inl y) = inl y
   none s before n c (inr y) = inl (subst (λ ys. IsAfter s ys c) (append-nil before) y)
 
   -- what power left is what the step leads to
-  left : (s : Shop) (asks : List Ask) (next : D) (c : Image) → IsAt hist (shop_after s asks) (off next)
+  pub left : (s : Shop) (asks : List Ask) (next : D) (c : Image) → IsAt hist (shop_after s asks) (off next)
       → c ≡ hist.image next → IsAfter s asks c
   left s asks next c at e = subst (λ i. IsShop i (shop_after s asks)) (sym e) at.shop
 
@@ -55,7 +55,7 @@ module _ {D : Type 0} (hist : History D) where
   seen s before n (on v) ends may keep c h = none s before n c (keep.held c h)
   seen s before n (on v) (moves next) may keep c h = absurd may
 
-  begins : (before : List Ask) (ns : List (List Ask)) → (rest : List Ask) × (before ++ rest ≡ counted_from before ns)
+  pub begins : (before : List Ask) (ns : List (List Ask)) → (rest : List Ask) × (before ++ rest ≡ counted_from before ns)
   begins before [] = ([], append-nil before)
   begins before (n ∷ ns) =
       let r = begins (before ++ n) ns in (n ++ r.0, sym (append_assoc before n r.0) ∙ r.1)

@@ -5,3 +5,4 @@ pub mod Rest
 pub mod Tills
 pub mod Worked
 pub mod Chapters
+pub mod Onward

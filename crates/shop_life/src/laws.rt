@@ -21,7 +21,8 @@ ghost use Rattle.shop_life.specs.Chapters.{AllHeldIn, AreChapters, Chapter, HasN
 ghost use Rattle.shop_life.specs.Goods.{GoodsAgree};
 ghost use Rattle.shop_life.specs.Lives.{IsHeldIn, IsLife, May, Place, Step, asks_of, disk_at, message_in, off, on};
 ghost use Rattle.shop_life.specs.Lives.{shop_after, went_all};
-ghost use Rattle.shop_life.specs.OneList.{AllHeld, HasOneList, IsLived, KeepAll, NoneOfTill, Stays, counted_from};
+ghost use Rattle.shop_life.specs.OneList.{AllHeld, HasOneList, IsAfterFirst, IsLived, KeepAll, NoneOfTill, Stays, counted_from};
+ghost use Rattle.shop_life.specs.Onward.{AllShown, AreOnward};
 ghost use Rattle.shop_life.specs.Rest.{HasRestOf};
 ghost use Rattle.shop_life.specs.Tills.{FitAll, Happening, HoldsAtAllEnds, first_scene, followed_all};
 ghost use Rattle.shop_life.specs.Worked.{Pictures, page, paper, worked};
@@ -34,6 +35,15 @@ use d64_image::Sectors;
 pub fn one_list<D: Sectors>()
     ensures { (s : Shop) (disk : D) (steps : List (Step D)) → IsShop (D.history.image disk) s
         → IsLife D.history (off disk) steps → HasOneList D.history s (off disk) steps }
+{}
+
+/// If no message whose device fails goes back after its image was seen, each image of each call that ends is the shop after a first part
+/// of the list.
+pub fn one_list_onward<D: Sectors>()
+    ensures { (s : Shop) (disk : D) (steps : List (Step D)) → IsShop (D.history.image disk) s
+        → IsLife D.history (off disk) steps → AreOnward D.history (off disk) steps
+        → (parts : List (List Ask)) × KeepAll D.history s [] (off disk) steps parts
+        × AllShown D.history (IsAfterFirst s (counted_from [] parts)) (off disk) steps }
 {}
 
 /// What is in the list of some first steps, each request that was answered among it, is on each image that is held later, at any

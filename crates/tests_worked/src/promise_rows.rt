@@ -76,3 +76,37 @@ fn each_listed_opening_is_made(rt: HostRuntime) {
     // what it wrote before power went is written once more
     holds(&rt, written(&rt, &[1]) > without, "one more opening");
 }
+
+/// Opens the disk, and sends it a message in which power goes after so many sector writes.
+fn cut_in<D: Sectors>(disk: D, message: &[u8], power: u32) -> D {
+    match open_a_disk(Fuse::new(disk, power)) {
+        Ok(mut session) => {
+            let _ = handle_a_message(&mut session, message);
+            session.close().into_inner()
+        }
+        Err((_, fuse)) => fuse.into_inner(),
+    }
+}
+
+/// Opens the disk, and has a message answered.
+fn answered<D: Sectors>(rt: &(impl Abort + AllocGlobal), disk: D, message: &[u8]) -> (Reply, D) {
+    let Ok(mut session) = open_a_disk(disk) else {
+        panic!(rt; "not opened");
+    };
+    let reply = handle_a_message(&mut session, message);
+    (reply, session.close())
+}
+
+#[test]
+fn the_worked_life_is_lived(rt: HostRuntime) {
+    let (first, disk) = answered(&rt, fresh(&rt), b"1,1,S,15,7");
+    same_at(&rt, first.print().as_slice(), b"1,1,DONE,7".as_slice(), 1);
+    // after the intent was written, and in the recovery after one card
+    let disk = opened_until(cut_in(disk, b"2,1,R,15,5", 1), 1);
+    let (second, disk) = answered(&rt, disk, b"2,1,R,15,5");
+    same_at(&rt, second.print().as_slice(), b"2,1,DONE,12".as_slice(), 2);
+    // before the first write
+    let disk = cut_in(disk, b"1,2,I,15,2", 0);
+    let (third, _) = answered(&rt, disk, b"1,2,I,15,2");
+    same_at(&rt, third.print().as_slice(), b"1,2,DONE,10".as_slice(), 3);
+}
