@@ -12,7 +12,8 @@ A FAULT is one of these; files are told by their names:
 - `others unknown`: no lock is known (EOPNOTSUPP); `shared N`: the Nth lock that isn't for one program alone
 - `longest N`: a file may have so many bytes (`ulimit -f`)
 - `gone N`, `other N`, `cut N`: before the Nth look at the name of *.d64 the file goes to *.d64-elsewhere, and another of its bytes comes, or
-  half of its bytes go; `unseen N`: that look finds nothing (ENOENT); `log-gone N`: before its Nth sync *.d64-log goes
+  half of its bytes go; `unseen N`: that look finds nothing (ENOENT); `log-gone N`: before its Nth sync *.d64-log goes; `log-other N`:
+  before the Nth look at the name of *.d64-log or *.d64-log.new *.d64-log goes, and another of its bytes comes
 
 The file COUNTS gets a word for each call that syncs, or reads or writes *.d64: `sync`, `folder-sync`, `log-sync`, `read`, `write`. The
 status is the program's."""
@@ -95,6 +96,9 @@ class Faults:
             return errno.EIO if self.is_due(SYNCS[kind]) else None
         if call == STATX and kind == "image":
             return self.look(path)
+        if call == STATX and kind == "log" and self.is_due("log-other"):
+            os.rename(path, path + "-elsewhere")
+            shutil.copyfile(path + "-elsewhere", path)
         if call == FLOCK:
             is_refused = "others" in self.at or given[1] & fcntl.LOCK_SH and self.is_due("shared")
             return errno.EOPNOTSUPP if is_refused else None

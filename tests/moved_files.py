@@ -5,7 +5,7 @@
 
 Behind each change the next line hears MEDIA, standard error has DEVICE, and the status is 3; also a line that is repeated and known
 from memory. If the input ends instead, it ends so too, and over a log nothing is landed or removed. The same with the log of a
-running `serve`; then no reply is told to the next line. The image alone, copied from under a `serve`, is refused (LOG AWAY). Files beside an image that are no logs stay. Of two `serve`s under one name only the one whose file the name leads to answers. It ends by itself and uses no network."""
+running `serve`; then no reply is told to the next line. The image alone, copied from under a `serve`, is refused (LOG AWAY). A log that is changed in place under a `serve` loses no answer, and an image that is changed isn't landed on. Files beside an image that are no logs stay. Of two `serve`s under one name only the one whose file the name leads to answers. It ends by itself and uses no network."""
 
 import os
 import shutil
@@ -133,6 +133,50 @@ def alone(folder):
     return len(words)
 
 
+def log_older(folder):
+    shutil.copyfile(folder / "older", folder / "s.d64-log")
+
+
+def log_wiped(folder):
+    (folder / "s.d64-log").write_bytes(bytes(4_198_400))
+
+
+def log_flipped(folder):
+    """One bit of the last commit, which ends with a byte of a card that isn't zero."""
+    bytes_of = bytearray((folder / "s.d64-log").read_bytes())
+    bytes_of[len(bytes(bytes_of).rstrip(b"\0")) - 1] ^= 1
+    (folder / "s.d64-log").write_bytes(bytes_of)
+
+
+def changed_in_place(folder):
+    """A log that is changed under a service loses no answer. An image that is changed isn't landed on. Returns how many were changed."""
+    lines = [b"1,1,S,15,7", b"1,2,I,15,1", b"2,1,S,16,3", b"1,3,I,15,2"]
+    replies = [b"1,1,DONE,7", b"1,2,DONE,6", b"2,1,DONE,3", b"1,3,DONE,4"]
+    kept = b"CARD 15,4\nCARD 16,3\nTILL 1,3,I,15,2,DONE,4\nPRIOR 1,2,I,15,1,DONE,6\nTILL 2,1,S,16,3,DONE,3\n"
+    for change in (log_older, log_wiped, log_flipped):
+        fresh(folder)
+        served = Served(folder)
+        want("the first line", served.ask(lines[0]), replies[0])
+        shutil.copyfile(folder / "s.d64-log", folder / "older")
+        want("the others", [served.ask(it) for it in lines[1:]], replies[1:])
+        change(folder)
+        want(f"the end after {change.__name__}", served.end(), (0, b""))
+        shown = subprocess.run([PROGRAM, "show", "s.d64"], cwd=folder, check=True, capture_output=True).stdout
+        want(f"the shop after {change.__name__}", (shown.partition(b"\n")[2], (folder / "s.d64-log").exists()), (kept, False))
+    fresh(folder)
+    run(folder, "format", "other.d64", "--tills", "8")
+    served = Served(folder)
+    want("the first line", served.ask(lines[0]), replies[0])
+    shutil.copyfile(folder / "other.d64", folder / "s.d64")
+    want("the end after another image", served.end(), (3, b"DEVICE\n"))
+    want("that image", (folder / "s.d64").read_bytes(), (folder / "other.d64").read_bytes())
+    want("a log beside another image", run(folder, "show", "s.d64"), 1)
+    run(folder, "copy", "--log", "s.d64-log", "got.d64")
+    shown = subprocess.run([PROGRAM, "show", "got.d64"], cwd=folder, check=True, capture_output=True).stdout
+    want("the shop of the log", shown.partition(b"\n")[2], b"CARD 15,7\nTILL 1,1,S,15,7,DONE,7\n")
+    return 4
+
+
 def strangers(folder):
     """Files at the names of a log that are none stay, whatever runs. Returns how many commands ran."""
     tried = 0
@@ -201,7 +245,7 @@ def main():
                 else:
                     want(name, set(held(folder)), set(before))
                 tried += 1
-        tried += strangers(folder) + alone(folder)
+        tried += strangers(folder) + alone(folder) + changed_in_place(folder)
         # the goods of a shop whose copy came in its place are sold once: the second service lands the log of the first
         fresh(folder)
         first = Served(folder)

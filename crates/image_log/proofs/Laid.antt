@@ -48,28 +48,28 @@ laid_first h old mid new (Ok x) lengthens same = λ known.
     record { bytes = there.0; known = same ∙ there.1; size = there.2; blank = there.3 }
 laid_first h old mid new (Err e) lengthens same = tt
 
-pub laid_more : (old new : Option (List ℕ)) (k wide : ℕ) → wide ≡ 4096 → k < 1025
-    → ((f : List ℕ) → old ≡ Some f → 4096 * k ≤ length f → new ≡ Some (overwritten f (4096 * k) (zeros wide)))
+pub laid_more : (old new : Option (List ℕ)) (k wide : ℕ) → wide ≡ 102400 → k < 41
+    → ((f : List ℕ) → old ≡ Some f → 102400 * k ≤ length f → new ≡ Some (overwritten f (102400 * k) (zeros wide)))
     → Laid old → Laid new
 laid_more old new k wide is low writes laid =
     let f = laid.bytes in
-    let rest = drop (4096 * k + length (zeros wide)) f in
+    let rest = drop (102400 * k + length (zeros wide)) f in
     record {
-      bytes = overwritten f (4096 * k) (zeros wide);
+      bytes = overwritten f (102400 * k) (zeros wide);
       known = writes f laid.known (omega (arith, laid.size, low));
       size = omega (
         arith,
         laid.size,
         is,
         low,
-        length-append (take (4096 * k) f) (zeros wide ++ rest),
+        length-append (take (102400 * k) f) (zeros wide ++ rest),
         length-append (zeros wide) rest,
-        length-drop (4096 * k + length (zeros wide)) f,
-        length-take-le (4096 * k) f (omega (arith, laid.size, low)),
+        length-drop (102400 * k + length (zeros wide)) f,
+        length-take-le (102400 * k) f (omega (arith, laid.size, low)),
         length-replicate {A = ℕ} wide 0,
       );
-      blank = zeros_append (take (4096 * k) f) (zeros wide ++ rest) (zeros_take (4096 * k) f laid.blank)
-          (zeros_append (zeros wide) rest (zeros_replicate wide) (zeros_drop (4096 * k + length (zeros wide)) f laid.blank));
+      blank = zeros_append (take (102400 * k) f) (zeros wide ++ rest) (zeros_take (102400 * k) f laid.blank)
+          (zeros_append (zeros wide) rest (zeros_replicate wide) (zeros_drop (102400 * k + length (zeros wide)) f laid.blank));
     }
 
 laid_log : {F : Type 0} (h : FileHistory F) (old new : F) → h.held new ≡ h.held old

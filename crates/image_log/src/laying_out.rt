@@ -4,9 +4,14 @@ ghost use Rattle.image_log.specs.Files.{Rests};
 ghost use Rattle.image_log.specs.Recovered.{IsLog};
 
 use crate::blocks::BLOCK;
-use crate::log::{BLOCKS, LOG_BYTES};
+use crate::log::LOG_BYTES;
 use crate::log_file::LogFile;
 use std::io;
+
+/// How many bytes are written at once, and how often: 25 blocks, of which a log has 41 times as many.
+const PART: usize = BLOCK * 25;
+
+const PARTS: usize = LOG_BYTES / PART;
 
 /// Fills an empty file with zeros, room for all blocks and the mark's, and syncs it. Its length is synced first: so a kill
 /// or a power loss leaves a file that is empty or as long as a log, whatever stands in it.
@@ -17,8 +22,9 @@ pub(crate) fn lay_out<F: LogFile>(file: &mut F) -> io::Result<()>
 {
     file.lengthen(LOG_BYTES)?;
     file.sync()?;
-    for k in 0..BLOCKS + 1 {
-        file.write_at(BLOCK * k, &[0; BLOCK])?;
+    let zeros = [0; PART];
+    for k in 0..PARTS {
+        file.write_at(PART * k, &zeros)?;
     }
     file.sync()
 }

@@ -9,6 +9,7 @@ pub mod Lasts
 pub mod LoggedTold
 pub mod NearEnds
 pub mod PlayTold
+pub mod PlayWatched
 pub mod PlayedKept
 pub mod PlayedOver
 pub mod ReplyTold

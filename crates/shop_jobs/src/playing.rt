@@ -11,9 +11,10 @@ ghost use Rattle.image_log.specs.life.Tags.{SaysLogAway};
 use crate::durable_runs::play_durably;
 use crate::reply_lines::WatchedReplies;
 use crate::shop_runs::dry_run;
+use crate::watched_files::{name_of, served_end};
 use command_faults::CommandFault;
 use disk_layout::Fault;
-use image_file::{EndedFile, HostFiles, Locks};
+use image_file::{EndedFile, HostFiles, Locks, NameStays};
 use image_log::HostLogs;
 use opened_files::{Loss, opened_and_landed, read_owned, script_to_play, see_untagged};
 use std::fs::OpenFile;
@@ -49,7 +50,8 @@ where
 }
 
 /// Plays the script at a path on the image at another, over its file. `LogAway` if the image's log has the rest, isn't there,
-/// and no loss is accepted.
+/// and no loss is accepted. If the path doesn't lead to the image's file any more when the script was played, or the file has
+/// another length, it ends with `Device`: that file has the shop.
 pub fn do_playing<F, R, W>(
     rt: &R,
     path: &str,
@@ -69,6 +71,7 @@ where
         result }
 {
     let (image, script, file) = taken_to_play(rt, path, script, loss)?;
+    let name = name_of(rt, path, &file)?;
     let mut printer = WatchedReplies::new(out);
     let (_, ended) = play_durably(
         rt.alloc(),
@@ -77,7 +80,7 @@ where
         file,
         &mut printer,
     );
-    ended
+    served_end(ended, !name.is_still_named())
 }
 
 /// Prints the replies to the script at a path.

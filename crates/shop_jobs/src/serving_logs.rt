@@ -36,7 +36,7 @@ use host_session::Replies;
 use image_file::{EndedFile, HostFiles, HostInput, Locks, NameStays, opened_to_change};
 use image_log::{
     HostLogs, ImageFolder, LiveLog, LogFile, LogFolder, LogNames, LogRoom, SystemLog, TouchedDisk,
-    forget_making, land_in,
+    forget_making, image_room, land_in,
 };
 use line_server::BatchSource;
 use opened_files::{
@@ -242,11 +242,14 @@ where
     let Ok(room) = LogRoom::new(alloc) else {
         return Err(CommandFault::NoMemory);
     };
+    let Ok(kept) = image_room(alloc) else {
+        return Err(CommandFault::NoMemory);
+    };
     let bytes = landed_bytes(alloc, image, shop.as_slice(), away)?;
     if let Some(refusal) = loss_refusal(alloc, bytes.as_slice(), cut) {
         return Err(refusal);
     }
-    let log = match LiveLog::begin(alloc, folder, room, shop) {
+    let log = match LiveLog::begin(alloc, folder, room, shop, kept) {
         Ok(log) => log,
         Err((error, _)) => return cleared_end(rt, path, image, names, Err(error.into())),
     };

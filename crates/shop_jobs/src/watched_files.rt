@@ -1,8 +1,9 @@
 //! Replies that are passed only while the shop's file is there.
-ghost use Rattle.std.specs.Prelude.{◌≡◌, if◌then◌else◌, Err, true};
+ghost use Rattle.std.specs.Prelude.{◌≡◌, if◌then◌else◌, Err, IfErr, true};
 ghost use Rattle.command_faults.specs.declared.faults.CommandFault.TheVariants as faults;
 ghost use Rattle.shop_jobs.specs.WatchedFiles.{media_for as media, while_there};
 ghost use Rattle.image_file.specs.paths.Rights.{Look, May};
+ghost use Rattle.opened_files.specs.HostFiles.{IsUnbegun};
 
 use command_faults::CommandFault;
 use d64_image::Sectors;
@@ -20,6 +21,7 @@ pub(crate) fn name_of<'a, F: OpenFile, R: HostFiles<File = F>>(
     file: &F,
 ) -> Result<FileName<'a, R>, CommandFault>
     requires { May R.rights rt.now Look path.now }
+    ensures { IfErr result IsUnbegun }
 {
     let name = FileName::of(rt, path, file)?;
     if !name.is_still_named() {

@@ -141,13 +141,13 @@ module _ {F D : Type 0} {G : Ghosts F} (h : FolderHistory D) where
 
   abbrev pub of_live : LogHistory (LiveLog F D G)
   of_live = record {
-    stands_for = λ l image. Stands l.folder l.log l.used l.base.items image;
+    stands_for = λ l image. Stands l.folder l.log l.used l.base.items image × (l.shop.items ≡ image);
     may_leave = λ l image. (s : Folder) × left_now l.folder l.log l.used s × GivesAtMost s image;
     moment = λ l. moment_now l.folder l.log l.used;
     left_since = λ l t image. (s : Folder) × left_from l.folder l.log l.used t s × GivesAtMost s image;
     is_over = λ l. over_now l.log;
     has_failed = λ l. h.has_failed l.folder || failed_now l.log;
-    durable = λ l image c stands left. only_image l.folder l.log l.used l.base.items image stands left.0 c left.1 left.2;
+    durable = λ l image c stands left. only_image l.folder l.log l.used l.base.items image stands.0 left.0 c left.1 left.2;
     only_now = λ l c left. (left.0, left_last l.folder l.log l.used left.0 left.1, left.2);
   }
 

@@ -24,12 +24,16 @@ use std::os::unix::fs::MetadataExt;
 
 /// An image's open file, and the names of its log beside it. The file is read, written, synced and closed. It isn't
 /// locked: the caller does that. Once a log was read or got its name, it alone is opened, replaced or removed by that name.
-/// If the name leads to another file, or the log has another length, the call is an error, and does nothing. What the files
-/// hold, the host says; here IMAGE has no tag. The tag stays until the log's name is removed.
+/// If the name leads to another file, or the log has another length, the call is an error, and does nothing. Each sync of the
+/// names ends with a look at IMAGE's name: it is an error if that leads to another file, or the file has another length than
+/// when it was passed in. What the files hold, the host says; here IMAGE has no tag. The tag stays until the log's name is
+/// removed.
 #[derive(Drop)]
 pub struct ImageFolder<'a, R: HostFiles> {
     /// The open file, and the names.
     pub at: HostFolder<'a, R>,
+    // which file IMAGE is
+    image: Identity,
     // the file that is the log
     log: Option<Identity>,
     // whether IMAGE is tagged once its log has its name
@@ -67,11 +71,13 @@ impl<'a, R: HostFiles> ImageFolder<'a, R> {
         ensures { IfOk result (λ folder. (folder.at.rt.now ≡ rt.now) × (folder.at.names.now ≡ names.now) × (folder.at.image ≡ image)
             × (folder.checks.failed ≡ false)) }
     {
-        if regular(OpenFile::metadata(&image))?.nlink() > 1 {
+        let found = regular(OpenFile::metadata(&image))?;
+        if found.nlink() > 1 {
             return Err(io::ErrorKind::InvalidInput.into());
         }
         Ok(ImageFolder {
             at: HostFolder { rt, names, image },
+            image: Identity::sized(&found, found.len()),
             log: None,
             tags: false,
             checks: Checks::new(),
@@ -100,6 +106,15 @@ impl<'a, R: HostFiles> ImageFolder<'a, R> {
             named: Cell::new(named),
             checks: Checks::new(),
         }
+    }
+
+    /// An error if IMAGE's name doesn't lead to its file, or that has another length.
+    fn see_image(&mut self) -> io::Result<()>
+        ensures at { self.new.at ≡ self.old.at }
+        ensures counted { IsCounted self.old.checks self.new.checks result }
+    {
+        let (rt, name) = (self.at.rt, self.at.names.image());
+        self.checks.see_file(rt, name, self.image)
     }
 
     /// Takes this open file for the log. `NotFound` if another one was that.
@@ -262,11 +277,14 @@ impl<'a, R: HostLogs> LogFolder<SystemLog<'a, R>> for ImageFolder<'a, R> {
         let (rt, name) = (self.at.rt, self.at.names.log());
         self.checks.see_log(rt, name, self.log)?;
         self.take_off()?;
+        // two syncs lie between the two looks
+        self.checks.see_log(rt, name, self.log)?;
         self.log = None;
         R::remove_log(&mut self.at)
     }
 
     fn sync_folder(&mut self) -> io::Result<()> {
-        R::sync_folder(&mut self.at)
+        R::sync_folder(&mut self.at)?;
+        self.see_image()
     }
 }

@@ -29,7 +29,7 @@ pub enum Misfit {
 }
 
 /// Whether two images have the same sectors.
-fn is_same(one: &[[u8; 256]], other: &[[u8; 256]]) -> bool
+pub(crate) fn is_same(one: &[[u8; 256]], other: &[[u8; 256]]) -> bool
     ensures { IsTrue result ↔ (one.now ≡ other.now) }
 {
     one == other

@@ -76,7 +76,7 @@ pub(crate) fn find<F: LogFile, D: LogFolder<F>>(
 
 /// Copies the image that a log gives into IMAGE, and removes the log: the mark, IMAGE, the name, each synced before the
 /// next.
-fn land_found<F: LogFile, D: LogFolder<F>>(
+pub(crate) fn land_found<F: LogFile, D: LogFolder<F>>(
     folder: &mut D,
     now: &[[u8; 256]],
     shop: &[[u8; 256]],

@@ -23,13 +23,16 @@ pub struct LiveLog<F: LogFile, D> {
     log: Option<Log<F>>,
     // the image that the log began with, which IMAGE has
     base: Vec<[u8; 256]>,
+    // the image that was committed last
+    shop: Vec<[u8; 256]>,
     // whether the log had a commit, or a part of one
     used: bool,
     ghost sized: { length base.items ≡ 683 },
+    ghost kept: { length shop.items ≡ 683 },
 }
 
 impl<F: LogFile, D: LogFolder<F> + Drop> LiveLog<F, D> {
-    ghost use Rattle.std.specs.Prelude.{◌⊎◌, IfErr, IfOk, IfSome, IsErr, OnErr, OnOk, Some, false, true};
+    ghost use Rattle.std.specs.Prelude.{◌⊎◌, IfErr, IfOk, IfSome, IsErr, List, OnErr, OnOk, Some, false, true, ℕ};
     ghost use Rattle.d64_image.specs.Images.{Image};
     ghost use Rattle.image_log.specs.life.Folders.{AllLeft, Folder, LeavesFolders};
     ghost use Rattle.image_log.specs.life.Bringing.{IsBrought, RestsAlone};
@@ -38,15 +41,17 @@ impl<F: LogFile, D: LogFolder<F> + Drop> LiveLog<F, D> {
     ghost use Rattle.image_log.specs.Logs.{log_file};
     ghost use Rattle.image_log.specs.Marks.{Covers};
 
-    /// Makes a log in a folder that was landed with this image, in this room. At an error the folder is returned, and
-    /// still gives this image.
+    /// Makes a log in a folder that was landed with this image, in this room. `kept` is room for the image that is committed
+    /// last. At an error the folder is returned, and still gives this image.
     pub fn begin(
         alloc: Global,
         mut folder: D,
         room: LogRoom,
         shop: Vec<[u8; 256]>,
+        mut kept: Vec<[u8; 256]>,
     ) -> Result<LiveLog<F, D>, (io::Error, D)>
         requires sized { length shop.items ≡ 683 }
+        requires kept { length kept.items ≡ 683 }
         ensures stands { IfOk result (λ live. (s : Folder) → D.history.held folder ≡ Some s → s.image ≡ shop.items
             → AllLeft D.history folder (IsBrought shop.items) → (of_live D.history).stands_for live shop.items) }
         ensures any_moment { IfOk result (λ live. (s : Folder) → D.history.held folder ≡ Some s
@@ -60,12 +65,15 @@ impl<F: LogFile, D: LogFolder<F> + Drop> LiveLog<F, D> {
         // and then the folder or the log's file failed
         ensures cause { IfErr result (λ e. D.history.has_failed e.1 ≡ true) }
     {
-        match make_new(&mut folder, room, shop.as_slice()) {
+        let image = shop.as_slice();
+        kept.as_mut_slice().copy_from_slice(image);
+        match make_new(&mut folder, room, image) {
             Ok(log) => Ok(LiveLog {
                 alloc,
                 folder,
                 log: Some(log),
                 base: shop,
+                shop: kept,
                 used: false,
             }),
             Err(error) => Err((error, folder)),
@@ -94,6 +102,7 @@ impl<F: LogFile, D: LogFolder<F> + Drop> LiveLog<F, D> {
         }
         self.used = true;
         log.commit(now, touched)?;
+        self.shop.as_mut_slice().copy_from_slice(now);
         Ok(log.is_full())
     }
 
@@ -122,9 +131,9 @@ impl<F: LogFile, D: LogFolder<F> + Drop> LiveLog<F, D> {
         Ok(())
     }
 
-    /// Lands the log, and returns the folder: IMAGE has the log's image then, and the log is gone. If the log takes no more
-    /// commits, or its name leads to another file, this is an error, and the files are left alone: the next beginning lands
-    /// it. At an error the folder gives the image that it gave.
+    /// Lands the log, and returns the folder: IMAGE has the image that was committed last then, and the log is gone. The log isn't
+    /// read. If it takes no more commits, or its name leads to another file, or IMAGE isn't as the log began, this is an error,
+    /// and the files are left alone: the next beginning lands it. At an error the folder gives the image that it gave.
     pub fn end(self) -> (D, Result<(), LogFault>)
         ensures any_moment { (image : Image) → (of_live D.history).stands_for self image → IsEnding D.history self result.0 image }
         ensures ok { OnOk result.1 ((image : Image) → (of_live D.history).stands_for self image
@@ -134,15 +143,21 @@ impl<F: LogFile, D: LogFolder<F> + Drop> LiveLog<F, D> {
         // and so is one whose name has gone
         ensures away { IfSome self.log (λ l. D.IsAway self.folder (log_file l) → IsErr result.1
             × IsLeftAlone D.history self.folder self.log result.0) }
+        // IMAGE was as the log began, if both files are known
+        ensures own { IfSome self.log (λ l. OnOk result.1 ((s : Folder) (f : List ℕ) → D.history.held self.folder ≡ Some s
+            → F.history.held (log_file l) ≡ Some f → s.image ≡ self.base.items)) }
     {
         let LiveLog {
             alloc,
             mut folder,
             log,
-            mut base,
+            base,
+            shop,
             ..
         } = self;
-        let ended = end_log(alloc, &mut folder, log, base.as_mut_slice());
+        let base = base.as_slice();
+        let shop = shop.as_slice();
+        let ended = end_log(alloc, &mut folder, log, base, shop);
         (folder, ended)
     }
 }

@@ -98,7 +98,7 @@ pub trait LogFolder<F: LogFile> {
         ensures acts { Acts history self.old self.new unlogged IsRemoving result }
         ensures untagged { OnOk result (IsUntagged self.old self.new) };
 
-    /// Syncs the names.
+    /// Syncs the names. An error also if IMAGE's name leads to another file by then, as far as the folder looks.
     fn sync_folder(&mut self) -> io::Result<()>
         ensures { Brings history self.old self.new HasNames result };
 }

@@ -23,6 +23,10 @@ module _ {F D : Type 0} {G : Ghosts F} (h : FolderHistory D) where
       })
 
   -- what is said of the log that is open, under its name
+  pub said_under : (o : Option (Log F G)) (log : Log F G) → o ≡ Some log → (Says : Log F G → Type 0) → Says log → IfSome o Says
+  said_under o log is Says all = subst (λ (x : Option (Log F G)). IfSome x Says) (sym is) all
+
+  -- and of one whose name has gone
   pub away_under : (o : Option (Log F G)) (log : Log F G) → o ≡ Some log → (Away : F → Type 0) (P : Type 0)
       → (Away (log_file log) → P) → IfSome o (λ l. Away (log_file l) → P)
   away_under o log is Away P all =

@@ -111,6 +111,23 @@ module _ {D : Type 0} (h : FolderHistory D) where
       stays ok new alone
   land_ok old a b new now shop marking marked moments stays ok (Err e) alone = tt
 
+  -- IMAGE is read again, which changes nothing
+  module _ {T E : Type 0} (old new : D) (r : Result T E) (reads : Acts h old new (λ (x : Folder). x) Same r) (shops : List Image)
+      (s : Folder) (there : IsFound h old shops s) where
+    read_left : AllLeft h new (GivesOneOf shops)
+    read_left o may = let x = reads.outcomes o may in subst (GivesOneOf shops) (sym x.2) (there.left x.0 x.1)
+
+    pub read_moments : LeavesFolders h old new (GivesOneOf shops)
+    read_moments = goes_on h old old new (GivesOneOf shops) (started h old (GivesOneOf shops) there.left) reads.time read_left
+
+    pub read_found : h.held new ≡ Some s → IsFound h new shops s
+    read_found held = record {
+      held = held;
+      gives = there.gives;
+      left = read_left;
+      settled = λ o may. let x = reads.outcomes o may in subst (IsSettledAs s) (sym x.2) (there.settled x.0 x.1);
+    }
+
   -- a log that was read is closed
   module _ (old mid : D) (has_failed : Bool) (up : IsGivenUp h old mid has_failed) (shops : List Image) (s : Folder)
       (there : IsFound h old shops s) where

@@ -150,19 +150,17 @@ module _ {F D E : Type 0} {G : Ghosts F} (h : FolderHistory D) (d a : D) (log : 
           );
     }
 
-    -- a landing behind it
+    -- a landing behind it, of what memory has
     module _ (new : D) where
-      pub ended : ((shops : List Image) (s : Folder) → h.held a ≡ Some s → GivesOneOf shops s → AllLeft h a (GivesOneOf shops)
-          → LeavesFolders h a new (GivesOneOf shops)) → IsRenewing h d (Some log) used new now
-      ended landing = renewing new (landing (now ∷ []) (with_log bytes stands.some) found.held found.gives found.left)
+      pub kept_ended : ((shops : List Image) (s : Folder) (f : List ℕ) → IsFound h a shops s → s.log ≡ Some f → base ≡ s.image
+          → LogGives f s.image now → LeavesFolders h a new (GivesOneOf shops)) → IsRenewing h d (Some log) used new now
+      kept_ended landing = renewing new (landing (now ∷ []) (with_log bytes stands.some) bytes found refl (sym stands.image)
+          (stands_gives stands.log base now stands.stands stands.some.image stands.image))
 
-      pub rests : (shop : Image) → ((shops : List Image) (s : Folder) → h.held a ≡ Some s → GivesOneOf shops s
-          → AllLeft h a (GivesOneOf shops) → RestsAlone h new shop × Gives s shop) → RestsAlone h new now
-      unfolding found
-      rests shop landed =
-          let is = landed (now ∷ []) (with_log bytes stands.some) found.held found.gives found.left in
-          let one : LogGives bytes stands.some.image shop = is.1 in
-          subst (RestsAlone h new) (sym one.is ∙ found.gives.2.is) is.0
+      pub kept_rests : ((shops : List Image) (s : Folder) (f : List ℕ) → IsFound h a shops s → s.log ≡ Some f → base ≡ s.image
+          → LogGives f s.image now → RestsAlone h new now) → RestsAlone h new now
+      kept_rests landed = landed (now ∷ []) (with_log bytes stands.some) bytes found refl (sym stands.image)
+          (stands_gives stands.log base now stands.stands stands.some.image stands.image)
 
     -- the calls behind it, one after another
     module _ (b : D)

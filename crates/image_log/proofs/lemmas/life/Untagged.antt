@@ -1,5 +1,5 @@
 -- What is known of a folder is known of it without the tag of IMAGE.
-use Rattle.std.proofs.Common.{◌≡◌, ◌∙◌, Bool, ℕ, List, [], ap, false, inl, inr, refl, subst, sym, true, ⊎_elim}
+use Rattle.std.proofs.Common.{◌≡◌, ◌∙◌, ◌≤◌, Bool, ℕ, List, [], ap, false, inl, inr, refl, subst, sym, true, ⊎_elim}
 use Rattle.std.proofs.lemmas.Option.{none-some, same_Some}
 use Rattle.std.specs.Prelude.{if◌then◌else◌, IsErr, None, OnErr, OnOk, Option, Result, Some, length, option_map, slice_index_or}
 use Rattle.image_log.specs.life.Folders.{Acts, AllLeft, Brings, CountsFailure, Folder, FolderHistory, IsGivenUp, IsImageWritten, LeavesSector, Passes, Same, with_sector}
@@ -155,6 +155,25 @@ module _ {E D : Type 0} (inner : E → D) (failed : E → Bool) (h : FolderHisto
       time = passes a b there.time;
       failures = counts a b r same_checks there.failures;
     }
+
+  -- what a call left, whose error is handed on or which a check follows
+  pub brought_on : {X X2 : Type 0} (a b c : E) (P : Folder → Folder → Type 0) (r : Result Unit X) (r2 : Result Unit X2)
+      → inner b ≡ inner c → (OnOk r2 ((s : Folder) → H.held a ≡ Some s → AllLeft H b (P s))) → CountsFailure H a c r2
+      → Brings H a b P r → Brings H a c P r2
+  brought_on a b c P r r2 same ok failures one = record {
+    held = ap (λ (d : D). option_map untagged_folder (h.held d)) (sym same) ∙ one.held;
+    lent = ap h.lent (sym same) ∙ one.lent;
+    ok = on_ok ((s : Folder) → H.held a ≡ Some s → AllLeft H b (P s)) ((s : Folder) → H.held a ≡ Some s → AllLeft H c (P s)) r2
+        (λ all s held t may. all s held t (may.0, subst (λ (d : D). h.may_leave d may.0) (sym same) may.1, may.2)) ok;
+    outcomes = λ s may. one.outcomes s (may.0, subst (λ (d : D). h.may_leave d may.0) (sym same) may.1, may.2);
+    time = record {
+      later = subst (λ (d : D). h.moment (inner a) ≤ h.moment d) same one.time.later;
+      nothing_else = λ t s le left. ⊎_elim (λ old. inl old)
+          (λ may. inr (may.0, subst (λ (d : D). h.may_leave d may.0) same may.1, may.2))
+          (one.time.nothing_else t s le (left.0, subst (λ (d : D). h.left_since d t left.0) (sym same) left.1, left.2));
+    };
+    failures = failures;
+  }
 
   -- a file was closed, which may have failed
   pub given_up : (a b : E) (own theirs : Bool) → (own ≡ true → failed b ≡ true) → (own ≡ false → failed b ≡ failed a)

@@ -21,11 +21,11 @@ pub returns-clause-acts : goal.returns-clause-acts
 returns-clause-acts g c =
     let h = g.R.HostLogs.folders _ _ _ in
     let one = tag_written (λ f. f.at) (λ f. f.checks.failed) h c.args.self.now
-    (record { at = c.write_sector.new.folder; log = c.args.self.now.log; tags = c.args.self.now.tags; checks = c.args.self.now.checks })
+    (record { at = c.write_sector.new.folder; image = c.args.self.now.image; log = c.args.self.now.log; tags = c.args.self.now.tags; checks = c.args.self.now.checks })
     refl c.args.before.now c.args.sector.now _ c.told-before c.told-sector c.requires.left c.requires.held c.requires.tag
     c.in_ok-write_sector.ensures.acts in
     behind (λ f. f.at) (λ f. f.checks.failed) h c.args.self.now
-    (record { at = c.write_sector.new.folder; log = c.args.self.now.log; tags = c.args.self.now.tags; checks = c.args.self.now.checks })
+    (record { at = c.write_sector.new.folder; image = c.args.self.now.image; log = c.args.self.now.log; tags = c.args.self.now.tags; checks = c.args.self.now.checks })
     _ (λ s. s) Same _ c.sync_image.result one.ok one.failures.passed one
     (synced (λ f. f.at) (λ f. f.checks.failed) h _ _ HasImage c.sync_image.result
     (brought (λ f. f.at) (λ f. f.checks.failed) h _ _ refl HasImage c.sync_image.result (λ s t is. ap untagged_image is) c.sync_image.ensures.brings))

@@ -19,17 +19,17 @@ pub returns-then-take_tag-clause-acts : goal.returns-then-take_tag-clause-acts
 returns-then-take_tag-clause-acts g c =
     let h = g.R.HostLogs.folders _ _ _ in
     let one = looked (λ f. f.at) (λ f. f.checks.failed) h c.args.self.now
-    (record { at = c.read_synced.new.folder; log = c.args.self.now.log; tags = c.args.self.now.tags; checks = c.args.self.now.checks }) refl _
+    (record { at = c.read_synced.new.folder; image = c.args.self.now.image; log = c.args.self.now.log; tags = c.args.self.now.tags; checks = c.args.self.now.checks }) refl _
     c.in_ok-before.ensures.acts in
     behind (λ f. f.at) (λ f. f.checks.failed) h c.args.self.now
-    (record { at = c.read_synced.new.folder; log = c.args.self.now.log; tags = c.args.self.now.tags; checks = c.args.self.now.checks }) _ (λ s. s) Same _
+    (record { at = c.read_synced.new.folder; image = c.args.self.now.image; log = c.args.self.now.log; tags = c.args.self.now.tags; checks = c.args.self.now.checks }) _ (λ s. s) Same _
     c.change_tag.result one.ok one.failures.passed one c.change_tag.ensures.acts
 
 pub returns-clause-acts : goal.returns-clause-acts
 returns-clause-acts g c =
     let h = g.R.HostLogs.folders _ _ _ in
     let one = looked (λ f. f.at) (λ f. f.checks.failed) h c.args.self.now
-    (record { at = c.read_synced.new.folder; log = c.args.self.now.log; tags = c.args.self.now.tags; checks = c.args.self.now.checks }) refl _
+    (record { at = c.read_synced.new.folder; image = c.args.self.now.image; log = c.args.self.now.log; tags = c.args.self.now.tags; checks = c.args.self.now.checks }) refl _
     c.in_ok-before.ensures.acts in
     answered (λ f. f.at) (λ f. f.checks.failed) h c.args.self.now _ _ (λ s. s) Same _ _ refl one.ok (record { failed = tt; passed = one.failures.passed }) one
 

@@ -29,7 +29,7 @@ returns-in_err-name_log-clause-acts g c f held only =
 pub returns-clause-acts : goal.returns-clause-acts
 returns-clause-acts g c f held only =
     let one = alike (λ f. f.at) (λ f. f.checks.failed) (g.R.HostLogs.folders _ _ _) c.args.self.now
-    (record { at = c.name_log.new.folder; log = Some c.args.file.now.identity; tags = c.args.self.now.tags; checks = c.see_log.new.self })
+    (record { at = c.name_log.new.folder; image = c.args.self.now.image; log = Some c.args.file.now.identity; tags = c.args.self.now.tags; checks = c.see_log.new.self })
     c.in_ok-see_log.ensures.passed (named f) (IsNaming f) _ (λ s. refl) (step f) (c.in_ok-name_log.ensures.acts f held only) in
     answered (λ f. f.at) (λ f. f.checks.failed) (g.R.HostLogs.folders _ _ _) _ _ _ (named f) (IsNaming f) _ _ refl one.ok
     (record { failed = tt; passed = one.failures.passed }) one

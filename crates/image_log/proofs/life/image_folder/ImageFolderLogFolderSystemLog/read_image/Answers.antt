@@ -8,7 +8,7 @@ use Rattle.image_log.proofs.life.image_folder.ImageFolderLogFolderSystemLog.read
 pub returns-clause-acts : goal.returns-clause-acts
 returns-clause-acts g c =
     let one = looked (λ f. f.at) (λ f. f.checks.failed) (g.R.HostLogs.folders _ _ _) c.args.self.now
-    (record { at = c.read_image.new.folder; log = c.args.self.now.log; tags = c.args.self.now.tags; checks = c.args.self.now.checks })
+    (record { at = c.read_image.new.folder; image = c.args.self.now.image; log = c.args.self.now.log; tags = c.args.self.now.tags; checks = c.args.self.now.checks })
     refl _ c.in_ok-read_image.ensures.acts in
     answered (λ f. f.at) (λ f. f.checks.failed) (g.R.HostLogs.folders _ _ _) c.args.self.now _ _ (λ s. s) Same _ _ refl one.ok
     (record { failed = tt; passed = one.failures.passed }) one

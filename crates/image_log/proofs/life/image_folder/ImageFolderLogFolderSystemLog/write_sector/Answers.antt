@@ -21,13 +21,13 @@ pub returns-then-index-eq-TAGGED-clause-acts : goal.returns-then-index-eq-TAGGED
 returns-then-index-eq-TAGGED-clause-acts g c =
     let h = g.R.HostLogs.folders _ _ _ in
     let one = looked (λ f. f.at) (λ f. f.checks.failed) h c.args.self.now
-    (record { at = c.read_synced.new.folder; log = c.args.self.now.log; tags = c.args.self.now.tags; checks = c.args.self.now.checks }) refl _
+    (record { at = c.read_synced.new.folder; image = c.args.self.now.image; log = c.args.self.now.log; tags = c.args.self.now.tags; checks = c.args.self.now.checks }) refl _
     c.in_ok-before.ensures.acts in
     behind (λ f. f.at) (λ f. f.checks.failed) h c.args.self.now
-    (record { at = c.read_synced.new.folder; log = c.args.self.now.log; tags = c.args.self.now.tags; checks = c.args.self.now.checks }) c.write_over.new.self
+    (record { at = c.read_synced.new.folder; image = c.args.self.now.image; log = c.args.self.now.log; tags = c.args.self.now.tags; checks = c.args.self.now.checks }) c.write_over.new.self
     (with_sector c.args.index c.args.sector.now) (IsImageWritten c.args.index c.args.sector.now) _ c.write_over.result one.ok one.failures.passed one
     (subst (λ (i : ℕ). Acts (untagged_in (λ f. f.at) (λ f. f.checks.failed) h)
-    (record { at = c.read_synced.new.folder; log = c.args.self.now.log; tags = c.args.self.now.tags; checks = c.args.self.now.checks }) c.write_over.new.self
+    (record { at = c.read_synced.new.folder; image = c.args.self.now.image; log = c.args.self.now.log; tags = c.args.self.now.tags; checks = c.args.self.now.checks }) c.write_over.new.self
     (with_sector i c.args.sector.now) (IsImageWritten i c.args.sector.now) c.write_over.result) (sym c.if-index-eq-TAGGED.true)
     c.write_over.ensures.acts)
 

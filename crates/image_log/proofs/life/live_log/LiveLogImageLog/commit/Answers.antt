@@ -12,9 +12,9 @@ returns-then-none_touched-clause-committed g c =
     let old = c.args.self.now in
     record {
       ok = λ before stands covers.
-          subst (λ i. Stands g.D.LogFolder.history old.folder old.log old.used old.base.items i)
-          (quiet stands.log c.args.now.now c.args.touched.now c.requires.sized (c.none_touched.ensures.none c.if-none_touched.true)
-          old.base.items before stands.stands covers) stands;
+          let same = quiet stands.0.log c.args.now.now c.args.touched.now c.requires.sized
+          (c.none_touched.ensures.none c.if-none_touched.true) old.base.items before stands.0.stands covers in
+          (subst (λ i. Stands g.D.LogFolder.history old.folder old.log old.used old.base.items i) same stands.0, stands.1 ∙ same);
       any_moment = λ before stands covers. started (of_live g.D.LogFolder.history) old before (IsEither before c.args.now.now) stands
           (inl refl);
       quiet = λ none. refl;
