@@ -2,7 +2,7 @@
 //! expected replies come from the trade rule, by hand.
 use crate::comparing::{holds, same_at};
 use crate::disks::fresh;
-use d64_image::{Fuse, Meter, Sectors};
+use d64_image::{Fuse, MemDisk, Meter, Sectors};
 use host_session::{Event, play};
 use request_cards::Reply;
 use shop_life::{handle_a_message, open_a_disk};
@@ -89,7 +89,7 @@ fn cut_in<D: Sectors>(disk: D, message: &[u8], power: u32) -> D {
 }
 
 /// Opens the disk, and has a message answered.
-fn answered<D: Sectors>(rt: &(impl Abort + AllocGlobal), disk: D, message: &[u8]) -> (Reply, D) {
+fn answered(rt: &(impl Abort + AllocGlobal), disk: MemDisk, message: &[u8]) -> (Reply, MemDisk) {
     let Ok(mut session) = open_a_disk(disk) else {
         panic!(rt; "not opened");
     };
