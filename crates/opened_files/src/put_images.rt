@@ -1,6 +1,6 @@
 //! Images that are made where nothing stands, or written over a file that is no image.
 ghost use Rattle.std.specs.Prelude.{◌≡◌, OnOk, length, string_bytes};
-ghost use Rattle.image_file.specs.paths.Rights.{MayWrite};
+ghost use Rattle.image_file.specs.paths.Rights.{Look, May, MayWrite};
 ghost use Rattle.image_file.specs.paths.Traces.{IsWrittenOver};
 ghost use Rattle.opened_files.specs.Makings.{IsMadeAt, IsPutAt};
 ghost use Rattle.opened_files.specs.Rights.{MayMakeImage};
@@ -11,9 +11,10 @@ use crate::files::is_file_at;
 use crate::image_logs::see_one_place;
 use crate::new_images::{clear, fill, take};
 use command_faults::CommandFault;
-use image_file::{EndedFile, HostFiles, Identity, Locks, replace_image};
+use image_file::{EndedFile, FileName, HostFiles, Identity, Locks, NameStays, replace_image};
 use image_log::{LogNames, find_log, forget_log};
 use std::fs::OpenFile;
+use std::io;
 
 /// Makes the image at a path where nothing stands. `log` stays, if it stands there.
 fn make_beside<F, R>(
@@ -40,6 +41,21 @@ where
     filled
 }
 
+/// Syncs the names in the folder of the file at a path, which is open here. An error also if the path leads to another file by
+/// then, or the file has another length.
+fn sync_named<F, R>(rt: &R, path: &str, file: &F) -> io::Result<()>
+where
+    F: OpenFile + Drop,
+    R: HostFiles<File = F>,
+    requires { May R.rights rt.now Look path.now }
+{
+    rt.sync_folder_of(path)?;
+    if FileName::of(rt, path, file)?.is_still_named() {
+        return Ok(());
+    }
+    Err(io::ErrorKind::NotFound.into())
+}
+
 /// Writes the image over the file at a path. `log` stays, if it stands beside it.
 fn write_over<F, R>(
     rt: &R,
@@ -61,7 +77,7 @@ where
     see_one_place(rt, path, &file)?;
     clear(rt, names, log)?;
     match replace_image(&mut file, image) {
-        Ok(()) => Ok(rt.sync_folder_of(path)?),
+        Ok(()) => Ok(sync_named(rt, path, &file)?),
         Err(_) => Err(CommandFault::File),
     }
 }
@@ -69,8 +85,9 @@ where
 /// Makes an image at a path, or writes it over the file that stands there. One that is made has another name until it is whole
 /// and synced. The log of what is replaced stays until the image is whole.
 ///
-/// `InUse`: another program has the file; `TwoNames`: it has a second name; `File` or `NoMemory`: a call of the system failed.
-/// What was made is removed then, unless its log couldn't be removed; a file that is written over may be spoiled.
+/// `InUse`: another program has the file; `TwoNames`: it has a second name; `File` or `NoMemory`: a call of the system failed, or
+/// the path leads to another file once the file was written over. What was made is removed then, unless its log couldn't be
+/// removed; a file that is written over may be spoiled.
 pub fn put_image<F, R>(rt: &R, path: &str, image: &[u8]) -> Result<(), CommandFault>
 where
     F: EndedFile + Locks + OpenFile + Drop,
