@@ -12,8 +12,8 @@
   in its order, and the journal makes the same image.
 - An image that is older than its journal, or another shop's: refused, and neither file is changed. One that was served
   without its journal meanwhile: served, and the journal says so. A file that is no journal: refused and unchanged.
-- A journal in many files: each backup of the day and the files make the image that there is (`rebuild.py`); without one
-  of the files, with another shop's backup, or over a file that is there, `rebuild.py` refuses.
+- A journal in many files: each backup of the day and the files make the image that there is (`ledger-shop rebuild`); without one
+  of the files, with another shop's backup, or over a file that is there, it refuses.
 - What the bridge takes for a request is what `serve` takes for one, over many lines that nearly are."""
 
 import random
@@ -22,16 +22,13 @@ import tempfile
 import threading
 from pathlib import Path
 
-EXAMPLES = Path(__file__).resolve().parent.parent / "examples" / "tills"
-sys.path.insert(0, str(EXAMPLES))
-
-import journal
-import shop
-import wishes
 from served import Served, run, sure, want
+from shop_paths import command
 from shop_rule import SYNTAX, Shop
 
-REBUILD = EXAMPLES / "rebuild.py"
+from ledger_shop import journal, service, wishes
+
+REBUILD = command("rebuild")
 DAY, LINES = 120, 3000
 # how many messages are handed over together, in all
 MANY = 2000
@@ -46,7 +43,7 @@ class Place:
         sure(program, "format", self.image, "--tills", tills)
 
     def serve(self, size=journal.SIZE):
-        return shop.Serve(self.program, str(self.image), journal.Journal(self.kept, size))
+        return service.Serve(self.program, str(self.image), journal.Journal(self.kept, size))
 
     def served(self, *requests, size=journal.SIZE):
         """A bridge that takes these; their replies."""
@@ -72,7 +69,7 @@ class Place:
         try:
             serve.start()
             want(False, "it is served")
-        except shop.Gone as gone:
+        except service.Gone as gone:
             want(gone.exit_status() == status, f"the bridge ends with {gone.exit_status()}, {gone}")
             want(not serve.is_open(), "serve goes on")
             want((self.image.read_bytes(), self.kept.read_bytes()) == before, "image or journal changed")
@@ -93,15 +90,15 @@ def two_bridges(place):
     try:
         first.hand(b"1,2,S,8,5")
         want(False, "a serve that was killed answers")
-    except shop.Gone as gone:
-        want(gone.exit_status() == shop.AGAIN, f"the first bridge ends with {gone.exit_status()}")
+    except service.Gone as gone:
+        want(gone.exit_status() == service.AGAIN, f"the first bridge ends with {gone.exit_status()}")
     other.join()
     # what the first bridge kept last is taken by now; then a request whose answer hangs on that, and the repeat
     for line, reply in [(b"2,1,I,8,2", b"2,1,DONE,3"), (b"1,2,S,8,5", b"1,2,DONE,5")]:
         want(second.hand(line) == reply, f"{line} doesn't get {reply}")
     second.end()
     sure(
-        REBUILD, place.folder / "new.d64", place.kept, "--tills", 4, "--image", place.image, "--program", place.program
+        *REBUILD, place.folder / "new.d64", place.kept, "--tills", 4, "--image", place.image, "--program", place.program
     )
 
 
@@ -135,7 +132,7 @@ def taken_together(place):
     place.served("1,1,S,5,10", "2,1,I,5,3")
     before = place.image.read_bytes()
     asked = [b"1,2,S,6,11", b"2,2,I,5,1", b"2,1,I,5,3", b"3,1,R,5,4", b"hello"]
-    wanted = [b"1,2,DONE,11", b"2,2,DONE,6", b"2,1,DONE,7", b"3,1,DONE,10", shop.SYNTAX]
+    wanted = [b"1,2,DONE,11", b"2,2,DONE,6", b"2,1,DONE,7", b"3,1,DONE,10", service.SYNTAX]
     place.together(asked, wanted)
     text, whole = place.kept.read_bytes(), place.image.read_bytes()
     start = text.rindex(b"\n# ") + 1
@@ -164,7 +161,7 @@ def taken_together(place):
     ):
         place.image.write_bytes(whole)
         place.kept.write_bytes(wrong)
-        place.refused(shop.NO_SHOP)
+        place.refused(service.NO_SHOP)
     return tried
 
 
@@ -187,7 +184,7 @@ def handed_together(place, draw):
         sizes.append(len(lines))
     serve.end()
     words = [place.kept, "--tills", 4, "--image", place.image, "--program", place.program]
-    sure(REBUILD, place.folder / "anew.d64", *words)
+    sure(*REBUILD, place.folder / "anew.d64", *words)
     return sum(sizes)
 
 
@@ -202,11 +199,11 @@ def other_images(place, other):
     place.served("3,1,I,5,4", "2,2,I,5,1")
     image = place.image.read_bytes()
     place.image.write_bytes(backup)
-    told = place.refused(shop.NO_SHOP)
-    want("older than its journal" in told and "rebuild.py" in told, f"an older image: {told}")
+    told = place.refused(service.NO_SHOP)
+    want("older than its journal" in told and "ledger-shop rebuild" in told, f"an older image: {told}")
     other.served("1,1,S,5,10", "2,1,I,5,3", "2,2,I,5,2", "3,1,I,5,4")
     place.image.write_bytes(other.image.read_bytes())
-    want("isn't its journal's" in place.refused(shop.NO_SHOP), "another shop's image")
+    want("isn't its journal's" in place.refused(service.NO_SHOP), "another shop's image")
     place.image.write_bytes(image)
     want(place.served("1,2,R,5,1") == ["1,2,DONE,3"], "the image itself")
     alone = Served(place.program, place.image)
@@ -224,7 +221,7 @@ def other_images(place, other):
         kept[:60] + b"\xff" + kept[61:],
     ):
         place.kept.write_bytes(text)
-        place.refused(shop.NO_SHOP)
+        place.refused(service.NO_SHOP)
     place.kept.write_bytes(kept)
     return 8
 
@@ -253,10 +250,10 @@ def many_files(place, other, draw):
     program = ["--program", place.program]
     fresh = [place.kept, "--tills", "4", "--image", place.image, *program]
     new = place.folder / "again.d64"
-    sure(REBUILD, new, *fresh)
+    sure(*REBUILD, new, *fresh)
     for backup in backups:
         new.unlink()
-        sure(REBUILD, new, place.kept, "--from", backup, "--image", place.image, *program)
+        sure(*REBUILD, new, place.kept, "--from", backup, "--image", place.image, *program)
     refused = [
         ([new, *fresh], None, "over a file that is there"),
         ([place.folder / "1.d64", *fresh], files[0], "without the first file"),
@@ -268,12 +265,12 @@ def many_files(place, other, draw):
     for words, missing, what in refused:
         if missing:
             missing.rename(away)
-        status, _, text = run(REBUILD, *words)
+        status, _, text = run(*REBUILD, *words)
         if missing:
             away.rename(missing)
         want(status == 1 and text.startswith("rebuild: ") and len(text.splitlines()) == 1, f"{what}: {status} {text}")
-    want(new.read_bytes() == kept, "rebuild.py wrote over a file that is there")
-    want(not list(place.folder.glob("[123].d64")), "rebuild.py leaves an image that it refused")
+    want(new.read_bytes() == kept, "rebuild wrote over a file that is there")
+    want(not list(place.folder.glob("[123].d64")), "rebuild leaves an image that it refused")
     return len(files), len(backups), len(refused)
 
 

@@ -12,7 +12,7 @@ serving() {
     return 1
 }
 sell() {
-    printf '%s\n' "$3" | /usr/lib/ledger/till_mqtt.py "$1" --book "$2" --broker mqtts://localhost --ca "$own/ca.crt" \
+    printf '%s\n' "$3" | ledger-shop till-mqtt "$1" --book "$2" --broker mqtts://localhost --ca "$own/ca.crt" \
         --account "$own/accounts/till-1-$1.account"
 }
 
@@ -36,11 +36,11 @@ sums() {
     ledger show /var/lib/ledger/shop1.d64
 }
 before=$(sums)
-examples/operator/set_up.sh shop.example 4
+shop/deploy/set_up.sh shop.example 4
 [ "$before" = "$(sums)" ]
 [ "$(sell 4 till4.book R,101,0)" = '1 R,101,0 DONE,36' ]
 echo '# mine' >>/etc/nginx/conf.d/ledger_pages.conf
-examples/operator/set_up.sh shop.example 4 2>/shop/second || { cat /shop/second; exit 1; }
+shop/deploy/set_up.sh shop.example 4 2>/shop/second || { cat /shop/second; exit 1; }
 grep -q 'ledger_pages.conf was changed and stays' /shop/second
 grep -q '^# mine' /etc/nginx/conf.d/ledger_pages.conf
 
@@ -48,7 +48,7 @@ grep -q '^# mine' /etc/nginx/conf.d/ledger_pages.conf
 authority=$(sha256sum "$own/ca.crt")
 for host in 10.213.0.2 ::1 shop.example; do
     case $host in *:*) place="[$host]" ;; *) place=$host ;; esac
-    examples/operator/set_up.sh "$host" 4 2>/shop/address || { cat /shop/address; exit 1; }
+    shop/deploy/set_up.sh "$host" 4 2>/shop/address || { cat /shop/address; exit 1; }
     grep -q "gives way to one of $host" /shop/address
     get "https://$place/till_page/" | grep -q '<title>Till</title>'
     for port in 443 8883 8884; do
@@ -70,13 +70,13 @@ for _ in $(seq 60); do
     sleep 0.5
 done
 grep -q '^ledger-bridge-mqtt@1.service' /var/lib/ledger/alarms
-/usr/lib/ledger/restore.py /var/lib/ledger/shop1.d64 /var/backups/ledger --journal /var/lib/ledger/shop1.lines --unit ledger-bridge-mqtt@1
+ledger-shop restore /var/lib/ledger/shop1.d64 /var/backups/ledger --journal /var/lib/ledger/shop1.lines --unit ledger-bridge-mqtt@1
 serving
 cmp /shop/zeros /var/lib/ledger/shop1.d64.aside1
 [ "$(stat -c %U /var/lib/ledger/shop1.d64)" = ledger ]
 [ "$(sell 2 till2.book I,101,1)" = '2 I,101,1 DONE,35' ]
-/usr/lib/ledger/history.py /var/lib/ledger/shop1.lines 101 --goods "$own/goods.csv" | grep -c ' left$'
-/usr/lib/ledger/day_report.py /var/lib/ledger/shop1.lines --goods "$own/goods.csv"
+ledger-shop history /var/lib/ledger/shop1.lines 101 --goods "$own/goods.csv" | grep -c ' left$'
+ledger-shop day-report /var/lib/ledger/shop1.lines --goods "$own/goods.csv"
 systemctl start ledger-backup@1
 ls /var/backups/ledger/shop1-000002.d64
 [ "$(systemctl is-active ledger-bridge-mqtt@1)" = active ]

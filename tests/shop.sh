@@ -19,7 +19,7 @@ missing=$(cd "$top/tests" && /usr/bin/python3 -c "import shop_scene; print(*shop
 /usr/bin/python3 -c "import pika, paho.mqtt.client, prometheus_client, sdnotify, selenium" ||
     { echo "shop: python3-pika, python3-paho-mqtt, python3-prometheus-client, python3-sdnotify or python3-selenium isn't there" >&2; exit 1; }
 
-for file in "$top"/examples/tills/*.py "$top"/examples/operator/*.py "$top"/tests/shop*.py; do
+for file in "$top"/shop/src/ledger_shop/*.py "$top"/tests/shop*.py; do
     /usr/bin/python3 -c "import sys; compile(open(sys.argv[1], encoding='utf-8').read(), sys.argv[1], 'exec')" "$file"
 done
 told=$(node --test "$top/tests/till_page.mjs" "$top/tests/stock_page.mjs" 2>&1) || { echo "$told" >&2; exit 1; }

@@ -2,11 +2,11 @@
 
 import time
 
-import account
 import brokers
-import till_mqtt
 from served import want
 from shop_scene import until
+
+from ledger_shop import account, till_mqtt
 
 SIZES = {"phone": (390, 800), "tablet": (820, 1180), "desk": (1280, 900)}
 

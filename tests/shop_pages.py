@@ -10,16 +10,13 @@ three sizes, light and dark, for a person to look at. Values are worked out by h
 
 import argparse
 import subprocess
-import sys
 import tempfile
 import time
 from pathlib import Path
 
 import shop_scene as scene
 from served import want
-from shop_scene import TILLS, TillPage, until
-
-sys.path.insert(0, str(TILLS))
+from shop_scene import TillPage, until
 
 from shop_looks import Strangers
 

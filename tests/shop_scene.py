@@ -6,20 +6,15 @@ import json
 import os
 import shutil
 import subprocess
-import sys
 import threading
 import time
 from functools import partial
-from pathlib import Path
-
-TOP = Path(__file__).resolve().parent.parent
-EXAMPLES, TILLS = TOP / "examples", TOP / "examples" / "tills"
-sys.path.insert(0, str(TILLS))
 
 import brokers
 from served import sure, want
+from shop_paths import TOP, command
 
-PYTHON = "/usr/bin/python3"
+EXAMPLES = TOP / "examples"
 SHOP = "1"
 
 
@@ -118,7 +113,7 @@ def browser(folder, size=(1100, 800)):
 
 def bridge_words(program, image, kept, broker, *more):
     """The command of a bridge."""
-    words = [PYTHON, TILLS / "bridge_mqtt.py", image, "--shop", SHOP, "--program", program, "--keep", kept]
+    words = command("bridge-mqtt", image, "--shop", SHOP, "--program", program, "--keep", kept)
     return [*map(str, [*words, *broker.words(f"bridge-{SHOP}"), *more])]
 
 

@@ -1,6 +1,6 @@
 // What the stock page makes of the bridge's messages, by node's test runner:
 //   node --test tests/stock_page.mjs
-// The lines are written by hand after docs/MESSAGES.md and examples/tills/board.py. It wants Debian's nodejs.
+// The lines are written by hand after docs/MESSAGES.md and shop/src/ledger_shop/board.py. It wants Debian's nodejs.
 
 import assert from "node:assert/strict";
 import { test } from "node:test";

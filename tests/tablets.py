@@ -3,26 +3,26 @@
 
     tests/tablets.py PROGRAM
 
-Two tablets (Chromium) and a terminal (till_mqtt.py) sell as till 4 by turns, with wishes that are all the same: what the
+Two tablets (Chromium) and a terminal (`ledger-shop till-mqtt`) sell as till 4 by turns, with wishes that are all the same: what the
 devices call *Done* together is what the shop has counted, each once. A device that comes newly to a used number is asked, with
 that number filled in; one whose till was taken over says so. Wishes that were entered without net, while the bridge was away
 and before the broker was killed with SIGKILL are counted once, and shown as *Done* by the device that entered them alone. A
 second tap at 0.05 to 0.6 s sells nothing, and all goods have to be chosen anew. A wrong password shows the form with a word
-beside its field, and nothing of it is kept. After an old backup both go on from the shop's number. A code of make_accounts.py signs in, as zbar reads it (Debian's zbar-tools)."""
+beside its field, and nothing of it is kept. After an old backup both go on from the shop's number. A code of `ledger-shop accounts` signs in, as zbar reads it (Debian's zbar-tools)."""
 
 import argparse
 import os
 import pty
 import re
 import subprocess
-import sys
 import tempfile
 import time
 from pathlib import Path
 
 import shop_scene as scene
 from served import sure, want
-from shop_scene import PYTHON, TILLS, TillPage, until
+from shop_paths import command
+from shop_scene import TillPage, until
 
 STOCK, TAPS = 1000, (0.05, 0.15, 0.3, 0.6)
 GOODS = "item,name,unit,least\n1,Mug,piece,6\n2,Postcard,piece,20\n"
@@ -77,7 +77,7 @@ class Trial:
 
     def words(self, till, book=None, *more):
         book = self.folder / (book or f"till{till}.book")
-        return [*map(str, [PYTHON, TILLS / "till_mqtt.py", till, "--book", book, *self.broker.words(f"till-1-{till}"), *more])]
+        return [*map(str, command("till-mqtt", till, "--book", book, *self.broker.words(f"till-1-{till}"), *more))]
 
     def terminal(self, till, wishes, book=None, *more):
         """A till in a terminal: its status, what it prints, and what it says."""
@@ -328,8 +328,8 @@ class Trial:
         self.sell(page)
 
     def code(self):
-        """A code of make_accounts.py, as another program reads it: it signs in, and the password leaves the address."""
-        words = [PYTHON, TILLS / "make_accounts.py", self.broker.accounts.folder, "--qr", "till-1-1", "--page", self.pages.url("till_page")]
+        """A code of `ledger-shop accounts`, as another program reads it: it signs in, and the password leaves the address."""
+        words = command("accounts", self.broker.accounts.folder, "--qr", "till-1-1", "--page", self.pages.url("till_page"))
         printed = "\n".join(subprocess.run(list(map(str, words)), capture_output=True, text=True, check=True).stdout.splitlines())
         text = read_code(re.sub(r"\x1b\[[0-9;]*m", "", printed), self.folder / "code.png")
         self.want(text == f"{self.pages.url('till_page')}#till=1&password={self.broker.password('till-1-1')}", "zbar reads another text")
