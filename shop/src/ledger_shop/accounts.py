@@ -152,7 +152,9 @@ def print_code(folder, user, page):
         password = path.read_text(encoding="ascii").strip().partition(":")[2]
         subprocess.run(["qrencode", "-t", "ANSIUTF8"], input=f"{page}#till={till}&password={password}", text=True, check=True)
     except FileNotFoundError as fault:
-        sys.exit(f"make_accounts: there is no {fault.filename}" + (" (Debian's qrencode)" if fault.filename == "qrencode" else ""))
+        sys.exit(
+            f"make_accounts: there is no {fault.filename}" + (" (Debian's qrencode)" if fault.filename == "qrencode" else "")
+        )
     except (OSError, subprocess.CalledProcessError) as fault:
         sys.exit(f"make_accounts: {fault}")
 

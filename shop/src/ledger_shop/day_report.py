@@ -63,7 +63,10 @@ class Report:
 
     def table(self, goods):
         """Lines of columns, the names cut to 32 characters."""
-        rows = [[str(item), goods[item].name[:32] if item in goods else "", *map(str, row.fields())] for item, row in sorted(self.rows.items())]
+        rows = [
+            [str(item), goods[item].name[:32] if item in goods else "", *map(str, row.fields())]
+            for item, row in sorted(self.rows.items())
+        ]
         widths = [max(map(len, column)) for column in zip(HEAD, *rows)]
         left = (0, 1)
         for row in [HEAD, *rows]:

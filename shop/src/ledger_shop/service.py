@@ -84,8 +84,7 @@ class Refusals:
         if time.monotonic() < self.reported + REPORT:
             return
         by = ", ".join(
-            f"{count} of {'nobody' if till in (None, NOBODY) else f'till {till}'}"
-            for till, count in self.counts.items()
+            f"{count} of {'nobody' if till in (None, NOBODY) else f'till {till}'}" for till, count in self.counts.items()
         )
         say(f"messages that are no request: {by}")
         self.counts, self.reported = {}, time.monotonic()
