@@ -5,8 +5,8 @@
 
 Tills ask through the exchange `shop.1.asks`, each with its number as key. The asks lie in the quorum queue
 `shop.1.bridge`, which has a single active consumer: of several bridges one serves, and the others stand by. What the
-broker has delivered is handed to `serve` together, in its order. A message is acknowledged when the broker has confirmed
-or refused its reply; a bridge that dies before leaves it to the next, whose repeat has no second effect. Replies go out
+broker has delivered is handed to `serve` together, in its order. These messages are acknowledged when the broker has taken all
+their replies, in one transaction; a bridge that dies before leaves them to the next, whose repeat has no second effect. Replies go out
 through the exchange `shop.1.replies`, with the till's number as key.
 
 If the connection is lost, `serve` is ended before another is sought: another bridge may be the active one by then. How
@@ -100,13 +100,12 @@ class Bridge:
     def connected(self):
         """Serves over one connection, until it breaks."""
         import pika
-        from pika.exceptions import NackError
 
         connection = pika.BlockingConnection(self.parameters)
         try:
-            channel = connection.channel()
+            channel, out = connection.channel(), connection.channel()
             queue, replies = declare(channel, self.name)
-            channel.confirm_delivery()
+            out.tx_select()
             channel.basic_qos(prefetch_count=self.AHEAD)
             service.say(f"{self.title}: stands by")
             messages = channel.consume(queue, inactivity_timeout=self.IDLE)
@@ -115,13 +114,11 @@ class Bridge:
                     self.idle()
                     continue
                 asks = self.delivered(channel, messages, (method, message))
-                for (ask, _), reply in zip(asks, self.replies_to(asks, connection.sleep)):
-                    try:
-                        channel.basic_publish(replies, service.key_of(reply), reply)
-                    except NackError:
-                        # a queue behind the exchange is full: the reply is lost, and its till asks again
-                        self.serve.refusals.add(service.till_of(ask.routing_key))
-                    channel.basic_ack(ask.delivery_tag)
+                for reply in self.replies_to(asks, connection.sleep):
+                    out.basic_publish(replies, service.key_of(reply), reply)
+                # the broker has all these replies, before it forgets any of the messages
+                out.tx_commit()
+                channel.basic_ack(asks[-1][0].delivery_tag, multiple=True)
         finally:
             if connection.is_open:
                 connection.close()

@@ -32,6 +32,8 @@ ANSWER = {kind: re.compile(form, re.ASCII) for kind, form in ANSWERS.items()}
 REFUSALS = ("NO TILL", "CLASH", "STALE", "AHEAD")
 # seconds until a wish is asked again: at first, and at most; and until the till says what it waits for
 FIRST, LONGEST, PATIENCE = 2.0, 8.0, 4.0
+# and seconds until an ask is sent again for which a broker had no room
+SOON = 0.02
 # the exit status of a till that a keeper has to look at
 LOOK = 4
 
@@ -50,6 +52,10 @@ class Taken(Exception):
 
 class Away(Exception):
     """What carries the messages isn't there."""
+
+
+class Full(Exception):
+    """The broker has no room for the message now: others ask too much."""
 
 
 def say(text):
@@ -209,6 +215,10 @@ def answer_to(till, link):
                 if answer:
                     return answer
                 told = complain(till, link, began, told)
+        except Full:
+            told = complain(till, link, began, told)
+            time.sleep(SOON)
+            continue
         except Away:
             told = complain(till, link, began, told)
             time.sleep(min(wait, 1))
