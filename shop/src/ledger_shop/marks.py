@@ -70,6 +70,10 @@ class Numbers:
         if used > last and (ask is None or self.taken.get(last + 1, self.mark) != self.mark):
             raise Taken(f"till {till} was used on another device (request {used})", used)
 
+    def below(self, last):
+        """The shop's number, if it is known and below this one. A shop for which 2 is ahead has none."""
+        return self.shop if 0 < self.shop < last else 0 if last == 1 else None
+
     def take(self, number):
         """Takes a number for this device; returns what to publish for that, or None if it is so already."""
         if self.is_here and self.taken.get(number) == self.mark:
