@@ -9,6 +9,7 @@ one after the other. Each has to be answered within two seconds. It wants Debian
 python3-paho-mqtt and openssl. The last line is `N passed, M failed`."""
 
 import argparse
+import signal
 import statistics
 import subprocess
 import sys
@@ -97,9 +98,10 @@ def main():
     parser.add_argument("--over", choices=("mqtt", "rabbit"), action="append")
     parser.add_argument("--wishes", type=int, default=20)
     given = parser.parse_args()
+    signal.signal(signal.SIGTERM, lambda *_: sys.exit("shop_flood: ended"))
     passed = failed = 0
     for over in given.over or ("mqtt", "rabbit"):
-        with tempfile.TemporaryDirectory() as folder:
+        with tempfile.TemporaryDirectory(dir="/var/tmp") as folder:
             scene = Scene(str(Path(given.program).resolve()), Path(folder), over)
             try:
                 scene.start()

@@ -49,8 +49,9 @@ def declare(channel, name):
 class Bridge:
     """A consumer of one shop's asks."""
 
-    # how many messages are on their way to a bridge at a time, and seconds without one until it lets the image go
-    AHEAD, IDLE = 64, 10
+    # how many messages are handed over together, how many are on their way to a bridge at a time, and seconds without one
+    # until it lets the image go
+    TOGETHER, AHEAD, IDLE = 64, 256, 10
 
     def __init__(self, parameters, name, serve):
         self.parameters, self.name, self.serve = parameters, name, serve
@@ -92,7 +93,7 @@ class Bridge:
         """A message, and those that the broker has delivered after it."""
         asks = [first]
         channel.connection.process_data_events(0)
-        while len(asks) < self.AHEAD and channel.get_waiting_message_count():
+        while len(asks) < self.TOGETHER and channel.get_waiting_message_count():
             method, _, message = next(messages)
             asks.append((method, message))
         return asks
