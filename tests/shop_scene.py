@@ -61,10 +61,10 @@ class Quiet(http.server.SimpleHTTPRequestHandler):
         pass
 
 
-def lay_pages(root, broker, goods=None):
+def lay_pages(root, broker, goods=None, pages=EXAMPLES):
     """Lays the pages into a folder, with the place of their broker and the goods."""
     for name in ("till_page", "stock_page"):
-        shutil.copytree(EXAMPLES / name, root / name)
+        shutil.copytree(pages / name, root / name)
     here = root / "till_page"
     (here / "config.json").write_text(json.dumps({"broker": broker, "shop": SHOP}))
     if goods:
@@ -75,9 +75,9 @@ def lay_pages(root, broker, goods=None):
 class Pages:
     """A web server with the pages, on localhost, which browsers take for a secure place."""
 
-    def __init__(self, folder, broker, goods=None):
+    def __init__(self, folder, broker, goods=None, pages=None):
         self.root = folder / "www"
-        lay_pages(self.root, f"wss://localhost:{broker.pages}", goods)
+        lay_pages(self.root, f"wss://localhost:{broker.pages}", goods, pages or EXAMPLES)
         self.port = 0
         self.open()
 

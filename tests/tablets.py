@@ -106,10 +106,11 @@ class Trial:
     def asked(self, page, words, number=None):
         """The page has stopped with these words, and with this number filled in; it goes on after that."""
         self.stopped(page, words)
+        self.want(not page.at("number").is_displayed(), "a number is asked for")
         if number is not None:
-            self.want(page.at("number").get_attribute("value") == str(number), f"not {number} is filled in")
+            self.want(f"request {number}" in page.at("stop").text or f"till is {number}." in page.at("stop").text, f"{number} isn't shown")
         text = page.at("stop").text
-        page.at("again").find_element("css selector", "button").click()
+        page.at("go").click()
         until(lambda: page.at("stop").text != text, "what comes after going on")
 
     def back(self, page, number):
@@ -209,7 +210,7 @@ class Trial:
         self.open_bridge()
         until(lambda: second.answers() and second.answers()[0][0] == 12, "the second tablet's answer")
         self.stopped(first, "Another device is signed in as till 4")
-        first.at("again").find_element("css selector", "button").click()
+        first.at("go").click()
         until(lambda: first.answers()[0][0] == 11, "the first tablet's own answer")
         self.done += 10
         self.want((first.answers()[0][1], second.answers()[0][1]) == (f"DONE,{STOCK - self.done + 5}", f"DONE,{STOCK - self.done}"), "answers of others")
@@ -217,7 +218,7 @@ class Trial:
         self.asked(first, "Till 4 was used on another device (request 12)", 12)
 
     def offline(self, first, second):
-        """A wish that was entered without net, and the same one by another device: only that one's is done."""
+        """A wish that was entered without net, and the same one by another device: a person sends it after all, and both count."""
         first.ready()
         before = first.answers()
         self.hidden(first, True)
@@ -231,10 +232,13 @@ class Trial:
         self.hidden(first, False)
         self.stopped(first, "Another device is signed in as till 4")
         self.want("on another device (request 13)" in first.at("stop").text, "the number isn't named")
-        self.want("dropped" in first.at("stop").text and "Sell 3 of Mug" in first.at("stop").text, "what is dropped isn't named")
+        self.want("Never done" in first.at("stop").text and "Sell 3 of Mug" in first.at("stop").text, "what waits isn't named")
         self.want(first.answers() == before, f"another device's answer is shown: {first.answers()[:1]}")
         self.counted("a wish without net")
         self.asked(first, "on another device (request 13)", 13)
+        until(lambda: first.answers()[0][0] == 14, "the answer to what waited")
+        self.done += 3
+        self.counted("what waited, under the next number")
         self.sell(first)
 
     def hidden(self, page, is_away):
@@ -359,13 +363,14 @@ class Trial:
         page.ready()
         page.fill("I", 1, 1)
         page.send()
+        self.want("Never done" in page.at("stop").text and "Sell 1 of Mug" in page.at("stop").text, "what the shop refused isn't named")
         self.asked(page, "(AHEAD)", number)
         page.ready()
         page.fill("R", 2, 7)
         page.send()
-        until(lambda: any(line.startswith(f"TILL 1,{number + 1},R,2,7,DONE") for line in sure(self.program, "show", self.image)), "the page's request")
+        until(lambda: any(line.startswith(f"TILL 1,{number + 2},R,2,7,DONE") for line in sure(self.program, "show", self.image)), "the page's request")
         until(lambda: "Receive 7 of Postcard" in page.at("answers").text, "the answer after an old backup")
-        self.want(page.answers()[0][0] == number + 1, f"after an old backup the page shows {page.answers()[:2]}")
+        self.want([one for one, _ in page.answers()[:2]] == [number + 2, number + 1], f"after an old backup the page shows {page.answers()[:2]}")
         status, out, told = self.terminal(5, "I,2,1\n", "new.book")
         self.want(status == 4 and "AHEAD" in told, f"the terminal: {status} {out} {told}")
         last = [line.split(",")[1] for line in sure(self.program, "show", self.image) if line.startswith("TILL 5,")]

@@ -55,6 +55,7 @@ export class Chooser {
   take(option) {
     this.field.value = option.dataset.text;
     this.close();
+    this.field.dispatchEvent(new Event("change", { bubbles: true }));
   }
 
   key(event) {

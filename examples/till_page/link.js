@@ -13,7 +13,7 @@ export async function configured() {
  *  gets each message; `changed()` is called whenever what `trouble` returns may have changed, `connected()` before. */
 export class Link {
   constructor(broker, user, password, topics, heard, changed, connected = () => {}) {
-    Object.assign(this, { broker, user, password, topics, heard, changed, connected, isDenied: false, client: null });
+    Object.assign(this, { broker, user, password, topics, heard, changed, connected, isDenied: false, client: null, more: null });
     this.connect();
   }
 
@@ -26,6 +26,7 @@ export class Link {
     this.client = client;
     client.on("connect", () => {
       if (client !== this.client) return;
+      this.more = null;
       this.connected();
       client.subscribe(this.topics, { qos: 1 });
       this.changed();
@@ -46,6 +47,14 @@ export class Link {
 
   get isConnected() {
     return this.client?.connected === true;
+  }
+
+  /** Listens to one more topic, in the place of the last such; `done` is called when the broker knows it. */
+  watch(topic, done) {
+    if (!this.isConnected) return;
+    if (this.more && this.more !== topic) this.client.unsubscribe(this.more);
+    this.more = topic;
+    this.client.subscribe(topic, { qos: 1 }, done);
   }
 
   /** Sends a message if there is a connection; who sends repeats it until its answer is heard. */

@@ -1,7 +1,4 @@
-// A till's own part, without browser, store or broker: it numbers its requests, repeats the open one, and takes each
-// answer once. The rules are those of `Till` in crates/request_cards/src/till.rt (`wish`, `ask`, `hear`), about which
-// `both_ends` is proved, as examples/tills/wishes.py has them. A book is {last, open}: the number of the last wish that
-// was answered, and the wish that is open, or null. The functions return a new book and leave the old one.
+// What tills and shop say to each other (docs/MESSAGES.md), and how people read it, without browser, store or broker.
 
 export const MOST = 999_999_999, MOST_ITEM = 65535, MOST_TILL = 64;
 // docs/MESSAGES.md: numbers without leading zeros
@@ -16,9 +13,7 @@ const ANSWERS = {
 };
 const ANSWER = Object.fromEntries(Object.entries(ANSWERS).map(([kind, form]) => [kind, new RegExp(`^(?:${form})$`)]));
 // what no till hears that keeps these rules on a shop that it has always asked
-const REFUSALS = ["NO TILL", "CLASH", "STALE", "AHEAD"];
-
-export const EMPTY = { last: 0, open: null };
+export const REFUSALS = ["NO TILL", "CLASH", "STALE", "AHEAD"];
 
 /** Whether this is kind, item and quantity of a request, and for a move the item to go to. */
 export function isWish(text) {
@@ -30,33 +25,6 @@ export function isWish(text) {
 /** Whether this is an answer that the trade rule has for the wish. */
 export function isAnswer(wish, text) {
   return ANSWER[wish[0]].test(text);
-}
-
-/** The book with this wish open; null if one is open, no number is left, or it is no wish. */
-export function opened(book, wish) {
-  if (book.open !== null || book.last >= MOST || !isWish(wish)) return null;
-  return { last: book.last, open: wish };
-}
-
-/** The message of the open wish, the same each time; null if none is open. */
-export function ask(till, book) {
-  return book.open === null ? null : `${till},${book.last + 1},${book.open}`;
-}
-
-/** What a reply says to the open wish: {answer, book} closes it, {refused} means that a person has to look. Null if it
- *  says nothing: all of a reply has to be this till, this number and an answer to this wish. */
-export function hear(till, book, reply) {
-  const begin = `${till},${book.last + 1},`;
-  if (book.open === null || !reply.startsWith(begin)) return null;
-  const word = reply.slice(begin.length);
-  if (REFUSALS.includes(word)) return { refused: word };
-  return isAnswer(book.open, word) ? { answer: word, book: { last: book.last + 1, open: null } } : null;
-}
-
-/** The book of a till whose last number at the shop is known to a person; the open wish is dropped. Null if this is no
- *  number. */
-export function begunAgain(number) {
-  return Number.isInteger(number) && number >= 0 && number <= MOST ? { last: number, open: null } : null;
 }
 
 /** The wish of what a form says: kind `R`, `I`, `S`, `M`, or `L` to look, which receives 0. */
@@ -89,6 +57,11 @@ export function answerWords(wish, answer, name) {
 /** Whether an answer did what was asked. */
 export function isDone(answer) {
   return answer.startsWith("DONE,");
+}
+
+/** Whether a count that becomes another changes by more than half of what it was. */
+export function isMuch(before, after) {
+  return 2 * Math.abs(after - before) > before;
 }
 
 /** Seconds until a wish is asked again, after so many times: 2, 4, and then every 8. */

@@ -1,15 +1,27 @@
-// The page of a till: signs in, keeps the open request, asks it until its answer is heard, and shows each answer once.
+// The page of a till: signs in, keeps the requests that wait, and shows each answer once. What a till does is in session.js.
 
-import { Books, Changed, hold } from "./book.js";
-import { Chooser } from "./chooser.js";
-import { fetched, nameIn, Search } from "./goods.js";
+import { Form } from "./form.js";
+import { fetched, nameIn } from "./goods.js";
 import { configured, Link } from "./link.js";
-import * as marks from "./marks.js";
+import * as queue from "./queue.js";
 import * as rules from "./rules.js";
+import { Session } from "./session.js";
+import { Books, Changed, hold } from "./store.js";
 
-const SHOWN = 50, REST = 1000;
+// answers that are shown; milliseconds after a tap within which another one on the empty form is the same tap, and for which a
+// page waits for the shop's count of an item
+const SHOWN = 50, SAME_TAP = 1500, PATIENCE = 1500;
 const at = (id) => document.getElementById(id);
 const show = (id, isShown) => { at(id).hidden = !isShown; };
+const clock = { now: () => Date.now(), set: (work, time) => setTimeout(work, time), clear: (timer) => clearTimeout(timer) };
+
+/** An element with text, which is never markup. */
+function made(kind, text, type = "") {
+  const one = document.createElement(kind);
+  one.textContent = text;
+  one.className = type;
+  return one;
+}
 
 /** Says how things stand, at the top of the page. */
 function state(text, kind) {
@@ -22,49 +34,58 @@ function stop(head, text) {
   at("stop-head").textContent = head;
   at("stop-text").textContent = text;
   show("stop", true);
-  ["sign", "again", "work", "waits"].forEach((id) => show(id, false));
+  ["sign", "again", "stop-waits", "work", "waits"].forEach((id) => show(id, false));
+  at("sure").close();
   state("Stopped", "bad");
 }
 
+/** Asks a question; whether the answer is yes. Whoever closes it otherwise, or presses the button that has the focus, says no. */
+function isSure(head, text, yes, no) {
+  for (const [id, words] of Object.entries({ "sure-head": head, "sure-text": text, yes, no })) at(id).textContent = words;
+  at("sure").returnValue = "";
+  at("sure").showModal();
+  at("no").focus();
+  return new Promise((fulfil) => {
+    at("sure").addEventListener("close", () => fulfil(at("sure").returnValue === "yes"), { once: true });
+  });
+}
+
+const requests = (count) => (count === 1 ? "1 request" : `${count} requests`);
+
 class Page {
   constructor(books, mark, config, goods) {
-    Object.assign(this, { books, mark, config, name: nameIn(goods), book: rules.EMPTY, held: new Set(), rested: 0 });
-    this.isBusy = this.isStopped = this.wasHolder = false;
-    this.choosers = ["item", "to"].map((id) => new Chooser(at(id), at(`${id}-list`)));
-    for (const chooser of this.choosers) chooser.search = new Search(goods);
-    at("work").addEventListener("submit", (event) => { event.preventDefault(); this.wish(); });
-    at("work").addEventListener("change", () => this.fit());
-    at("again").addEventListener("submit", (event) => { event.preventDefault(); this.goOn(); });
-    at("less").addEventListener("click", () => this.count(-1));
-    at("more").addEventListener("click", () => this.count(1));
+    Object.assign(this, { books, mark, config, name: nameIn(goods), held: new Set(), session: null, tapped: -Infinity });
+    this.form = new Form(goods, () => this.look());
+    at("work").addEventListener("submit", (event) => { event.preventDefault(); this.tap(); });
+    at("again").addEventListener("submit", (event) => { event.preventDefault(); this.goOn(event.submitter?.id !== "drop"); });
     at("leave").addEventListener("click", () => this.leave());
-    addEventListener("online", () => this.tell());
-    addEventListener("offline", () => this.tell());
-    this.fit();
+    at("unseen-way").addEventListener("click", () => at("unseen-head").focus());
+    for (const id of ["yes", "no"]) at(id).addEventListener("click", () => at("sure").close(id));
+    addEventListener("online", () => this.changed());
+    addEventListener("offline", () => this.changed());
+    // a page that comes back from the browser's cache is an old one
+    addEventListener("pageshow", (event) => { if (event.persisted) location.reload(); });
   }
 
   /** Takes the till, unless another page of this browser has it, and goes on where its book is. An account that is new is
    *  kept, if `stays`, when the broker has taken it; until then the form stays. */
   async start(sign, isNew = false, stays = false) {
-    const { till, password } = sign, shop = `shops/${this.config.shop}`, place = `${this.config.shop}/${till}`;
-    this.link?.end();
-    Object.assign(this, { till, place, link: null });
+    const { till } = sign, { shop, broker } = this.config, place = `${shop}/${till}`;
+    this.session?.end();
+    this.session = null;
     at("title").textContent = document.title = `Till ${till}`;
-    this.isStopped = !this.held.has(place) && !(await hold(place));
-    if (this.isStopped)
+    if (!this.held.has(place) && !(await hold(place)))
       return stop("This till is open in another tab", "Use that tab, or close it and load this page again.");
     this.held.add(place);
-    this.book = (await this.books.book(place)) ?? rules.EMPTY;
-    const answers = await this.books.answers(place, SHOWN);
+    const book = await this.books.book(place), answers = await this.books.answers(place, SHOWN);
     at("answers").replaceChildren();
     for (const answer of answers) this.list(answer);
-    // the bridge's word comes last: a broker hands over what it keeps in the order in which it is asked for
-    this.topics = Object.fromEntries(["tills", "marks", "replies", "asks"].map((kind) => [kind, `${shop}/${kind}/${till}`]));
-    this.topics.bridge = `${shop}/bridge`;
-    this.account = `till-${this.config.shop}-${till}`;
-    Object.assign(this, { password, sign: isNew ? { kept: stays ? sign : null } : null, wasHolder: false });
+    this.sign = isNew ? { kept: stays ? sign : null } : null;
+    const account = `till-${shop}-${till}`, { mark } = this, keep = (...books) => this.books.keep(place, ...books);
+    const connect = (...parts) => new Link(broker, account, sign.password, ...parts);
+    this.session = new Session({ shop, till, mark, book, keep, connect, screen: this, clock });
     if (!isNew) this.work();
-    this.connect();
+    this.session.connect();
   }
 
   /** Shows what a till needs, in the place of the form to sign in. */
@@ -73,21 +94,7 @@ class Page {
     ["leave", "work", "done"].forEach((id) => show(id, true));
   }
 
-  connect() {
-    const { tills, marks: marked, replies, bridge } = this.topics, topics = [tills, marked, replies, bridge];
-    this.forget();
-    this.link = new Link(this.config.broker, this.account, this.password, topics,
-      (...one) => this.message(...one), () => this.tell(), () => this.connected());
-    this.tell();
-  }
-
-  /** With each connection the numbers at the broker are learnt anew. */
-  forget() {
-    Object.assign(this, { serving: null, isKnown: false, isHolder: false, shop: 0, marked: marks.marksOf(""), asked: 0 });
-  }
-
   connected() {
-    this.forget();
     if (!this.sign) return;
     this.books.keepSign(this.sign.kept);
     this.sign = null;
@@ -96,250 +103,208 @@ class Page {
 
   /** The broker doesn't take this account: it is forgotten, and the form says so. */
   denied() {
-    at("sign-fault").textContent = this.link.trouble();
-    this.link.end();
-    this.link = null;
+    at("sign-fault").textContent = this.session.link.trouble();
+    at("till").value = this.session.till;
+    this.session.end();
+    this.session = null;
     this.books.keepSign(null);
     ["leave", "work", "done"].forEach((id) => show(id, false));
     ["sign", "sign-fault"].forEach((id) => show(id, true));
-    at("till").value = this.till;
     at("password").value = "";
     at("password").focus();
     state("Not signed in", "wait");
   }
 
-  message(topic, text, isRetained) {
-    if (topic === this.topics.tills) this.shop = marks.numberOf(text);
-    if (topic === this.topics.marks) {
-      const marked = marks.marksOf(text), isOwn = marked.at === this.mark;
-      // one's own come back: then the broker has them
-      if (isRetained || !isOwn) this.marked = marked;
-      if (isOwn) this.wasHolder = true;
-    }
-    if (topic === this.topics.bridge) {
-      this.serving = text === "serving";
-      this.isKnown = true;
-      // the connection or the bridge is back: no need to wait for the next time
-      if (this.serving && !this.isBusy) this.repeat();
-    }
-    // a reply is never retained: one that is may be old, or nobody's
-    if (topic === this.topics.replies && !isRetained) this.hear(text);
-    this.compare();
-    this.tell();
+  /** Before a count is set the shop says how many are there. */
+  look() {
+    const [item] = this.form.items;
+    if (this.form.kind === "S" && item !== null) this.session?.watch(item);
   }
 
-  /** Compares the numbers at the broker with the book's: goes on over this connection, or asks a person. */
-  compare() {
-    if (!this.isKnown || this.isBusy || this.isStopped) return;
-    const isOther = this.marked.at !== null && this.marked.at !== this.mark && this.wasHolder;
-    if (isOther || !marks.fits(this.book, this.shop, this.marked.taken, this.mark)) return this.ask(isOther);
-    if (this.isHolder) return;
-    // a wish of a time without net takes its number now; `keep` compares again
-    if (this.book.open !== null && !this.book.isSent) return this.keep({ ...this.book, isSent: true });
-    this.isHolder = true;
-    this.mine(this.marked.taken);
-    this.repeat();
-  }
-
-  /** Whether this connection is the till's, and its numbers are compared. */
-  get holds() {
-    return this.isHolder && this.link?.isConnected === true;
-  }
-
-  /** Says at the broker that this device is signed in, and who has the last numbers. */
-  mine(taken) {
-    this.marked = { at: this.mark, taken };
-    this.link.send(this.topics.marks, marks.marksText(this.mark, taken), true);
-  }
-
-  /** Stops until a person says that this device goes on: another one has the till, or has used its numbers. */
-  ask(isOther) {
-    const number = marks.lastUsed(this.shop, this.marked.taken), isUsed = !marks.fits(this.book, this.shop, this.marked.taken, this.mark);
-    const used = `was used on another device (request ${number})`;
-    this.isStopped = true;
-    this.link.end();
-    stop(isOther ? `Another device is signed in as till ${this.till}` : `Till ${this.till} ${used}`,
-      `${isOther && isUsed ? `The till ${used}. ` : ""}${isUsed ? this.dropped() : ""} Go on here?`);
-    this.offer(isUsed ? number : null);
-  }
-
-  dropped() {
-    return this.book.open === null ? ""
-      : `The open request is dropped, which may or may not count: ${rules.wishWords(this.book.open, this.name)}.`;
-  }
-
-  /** Offers to go on, after this number, or with null after the book's. */
-  offer(number) {
-    at("number").value = number === null ? this.book.last : number || "";
-    show("number-field", number !== null);
-    at("go").textContent = number !== null && this.book.open !== null ? "Drop the open request and go on here" : "Go on here";
-    show("again", true);
-  }
-
-  /** Opens the wish of the form: it is kept before it is sent. */
-  async wish() {
-    if (this.isResting()) return;
-    const kind = this.kind(), fault = this.fault(kind);
-    at("fault").textContent = fault ?? "";
-    show("fault", fault !== null);
+  /** A tap on the big button: a filled form is a request, an empty one is none. */
+  async tap() {
+    const { form } = this;
+    if (this.isAsking || !this.session || this.session.halt !== null) return;
+    // the second tap of two finds the form empty
+    if (form.isEmpty && performance.now() < this.tapped + SAME_TAP) return;
+    const fault = form.fault();
+    form.say(fault, !form.isEmpty);
     if (fault !== null) return;
-    const [item, to] = this.choosers.map((chooser) => chooser.item());
-    const book = rules.opened(this.book, rules.wishOf(kind, item, at("quantity").value.trim(), to));
-    if (!book) return stop("No number is left", "This till has used all its numbers. Give it another number.");
-    if (!(await this.keep({ ...book, isSent: this.holds }))) return;
-    // a second tap finds an empty form
-    for (const id of ["item", "to"]) at(id).value = "";
-    at("quantity").value = "1";
-    this.repeat();
-  }
-
-  /** Whether no request can be made now: one is open, or was answered less than a second ago. */
-  isResting() {
-    return this.isBusy || this.isStopped || this.book.open !== null || performance.now() < this.rested;
-  }
-
-  kind() {
-    return new FormData(at("work")).get("kind");
-  }
-
-  /** What is wrong with the form, or null. */
-  fault(kind) {
-    const [item, to] = this.choosers.map((chooser) => chooser.item());
-    if (item === null) return "Which goods? Type a name or a number, and choose.";
-    if (kind === "M" && to === null) return "To which goods? Type a name or a number, and choose.";
-    if (kind === "M" && item === to) return "The goods to move to are the same.";
-    if (kind !== "L" && !/^(?:0|[1-9][0-9]{0,8})$/.test(at("quantity").value.trim()))
-      return "How many? A whole number up to 999999999, without a zero in front.";
-    return null;
-  }
-
-  /** Keeps a book, and then has it. A store that fails stops the till. */
-  async keep(book, answer = null) {
-    this.isBusy = true;
-    this.tell();
+    this.isAsking = form.kind === "S";
     try {
-      await this.books.keep(this.place, this.book, book, answer);
-      this.book = book;
-      return true;
-    } catch (fault) {
-      this.isStopped = true;
-      const why = fault instanceof Changed ? "Load this page again." : `${fault}. Free some room on this device, and load the page again.`;
-      stop("The open request can't be kept", why);
-      return false;
+      if (this.isAsking && !(await this.isSet())) return;
     } finally {
-      this.isBusy = false;
-      this.compare();
-      this.tell();
+      this.isAsking = false;
     }
+    this.send(form.wish, form.kind);
   }
 
-  /** Asks the open wish, whose number this device has taken before, and again after 2, 4 and then every 8 seconds. */
-  repeat(times = 0) {
-    clearTimeout(this.timer);
-    if (this.book.open === null || this.isStopped || !this.holds) return;
-    const number = this.book.last + 1, { taken } = this.marked;
-    if (taken.get(number) !== this.mark) this.mine(marks.take(taken, number, this.mark));
-    this.link.send(this.topics.asks, rules.ask(this.till, this.book));
-    this.timer = setTimeout(() => this.repeat(times + 1), 1000 * rules.pause(times));
-    this.asked = times + 1;
-    this.tell();
+  /** Whether the count may be set: a person says so if it changes by more than half, or if nobody knows. */
+  async isSet() {
+    const [item] = this.form.items, before = await this.count(item), after = Number(this.form.quantity), { form } = this;
+    const wish = form.fault() === null && form.kind === "S" ? form.wish : null;
+    if (wish === null || this.session.halt !== null) return false;
+    if (before === null || (before !== undefined && !rules.isMuch(before, after))) return true;
+    const now = before === undefined ? "How many are there isn't known now." : `The shop has ${before} of ${this.name(item)}.`;
+    return isSure(`Set ${this.name(item)} to ${after}?`, `${now} Set makes it ${after}. To sell ${after}, choose Sell.`, `Set to ${after}`, "Don't set");
   }
 
-  async hear(reply) {
-    const found = this.isBusy || this.isStopped || !this.holds ? null : rules.hear(this.till, this.book, reply);
-    if (!found) return;
-    if (found.refused) return this.refuse(found.refused);
-    const entry = { number: this.book.last + 1, wish: this.book.open, answer: found.answer, time: Date.now() };
-    if (!(await this.keep(found.book, entry))) return;
-    clearTimeout(this.timer);
-    this.rested = performance.now() + REST;
-    setTimeout(() => this.tell(), REST);
-    this.list(entry);
-    at("news").textContent = rules.answerWords(entry.wish, entry.answer, this.name);
-    this.tell();
+  /** How many of an item the shop has; undefined if it doesn't say that in time. */
+  async count(item) {
+    const { session } = this, end = performance.now() + PATIENCE;
+    session.watch(item);
+    while (session.isServed && session.count(item) === undefined && performance.now() < end)
+      await new Promise((fulfil) => { setTimeout(fulfil, 20); });
+    return session.count(item);
+  }
+
+  /** Hands the form's request to the till, and empties the form at once. */
+  send(wish, kind) {
+    const { book } = this.session;
+    if (queue.added(book, wish) === null) {
+      const isLast = book.last + queue.waiting(book).length >= rules.MOST;
+      return this.form.say(isLast ? "This till has used all its numbers. Give it another number."
+        : `${requests(queue.MOST_WAITING)} wait, and no more can be kept.`);
+    }
+    this.tapped = performance.now();
+    this.form.clear(kind);
+    this.session.enter(wish);
   }
 
   /** Shows an answer, above the earlier ones. */
+  answered(entry) {
+    this.list(entry);
+    at("news").textContent = rules.answerWords(entry.wish, entry.answer, this.name);
+    this.changed();
+  }
+
   list({ number, wish, answer, time }) {
-    const one = document.createElement("li"), said = document.createElement("span"), asked = document.createElement("span");
+    const one = made("li", ""), asked = `${rules.wishWords(wish, this.name)} · request ${number} · ${new Date(time).toLocaleTimeString()}`;
     at("answers").querySelector(`[data-number="${number}"]`)?.remove();
     one.dataset.number = number;
     one.dataset.answer = answer;
-    said.textContent = rules.answerWords(wish, answer, this.name);
-    said.className = rules.isDone(answer) ? "done" : "undone";
-    asked.textContent = `${rules.wishWords(wish, this.name)} · request ${number} · ${new Date(time).toLocaleTimeString()}`;
-    asked.className = "wish";
-    one.append(said, asked);
+    one.append(made("span", rules.answerWords(wish, answer, this.name), rules.isDone(answer) ? "done" : "undone"), made("span", asked, "wish"));
     at("answers").prepend(one);
     show("none", false);
     while (at("answers").children.length > SHOWN) at("answers").lastChild.remove();
   }
 
-  refuse(word) {
-    this.isStopped = true;
-    clearTimeout(this.timer);
+  /** The till has stopped: says why, and offers to go on. */
+  stopped() {
+    const { halt, till } = this.session, [head, text] = this.why(halt, till);
+    stop(head, text);
+    if (halt.kind !== "store" && halt.kind !== "full" && halt.word !== "NO TILL") this.offer();
+  }
+
+  why(halt, till) {
+    if (halt.kind === "full") return ["No number is left", "This till has used all its numbers. Give it another number."];
+    if (halt.kind === "store") {
+      const way = halt.fault instanceof Changed ? "Load this page again." : `${halt.fault}. Free some room on this device, and load the page again.`;
+      return ["A request can't be kept", way];
+    }
+    const used = `was used on another device (request ${halt.number})`;
+    const shop = halt.shop === null || halt.shop === halt.number ? "" : ` The shop's last request of it is ${halt.shop}.`;
+    if (halt.kind === "other") return [`Another device is signed in as till ${till}`, halt.isUsed ? `The till ${used}.${shop}` : ""];
+    if (halt.kind === "used") return [`Till ${till} ${used}`, shop];
     const whys = {
       "NO TILL": "The shop has no till of this number. Sign out, and in with another.",
       AHEAD: "The shop has fewer requests of this till than this device: an old backup may have been put back.",
     };
     const other = "Another device has asked with this till's number, or this device has lost its book.";
-    stop("The shop refuses this till's number", `${whys[word] ?? other} (${word}) ${word === "NO TILL" ? "" : this.dropped()}`);
-    if (word !== "NO TILL") this.offer(this.shop);
+    return ["The shop refuses this till's number", `${whys[halt.word] ?? other} (${halt.word})`];
   }
 
-  /** Goes on here, after the number that a person has confirmed. */
-  async goOn() {
-    const isAsked = !at("number-field").hidden, book = isAsked ? rules.begunAgain(Number(at("number").value)) : this.book;
-    if (!book || this.isBusy || (isAsked && !(await this.keep(book)))) return;
-    this.isStopped = false;
+  /** Offers to go on: after the number that is known, with the requests that wait, or without them. */
+  offer() {
+    const { halt, book } = this.session, undone = queue.undone(book, halt.word), doubtful = queue.doubtful(book, halt.word);
+    const isDropped = halt.isUsed && doubtful !== null, count = halt.isUsed ? undone.length : 0, lines = [];
+    if (halt.kind === "refused" && halt.number !== null) lines.push(`The shop's last request of this till is ${halt.number}.`);
+    if (isDropped) lines.push(`The open request is dropped, which may or may not count: ${rules.wishWords(doubtful, this.name)}.`);
+    if (count > 0) lines.push(`Never done, and kept on this device: ${undone.map((wish) => rules.wishWords(wish, this.name)).join("; ")}.`);
+    at("stop-waits").replaceChildren(...[...lines, "Go on here?"].map((line) => made("p", line)));
+    show("stop-waits", true);
+    show("number-field", halt.isUsed && halt.number === null);
+    at("number").required = halt.isUsed && halt.number === null;
+    at("go").textContent = count > 0 ? `Go on here, and send ${count === 1 ? "it" : `the ${count}`}` : "Go on here";
+    at("drop").textContent = `Go on here without ${count === 1 ? "it" : `the ${count}`}`;
+    show("drop", count > 0);
+    show("again", true);
+  }
+
+  async goOn(isKept) {
+    const typed = at("number-field").hidden ? null : Number(at("number").value);
+    const fault = await this.session.goOn(isKept, typed);
+    at("number-fault").textContent = fault ?? "";
+    show("number-fault", fault !== null);
+    if (this.session.halt !== null) return;
     show("stop", false);
     show("work", true);
-    // the shop has refused the number: those that devices took, and that the shop never had, are free again
-    if (this.holds) {
-      this.mine(marks.upTo(this.marked.taken, book.last));
-      return this.tell();
-    }
-    this.wasHolder = false;
-    this.link.end();
-    this.connect();
+    this.changed();
   }
 
   async leave() {
+    const count = this.session ? queue.waiting(this.session.book).length : 0;
+    const words = `${requests(count)} of this till ${count === 1 ? "waits" : "wait"} on this device alone, and can be sent only from here.`;
+    if (count > 0 && !(await isSure("Sign out?", words, "Sign out", "Stay"))) return;
     await this.books.keepSign(null);
-    this.link?.end();
+    this.session?.end();
     location.reload();
   }
 
-  count(by) {
-    const field = at("quantity"), value = Number(field.value);
-    if (Number.isInteger(value)) field.value = Math.min(Math.max(value + by, 0), rules.MOST);
+  /** Shows what waits: the requests that have no answer yet, in the order in which they are asked. */
+  waits() {
+    const waiting = queue.waiting(this.session.book), { serving } = this.session;
+    show("waits", waiting.length > 0);
+    const isHere = serving === true && this.session.holds;
+    const text = waiting.length === 1 && isHere ? "Waiting for the answer. It is asked again by itself."
+      : `Waiting (${waiting.length}). Kept on this device, and sent by itself in this order.`;
+    if (waiting.length > 0 && at("waits-head").textContent !== text) at("waits-head").textContent = text;
+    at("waits-list").replaceChildren(...waiting.map(({ number, wish }) => {
+      const one = made("li", `${rules.wishWords(wish, this.name)} · request ${number}`);
+      one.dataset.number = number;
+      return one;
+    }));
   }
 
-  /** Fits the form to what is chosen. */
-  fit() {
-    show("fault", false);
-    const kind = this.kind(), words = { I: "Sell", R: "Receive", S: "Set", M: "Move", L: "Look" };
-    show("to-field", kind === "M");
-    show("quantity-field", kind !== "L");
-    at("send").textContent = words[kind];
-    at("item-label").textContent = kind === "M" ? "From these goods" : "Goods";
+  /** Shows what nobody has seen yet: answers that did nothing, and requests that were dropped. */
+  unseen() {
+    const { unseen } = this.session.book;
+    show("unseen", unseen.length > 0);
+    show("unseen-way", unseen.length > 0);
+    if (unseen.map((one) => `${one.number} ${one.time}`).join() === at("unseen").dataset.shown) return;
+    at("unseen").dataset.shown = unseen.map((one) => `${one.number} ${one.time}`).join();
+    at("unseen-head").textContent = at("unseen-way").textContent = `Not done (${unseen.length})`;
+    at("unseen-list").replaceChildren(...unseen.map((one) => this.unseenLine(one)));
+  }
+
+  unseenLine({ number, wish, answer, time }) {
+    const line = made("li", ""), button = made("button", "Seen", "quiet"), words = rules.wishWords(wish, this.name);
+    const said = answer === null ? "Dropped: it may or may not count. Look at these goods." : rules.answerWords(wish, answer, this.name);
+    button.type = "button";
+    button.setAttribute("aria-label", `Seen: ${words}`);
+    button.addEventListener("click", () => this.session.see(number, time));
+    const text = made("div", "");
+    text.append(made("span", `${words}. ${said}`, "undone"), made("span", `request ${number} · ${new Date(time).toLocaleString()}`, "wish"));
+    line.append(text, button);
+    return line;
   }
 
   /** Says how things stand. */
-  tell() {
-    if (this.isStopped || !this.link) return;
-    if (this.link.isDenied) return this.denied();
-    const isOpen = this.book.open !== null, trouble = this.link.trouble();
-    at("send").setAttribute("aria-disabled", String(this.isResting()));
-    show("waits", isOpen);
-    if (isOpen) {
-      const words = rules.wishWords(this.book.open, this.name), text = `Waiting for the answer: ${words}. It is asked again by itself.`;
-      if (at("waits").textContent !== text) at("waits").textContent = text;
+  changed() {
+    const { session } = this;
+    if (!session?.link) return;
+    if (session.link.isDenied) return this.denied();
+    this.unseen();
+    if (session.halt !== null) {
+      if (session.halt.kind === "refused" && session.halt.word !== "NO TILL" && !at("again").hidden) this.offer();
+      return;
     }
+    this.waits();
+    const trouble = session.link.trouble(), isSlow = session.book.open !== null && session.times > 2;
     if (trouble) state(trouble, "bad");
-    else if (this.serving === null) state("Connected; the shop hasn't been there yet.", "wait");
-    else if (!this.serving) state("Connected; the shop is closed.", "wait");
-    else state(isOpen && this.asked > 2 ? "Connected; no answer yet." : "Ready", isOpen && this.asked > 2 ? "wait" : "on");
+    else if (session.serving === null) state("Connected; the shop hasn't been there yet.", "wait");
+    else if (!session.serving) state("Connected; the shop is closed.", "wait");
+    else state(isSlow ? "Connected; no answer yet." : "Ready", isSlow ? "wait" : "on");
   }
 }
 

@@ -1,13 +1,27 @@
 // Keeps the page's files, so that it opens without net too. A file comes from the server if that answers in time.
 /* global self, caches */
-const CACHE = "ledger-till-1", PATIENCE = 3000;
-const FILES = ["./", "style.css", "till.js", "rules.js", "book.js", "chooser.js", "goods.js", "link.js", "marks.js", "mqtt.js"];
+const CACHE = "ledger-till-2", PATIENCE = 3000;
+const FILES = ["./", "style.css", "till.js", "session.js", "queue.js", "rules.js", "store.js", "form.js", "chooser.js", "goods.js", "link.js", "marks.js", "mqtt.js"];
 
-self.addEventListener("install", (event) => {
-  event.waitUntil(caches.open(CACHE).then((cache) => cache.addAll(FILES)).then(() => self.skipWaiting()));
-});
+// what a shop may have beside the page's own files
+const MORE = ["goods.csv", "config.json"];
 
-self.addEventListener("activate", (event) => event.waitUntil(self.clients.claim()));
+async function keep() {
+  const cache = await caches.open(CACHE);
+  await cache.addAll(FILES);
+  await Promise.allSettled(MORE.map((name) => cache.add(name)));
+  await self.skipWaiting();
+}
+
+self.addEventListener("install", (event) => event.waitUntil(keep()));
+
+/** Takes the pages over, without the files of an earlier release. */
+async function begin() {
+  for (const name of await caches.keys()) if (name.startsWith("ledger-till-") && name !== CACHE) await caches.delete(name);
+  await self.clients.claim();
+}
+
+self.addEventListener("activate", (event) => event.waitUntil(begin()));
 
 async function fresh(request) {
   const answer = await fetch(request, { signal: AbortSignal.timeout(PATIENCE), cache: "no-cache" });

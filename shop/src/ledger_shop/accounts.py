@@ -68,8 +68,8 @@ def mosquitto_line(user, password):
 
 def mosquitto_rights(user):
     """A bridge reads what all tills of its shop ask, and writes replies and what the screen shows. A till writes its own
-    asks, reads its own replies and its last request, and says which device takes its numbers. All see whether the bridge is
-    there."""
+    asks, reads its own replies, its last request and the stock, and says which device takes its numbers. All see whether the
+    bridge is there."""
     shop, till = shop_and_till(user)
     screen = [f"shops/{shop}/{topic}" for topic in ("stock/+", "tills/+", "last", "top", "history/+")]
     if user.startswith("screen-"):
@@ -80,7 +80,7 @@ def mosquitto_rights(user):
         rights += [f"read {topic}" for topic in FIGURES]
     else:
         rights = [f"write shops/{shop}/asks/{till}", f"readwrite shops/{shop}/marks/{till}"]
-        rights += [f"read shops/{shop}/{topic}" for topic in (f"replies/{till}", f"tills/{till}", "bridge")]
+        rights += [f"read shops/{shop}/{topic}" for topic in (f"replies/{till}", f"tills/{till}", "bridge", "top", "stock/+")]
     return f"user {user}\n" + "".join(f"topic {right}\n" for right in rights) + "\n"
 
 

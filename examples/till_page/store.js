@@ -1,7 +1,8 @@
-// A till's book in the browser (IndexedDB). What is kept is on the disk, as far as the browser can bring it there, before
-// a promise is fulfilled: the open wish before it is sent, an answer before it is shown.
+// The books of tills in the browser (IndexedDB). What is kept is on the disk, as far as the browser can bring it there, before
+// a promise is fulfilled: a wish before it is sent, an answer before it is shown.
 
 import { newMark } from "./marks.js";
+import { bookOf, EMPTY, isSame } from "./queue.js";
 
 const NAME = "ledger-till", VERSION = 1;
 
@@ -40,9 +41,9 @@ export class Books {
     return books;
   }
 
-  /** The book of a place, or undefined. */
+  /** The book of a place; an empty one if there is none. */
   async book(place) {
-    return done(this.store.transaction("books").objectStore("books").get(place));
+    return bookOf(await done(this.store.transaction("books").objectStore("books").get(place)));
   }
 
   /** The last answers of a place, oldest first. */
@@ -78,11 +79,10 @@ export class Books {
   async keep(place, before, book, answer = null) {
     const transaction = this.store.transaction(["books", "answers"], "readwrite", { durability: "strict" });
     const finished = complete(transaction), books = transaction.objectStore("books"), request = books.get(place);
-    let isSame = true;
+    let isUnchanged = true;
     request.onsuccess = () => {
-      const there = request.result ?? { last: 0, open: null };
-      isSame = there.last === before.last && there.open === before.open;
-      if (!isSame) return transaction.abort();
+      isUnchanged = isSame(request.result ?? EMPTY, before);
+      if (!isUnchanged) return transaction.abort();
       books.put(book, place);
       // after an old backup a number comes again
       if (answer) transaction.objectStore("answers").put({ place, ...answer });
@@ -90,7 +90,7 @@ export class Books {
     try {
       await finished;
     } catch (fault) {
-      throw isSame ? fault : new Changed("another page has changed this till's book");
+      throw isUnchanged ? fault : new Changed("another page has changed this till's book");
     }
   }
 
