@@ -22,8 +22,8 @@ missing=$(cd "$top/tests" && /usr/bin/python3 -c "import shop_scene; print(*shop
 for file in "$top"/shop/src/ledger_shop/*.py "$top"/tests/shop*.py; do
     /usr/bin/python3 -c "import sys; compile(open(sys.argv[1], encoding='utf-8').read(), sys.argv[1], 'exec')" "$file"
 done
-told=$(node --test "$top/tests/till_page.mjs" "$top/tests/stock_page.mjs" 2>&1) || { echo "$told" >&2; exit 1; }
-echo "till_page, stock_page: $(echo "$told" | sed -n 's/^# pass //p') tests of the pages' own rules; no difference"
+told=$(node --test "$top"/shop/pages/tests/ 2>&1) || { echo "$told" >&2; exit 1; }
+echo "pages: $(echo "$told" | sed -n 's/^# pass //p') tests of the pages' own rules; no difference"
 /usr/bin/python3 "$top/tests/shop_papers.py"
 /usr/bin/python3 "$top/tests/shop_keeping.py" "$program"
 set -- ${3:+--pictures "$3"}

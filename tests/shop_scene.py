@@ -12,9 +12,9 @@ from functools import partial
 
 import brokers
 from served import sure, want
-from shop_paths import TOP, command
+from shop_paths import DEPLOY, TOP, command
 
-EXAMPLES = TOP / "examples"
+PAGES = TOP / "shop" / "pages"
 SHOP = "1"
 
 
@@ -45,7 +45,7 @@ class Broker(brokers.Mosquitto):
     def __init__(self, folder, **more):
         super().__init__(folder, **more)
         self.pages = brokers.free_ports(1)[0]
-        text = (EXAMPLES / "till_page" / "mosquitto_pages.conf").read_text()
+        text = (DEPLOY / "mosquitto_pages.conf").read_text()
         where = {"certfile": folder / "broker.crt", "keyfile": folder / "broker.key"}
         listener = f"{self.pages} {self.address}"
         (folder / "conf.d" / "ledger_pages.conf").write_text(brokers.set_in(text, " ", listener=listener, **where))
@@ -61,15 +61,17 @@ class Quiet(http.server.SimpleHTTPRequestHandler):
         pass
 
 
-def lay_pages(root, broker, goods=None, pages=EXAMPLES):
-    """Lays the pages into a folder, with the place of their broker and the goods."""
-    for name in ("till_page", "stock_page"):
-        shutil.copytree(pages / name, root / name)
+def lay_pages(root, broker, goods=None, pages=PAGES):
+    """Lays the pages into a folder as set_up.sh does, with the place of their broker and the goods."""
+    for page in ("till", "stock"):
+        name = f"{page}_page"
+        shutil.copytree(pages / page if (pages / page).exists() else pages / name, root / name)
     here = root / "till_page"
+    (root / "till").symlink_to("till_page")
     (here / "config.json").write_text(json.dumps({"broker": broker, "shop": SHOP}))
     if goods:
         (here / "goods.csv").write_text(goods, encoding="utf-8")
-    subprocess.run([here / "make_mqtt.sh", here], check=True, capture_output=True)
+    subprocess.run([PAGES / "make_mqtt.sh", here], check=True, capture_output=True)
 
 
 class Pages:
@@ -77,7 +79,7 @@ class Pages:
 
     def __init__(self, folder, broker, goods=None, pages=None):
         self.root = folder / "www"
-        lay_pages(self.root, f"wss://localhost:{broker.pages}", goods, pages or EXAMPLES)
+        lay_pages(self.root, f"wss://localhost:{broker.pages}", goods, pages or PAGES)
         self.port = 0
         self.open()
 

@@ -27,8 +27,7 @@ fi
 [ "$(id -u)" = 0 ] || fail "only root can do this"
 here=$(CDPATH= cd -- "$(dirname -- "$0")" && pwd -P)
 shop=${here%/deploy}
-till_page=$shop/../examples/till_page
-stock_page=$shop/../examples/stock_page
+pages=$shop/pages
 own=/etc/ledger
 # where the package has all this already
 packed=/usr/share/ledger-1541/shop
@@ -68,18 +67,20 @@ put_programs() {
 # the brokers' and the web server's configuration, and the pages with the goods
 put_pages() {
     put root:root 644 "$here/mosquitto.conf" /etc/mosquitto/conf.d/ledger.conf
-    put root:root 644 "$till_page/mosquitto_pages.conf" /etc/mosquitto/conf.d/ledger_pages.conf
+    put root:root 644 "$here/mosquitto_pages.conf" /etc/mosquitto/conf.d/ledger_pages.conf
     printf 'BROKERS="--broker mqtts://localhost --ca %s/ca.crt"\nWATCH="--screen --metrics 9641 --backups /var/backups/ledger"\n' "$own" >"$own/new.env"
     put root:root 644 "$own/new.env" "$own/bridge-mqtt.env"
     rm -f "$own/new.env"
-    install -D -m 644 -t /var/www/ledger/till_page "$till_page"/*.html "$till_page"/*.css "$till_page"/*.js
-    install -D -m 644 -t /var/www/ledger/stock_page "$stock_page"/*.html "$stock_page"/*.css "$stock_page"/*.js
-    sh "$till_page/make_mqtt.sh" /var/www/ledger/till_page >/dev/null
+    install -D -m 644 -t /var/www/ledger/till_page "$pages"/till/*.html "$pages"/till/*.css "$pages"/till/*.js
+    install -D -m 644 -t /var/www/ledger/stock_page "$pages"/stock/*.html "$pages"/stock/*.css "$pages"/stock/*.js
+    # the stock page's name for the till's, from which it takes modules
+    ln -sfn till_page /var/www/ledger/till
+    sh "$pages/make_mqtt.sh" /var/www/ledger/till_page >/dev/null
     install -m 644 "$own/ca.crt" /var/www/ledger/ca.crt
     [ -e "$own/goods.csv" ] || install -m 644 "$here/goods.csv" "$own/goods.csv"
     /usr/bin/ledger-shop goods "$own/goods.csv"
     install -m 644 "$own/goods.csv" /var/www/ledger/till_page/goods.csv
-    put root:root 644 "$till_page/nginx.conf" /etc/nginx/conf.d/ledger_pages.conf
+    put root:root 644 "$here/nginx.conf" /etc/nginx/conf.d/ledger_pages.conf
 
     # a further shop has copies of them, as OPERATIONS.md makes them
     for other in /var/www/ledger/*/; do
@@ -87,6 +88,7 @@ put_pages() {
         for page in till_page stock_page; do
             install -m 644 -t "$other$page" /var/www/ledger/"$page"/*.html /var/www/ledger/"$page"/*.css /var/www/ledger/"$page"/*.js
         done
+        ln -sfn till_page "${other}till"
     done
 }
 

@@ -31,7 +31,7 @@ function numberOf(text, least, most) {
 }
 
 /** The goods of goods.csv: a map from item to {item, name, unit, least}. Throws an Error that names the row if one is
- *  unfit; examples/operator/goods.py checks the same before the file is installed. */
+ *  unfit; shop/src/ledger_shop/goods.py checks the same before the file is installed. */
 export function goodsOf(text) {
   const [head, ...rows] = rowsOf(text), goods = new Map();
   if (!head || head.join(",") !== HEAD) throw new Error(`the first line isn't ${HEAD}`);

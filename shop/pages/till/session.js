@@ -6,7 +6,7 @@ import * as marks from "./marks.js";
 import * as queue from "./queue.js";
 import { pause } from "./rules.js";
 
-// items in a message of the stock (examples/tills/board.py)
+// items in a message of the stock (shop/src/ledger_shop/board.py)
 const PAGE = 40;
 // milliseconds within which a broker hands over what it keeps
 const GRACE = 400;
@@ -210,7 +210,8 @@ export class Session {
     if (this.book.open === null || !this.book.isSent || this.halt !== null || !this.holds) return;
     const number = this.book.last + 1;
     if (this.asked !== number) Object.assign(this, { asked: number, times: 0 });
-    if (this.marked.taken.get(number) !== this.mark) this.mine(marks.take(this.marked.taken, number, this.mark));
+    const taken = marks.take(this.marked.taken, number, this.mark);
+    if (taken.get(number) === this.mark && this.marked.taken.get(number) !== this.mark) this.mine(taken);
     this.link.send(this.topics.asks, queue.ask(this.till, this.book));
     this.timer = this.clock.set(() => this.repeat(), 1000 * pause(this.times));
     this.times += 1;

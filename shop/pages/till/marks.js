@@ -23,15 +23,12 @@ export function marksText(mark, taken) {
   return [mark, ...[...taken].map(([number, device]) => `${number}:${device}`)].join(" ");
 }
 
-/** The numbers when this device takes one: that before stays whose it is, and later ones are free. */
+/** The numbers when this device takes one: that before stays whose it is. If later ones are taken, this one was taken before
+ *  them, and nothing changes: theirs mustn't be forgotten. */
 export function take(taken, number, mark) {
+  if (lastUsed(0, taken) > number) return taken;
   const before = [...taken].filter(([other]) => other === number - 1);
   return new Map([...before, [number, mark]]);
-}
-
-/** The numbers up to this one. */
-export function upTo(taken, number) {
-  return new Map([...taken].filter(([other]) => other <= number));
 }
 
 /** The number of a till's last request at the shop, as the bridge shows it: `TIME NUMBER,..`; 0 if it shows none. */

@@ -1,6 +1,6 @@
-// The shop as the bridge publishes it (examples/tills/board.py), without browser or broker.
+// The shop as the bridge publishes it (shop/src/ledger_shop/board.py), without browser or broker.
 
-import { answerWords, isDone, wishWords } from "../till_page/rules.js";
+import { answerWords, isDone, wishWords } from "../till/rules.js";
 
 export const PAGE = 40;
 const COUNT = /^[1-9][0-9]{0,8}$/, NUMBER = /^(?:0|[1-9][0-9]{0,8})$/, TIME = /^(?:-|\d{4}-\d\d-\d\dT\d\d:\d\d:\d\d\.\d{3}Z)$/;

@@ -1,8 +1,8 @@
 // The page of a shop's stock: what is low, the tills, the last answers, all cards, and an item's history.
 
-import { fetched, nameIn, Search } from "../till_page/goods.js";
-import { configured, Link } from "../till_page/link.js";
-import { isDone } from "../till_page/rules.js";
+import { fetched, nameIn, Search } from "../till/goods.js";
+import { configured, Link } from "../till/link.js";
+import { isDone } from "../till/rules.js";
 import { ago, Board, words } from "./board.js";
 
 const ROWS = 100, KEPT = "ledger-screen";

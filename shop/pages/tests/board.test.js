@@ -1,11 +1,11 @@
 // What the stock page makes of the bridge's messages, by node's test runner:
-//   node --test tests/stock_page.mjs
+//   node --test shop/pages/tests/
 // The lines are written by hand after docs/MESSAGES.md and shop/src/ledger_shop/board.py. It wants Debian's nodejs.
 
 import assert from "node:assert/strict";
 import { test } from "node:test";
-import { ago, Board, requestOf, words } from "../examples/stock_page/board.js";
-import { goodsOf, nameIn, Search } from "../examples/till_page/goods.js";
+import { ago, Board, requestOf, words } from "../stock/board.js";
+import { goodsOf, nameIn, Search } from "../till/goods.js";
 
 const GOODS = goodsOf('item,name,unit,least\n15,Postcard,piece,10\n16,"<i>Map</i>",,4\n120,Mug,,2\n');
 const TIME = "2026-11-26T19:05:12.345Z";
