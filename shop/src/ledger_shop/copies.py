@@ -61,8 +61,8 @@ def not_needed(path, numbers):
     that is needed."""
     gone = []
     for one in journal.files_of(path)[:-1]:
-        entries = journal.Entries(Path(one).read_bytes(), one)
-        if entries.open or not has(numbers, entries.numbers):
+        entries = journal.Entries().read(Path(one).read_bytes(), one)
+        if not has(numbers, entries.answered) or not has(numbers, dict(map(journal.key_of, entries.open))):
             break
         gone.append(Path(one))
     return gone

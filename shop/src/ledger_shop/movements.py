@@ -4,7 +4,6 @@ import collections
 from datetime import datetime
 
 from ledger_shop import journal
-from ledger_shop.account import Unfit
 
 Movement = collections.namedtuple("Movement", "time till number kind item quantity to answer")
 # words of a request's kinds, for people
@@ -27,25 +26,13 @@ def left(movement):
     return dict(zip(items, map(int, counts)))
 
 
-def in_file(path):
-    """The movements of one file, in its order. A last line without a reply isn't one yet. Raises Unfit for a line that
-    is no journal's, and for what follows the last line if that isn't part of one."""
-    with open(path, "rb") as file:
-        lines, _ = journal.whole_lines(file.read(), path)
-    for number, line in enumerate(lines, 1):
-        entry = journal.ENTRY.fullmatch(line)
-        if entry and entry[3]:
-            if journal.counts(entry[2], entry[3]):
-                yield movement_of(entry[1], entry[2], entry[3])
-        elif not (journal.BEGINS.fullmatch(line) or journal.TAKES.fullmatch(line) or entry and number == len(lines)):
-            raise Unfit(f"{path}, line {number}, isn't a line of a journal: {line[:80]!r}")
-
-
 def in_journal(path, last=None):
-    """The movements of a journal, oldest first; only of its `last` files if a number is given."""
+    """The movements of a journal, oldest first; only of its `last` files if a number is given. A request without a reply isn't
+    one: it counts later, or its reply was lost."""
     files = journal.files_of(path)
-    for one in files[-last:] if last else files:
-        yield from in_file(one)
+    for one in journal.answers_in(files[-last:] if last else files):
+        if one.reply and journal.counts(one.request, one.reply):
+            yield movement_of(one.time, one.request, one.reply)
 
 
 def local(time):

@@ -21,17 +21,6 @@ from ledger_shop.account import Unfit
 from ledger_shop.copies import Stopped, run
 
 
-def entries_of(paths):
-    """The requests and replies of the journal's files, and those at the end without a reply."""
-    requests, last = [], []
-    for path in paths:
-        if last:
-            raise Stopped(f"{path} can't follow a file that ends with an open request: their names aren't in their order")
-        entries = journal.Entries(Path(path).read_bytes(), path)
-        requests, last = requests + entries.requests, entries.open
-    return requests, last
-
-
 def play(program, image, lines):
     """The replies to these requests."""
     with tempfile.NamedTemporaryFile("w", encoding="ascii") as script:
@@ -40,13 +29,14 @@ def play(program, image, lines):
         return run(program, "play", image, script.name).splitlines()
 
 
-def judge(requests, replies):
-    """Each reply is the journal's. A request that the backup had, and two later ones of its till, is STALE now."""
-    for (request, kept), reply in zip(requests, replies):
+def judge(answers, replies):
+    """Each reply is the journal's, if that has it. A request that the backup had, and two later ones of its till, is STALE
+    now."""
+    for one, reply in zip(answers, replies):
         if reply.endswith(",AHEAD"):
-            raise Stopped(f"lines are missing before {request}: a file of the journal, or an older backup's")
-        if reply != kept and not reply.endswith(",STALE"):
-            raise Stopped(f"{request} gets {reply}, and the journal has {kept}: the backup is of another shop")
+            raise Stopped(f"lines are missing before {one.request}: a file of the journal, or an older backup's")
+        if one.reply not in (None, reply) and not reply.endswith(",STALE"):
+            raise Stopped(f"{one.request} gets {reply}, and the journal has {one.reply}: the backup is of another shop")
 
 
 def begin(program, image, backup, tills):
@@ -86,23 +76,25 @@ def make(program, new, kept, backup=None, tills=None, other=None):
         raise Stopped(f"{new} is there already: name a new file")
     with tempfile.TemporaryDirectory(dir=os.path.dirname(os.path.abspath(new))) as folder:
         image = os.path.join(folder, "new.d64")
-        requests, last = entries_of(journal.files_of(kept))
+        entries = journal.Entries()
+        for path in journal.files_of(kept):
+            entries.read(Path(path).read_bytes(), path)
         begin(program, image, backup, tills)
-        judge(requests, play(program, image, [request for request, _ in requests]))
+        judge(entries.answers, play(program, image, [one.request for one in entries.answers]))
 
         def is_same():
             return other is None or run(program, "show", image) == run(program, "show", other)
 
-        for request in last if other else []:
+        for request in entries.open if other else []:
             # what the journal's end was to have next may have been done
             if not is_same():
                 play(program, image, [request])
         same, verdict = is_same(), run(program, "check", image).strip()
         finish(image, new)
     if not same:
-        raise Stopped(f"{new} of {len(requests)} requests isn't the shop of {other}")
+        raise Stopped(f"{new} of {len(entries.answers)} requests isn't the shop of {other}")
     compared = f", the same shop as {other}" if other else ""
-    return f"{new}: {len(requests)} requests played{compared}, {verdict}"
+    return f"{new}: {len(entries.answers)} requests played{compared}, {verdict}"
 
 
 def main():

@@ -148,17 +148,32 @@ class Serve:
         self.numbers = {till: int(line.split(",")[1]) for till, line in shown.items()}
         for till, number in sorted(entries.numbers.items()):
             self.compare(till, number, shown.get(till), entries.shown.get(till))
+        for till, number in entries.answered.items():
+            self.compare(till, number, shown.get(till), None)
         expected = dict(entries.numbers)
         for till, number in map(journal.key_of, entries.open):
             self.compare(till, number - 1, shown.get(till), None)
             expected[till] = number
         is_ahead = any(number > expected.get(till, 0) for till, number in self.numbers.items())
-        if entries.open:
-            self.note(entries.open, self.turns(entries.open))
-        if is_ahead and entries.size:
+        if is_ahead and entries.is_there:
             say(f"{self.command[2]}: served without its journal meanwhile: make a backup now, older ones don't lead on")
-        if is_ahead or not entries.size:
+        taken = entries.open
+        if entries.is_there and not entries.is_whole:
+            taken = self.go_on(entries)
+        if taken:
+            self.note(taken, self.turns(taken))
+        if not entries.is_there or (is_ahead and entries.is_whole):
             self.journal.begin(self.numbers)
+
+    def go_on(self, entries):
+        """Begins a new file of the journal, since something stands in this one that doesn't count; returns the requests that
+        were taken and are handed over again. The image has what was answered."""
+        taken = [line for line in entries.open if self.numbers.get(request_of(line)[0], 0) <= request_of(line)[1]]
+        before = {till: number - 1 for till, number in map(request_of, taken)}
+        old = self.journal.turn({**self.numbers, **before}, taken)
+        why = "is damaged" if entries.is_damaged else "is of an earlier version" if entries.is_old else "broke off"
+        say(f"the journal {self.journal.path} {why}: it is {old} now, and a new one begins. The shop has all that was answered")
+        return taken
 
     def compare(self, till, number, image, kept):
         """Raises Stale if the image's last request of a till is older than the journal's, or another one."""
