@@ -89,9 +89,9 @@ class SwitchTo:
 
 
 class Firefox:
-    """A browser whose store lies in a folder, and stays there when it is killed."""
+    """A browser whose store lies in a folder, and stays there when it is killed. It trusts an authority whose file is given."""
 
-    def __init__(self, folder, size=(1100, 800), **preferences):
+    def __init__(self, folder, size=(1100, 800), authority=None, **preferences):
         self.folder = Path(folder)
         self.folder.mkdir(parents=True, exist_ok=True)
         with socket.create_server(("127.0.0.1", 0)) as free:
@@ -99,6 +99,8 @@ class Firefox:
         chosen = {**PREFERENCES, **preferences, "marionette.port": port}
         lines = [f"user_pref({json.dumps(name)}, {json.dumps(value)});" for name, value in chosen.items()]
         (self.folder / "user.js").write_text("\n".join(lines) + "\n")
+        if authority:
+            self.trust(authority)
         words = ["/usr/bin/firefox-esr", "--headless", "--marionette", "--remote-allow-system-access", "--no-remote", "--profile", str(self.folder)]
         words += ["--window-size", "{},{}".format(*size)]
         quiet = {"stdin": subprocess.DEVNULL, "stdout": subprocess.DEVNULL, "stderr": subprocess.DEVNULL}
@@ -109,6 +111,13 @@ class Firefox:
         self.message()
         self.ask("WebDriver:NewSession", capabilities={"alwaysMatch": {"acceptInsecureCerts": True}})
         self.size(*size)
+
+    def trust(self, authority):
+        """What a person does in the settings (Debian's package libnss3-tools)."""
+        database = ["-d", f"sql:{self.folder}"]
+        if not (self.folder / "cert9.db").exists():
+            subprocess.run(["certutil", "-N", "--empty-password", *database], check=True)
+        subprocess.run(["certutil", "-A", "-n", "shop", "-t", "C,,", "-i", authority, *database], check=True)
 
     def connected(self, port):
         end = time.monotonic() + 60

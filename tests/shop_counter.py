@@ -22,6 +22,9 @@ import shop_scene as scene
 from served import sure, want
 from shop_paths import command
 from shop_scene import TillPage, until
+from web_server import Web
+
+from ledger_shop import journal
 
 PATIENCE = 8
 GOODS = "item,name,unit,least\n" + "".join(f"{item},Thing no {item},piece,5\n" for item in range(1, 200))
@@ -55,7 +58,12 @@ class Trial:
         self.image, self.kept = scene.shop_image(given.program, folder / "shop1.d64", 64), folder / "shop1.lines"
         self.bridge = None
         self.open_bridge()
-        self.pages = scene.Pages(folder, self.broker, GOODS, given.pages)
+        if given.pages:
+            self.pages = scene.Pages(folder, self.broker, GOODS, given.pages)
+        else:
+            scene.lay_pages(folder / "www", None, GOODS)
+            self.pages = Web(folder, folder / "www", self.broker.pages)
+            self.pages.open()
 
     # the shop
 
@@ -94,7 +102,7 @@ class Trial:
 
     def journal(self, till):
         """The wishes of a till that count, in their order."""
-        lines = [line for path in sorted(self.folder.glob("shop1.lines*")) for line in path.read_text().splitlines() if " -> " in line]
+        lines = [line for path in journal.files_of(self.kept) for line in Path(path).read_text().splitlines() if " -> " in line]
         asked = [line.split(" ", 1)[1].split(" -> ")[0] for line in lines if "takes" not in line]
         return [one.split(",", 2)[2] for one in asked if one.startswith(f"{till},")]
 
@@ -110,9 +118,9 @@ class Trial:
             if self.given.browser == "firefox":
                 from firefox import Firefox
 
-                self.drivers[name] = Firefox(self.folder / name, (self.given.width, 844))
+                self.drivers[name] = Firefox(self.folder / name, (self.given.width, 844), self.broker.ca)
             else:
-                self.drivers[name] = scene.browser(self.folder / name, (max(self.given.width, 500), 900))
+                self.drivers[name] = scene.browser(self.folder / name, (max(self.given.width, 500), 900), self.broker.ca)
                 metrics = {"width": self.given.width, "height": 844, "deviceScaleFactor": 1, "mobile": False}
                 self.drivers[name].execute_cdp_cmd("Emulation.setDeviceMetricsOverride", metrics)
         return self.drivers[name]

@@ -9,6 +9,7 @@ import subprocess
 import threading
 import time
 from functools import partial
+from pathlib import Path
 
 import brokers
 from served import sure, want
@@ -68,7 +69,8 @@ def lay_pages(root, broker, goods=None, pages=PAGES):
         shutil.copytree(pages / page if (pages / page).exists() else pages / name, root / name)
     here = root / "till_page"
     (root / "till").symlink_to("till_page")
-    (here / "config.json").write_text(json.dumps({"broker": broker, "shop": SHOP}))
+    if broker:
+        (here / "config.json").write_text(json.dumps({"broker": broker, "shop": SHOP}))
     if goods:
         (here / "goods.csv").write_text(goods, encoding="utf-8")
     subprocess.run([PAGES / "make_mqtt.sh", here], check=True, capture_output=True)
@@ -96,21 +98,35 @@ class Pages:
         self.server.server_close()
 
 
-def browser(folder, size=(1100, 800)):
-    """A browser whose store lies in a folder, and stays there when it is killed."""
+def trusting(home, authority):
+    """A home folder in which Chromium finds that an authority is trusted (Debian's package libnss3-tools)."""
+    store = home / ".pki" / "nssdb"
+    if not store.exists():
+        store.mkdir(parents=True)
+        database = ["-d", f"sql:{store}"]
+        subprocess.run(["certutil", "-N", "--empty-password", *database], check=True)
+        subprocess.run(["certutil", "-A", "-n", "shop", "-t", "C,,", "-i", authority, *database], check=True)
+    return {**os.environ, "HOME": str(home)}
+
+
+def browser(folder, size=(1100, 800), authority=None):
+    """A browser whose store lies in a folder, and stays there when it is killed. With an authority it trusts that one, and
+    otherwise every certificate."""
     from selenium import webdriver
     from selenium.webdriver.chrome.service import Service
 
     options = webdriver.ChromeOptions()
     options.binary_location = "/usr/bin/chromium"
     words = ["--headless=new", "--no-sandbox", "--disable-dev-shm-usage", "--disable-gpu", "--no-first-run"]
-    words += ["--ignore-certificate-errors", f"--user-data-dir={folder}", "--window-size={},{}".format(*size)]
+    words += [f"--user-data-dir={folder}", "--window-size={},{}".format(*size)]
+    words += [] if authority else ["--ignore-certificate-errors"]
     words += ["--disable-background-timer-throttling", "--disable-renderer-backgrounding", "--disable-component-update"]
     words += ["--disable-backgrounding-occluded-windows", "--disable-sync", "--disable-background-networking"]
     for word in words:
         options.add_argument(word)
     options.set_capability("goog:loggingPrefs", {"browser": "ALL"})
-    return webdriver.Chrome(service=Service("/usr/bin/chromedriver"), options=options)
+    home = trusting(Path(f"{folder}.home"), authority) if authority else None
+    return webdriver.Chrome(service=Service("/usr/bin/chromedriver", env=home), options=options)
 
 
 def bridge_words(program, image, kept, broker, *more):

@@ -39,7 +39,7 @@ class Page {
     const shop = `shops/${this.config.shop}/`;
     const topics = ["bridge", "stock/+", "tills/+", "last", "top", "history/+"].map((topic) => shop + topic);
     const heard = (topic, text) => this.message(topic.slice(shop.length), text);
-    this.link = new Link(this.config.broker, `screen-${this.config.shop}-${screen}`, password, topics, heard, () => this.due("state"));
+    this.link = new Link(this.config.brokers, `screen-${this.config.shop}-${screen}`, password, topics, heard, () => this.due("state"));
     [...PARTS, "leave"].forEach((id) => show(id, true));
     this.due("state");
   }

@@ -3,29 +3,34 @@
 
 const DENIED = [4, 5], PAUSE = 1000;
 
-/** The broker of a page: what config.json beside this file says, or port 8884 of the machine that the page is of. */
+/** The broker's places and the shop of a page: what config.json beside this file says, or the web server's own `/mqtt`, or port
+ *  8884 of its machine. (Firefox doesn't reach mosquitto's port itself: it speaks HTTP/2 there, and mosquitto doesn't.) */
 export async function configured() {
   const found = await fetch(new URL("config.json", import.meta.url)).then((answer) => (answer.ok ? answer.json() : {})).catch(() => ({}));
-  return { broker: found.broker ?? `wss://${location.hostname}:8884`, shop: found.shop ?? "1" };
+  const brokers = found.broker ? [found.broker] : [`wss://${location.host}/mqtt`, `wss://${location.hostname}:8884`];
+  return { brokers, shop: found.shop ?? "1" };
 }
 
-/** A connection with an account, which connects again by itself, unless the account is denied. `heard(topic, text, retained)`
+/** A connection with an account to one of a broker's places, which connects again by itself, unless the account is denied: at the
+ *  next place, if it never stood at this one. `heard(topic, text, retained)`
  *  gets each message; `changed()` is called whenever what `trouble` returns may have changed, `connected()` before. */
 export class Link {
-  constructor(broker, user, password, topics, heard, changed, connected = () => {}) {
-    Object.assign(this, { broker, user, password, topics, heard, changed, connected, isDenied: false, client: null, more: null });
+  constructor(brokers, user, password, topics, heard, changed, connected = () => {}) {
+    Object.assign(this, { brokers: [...brokers], user, password, topics, heard, changed, connected, isDenied: false, client: null, more: null });
     this.connect();
   }
 
   /** Each connection has a client of its own: what was on its way over one never goes out over the next. */
   connect() {
-    const client = mqtt.connect(this.broker, {
+    const client = mqtt.connect(this.brokers[0], {
       clientId: this.user, username: this.user, password: this.password, clean: true, keepalive: 10, reconnectPeriod: 0,
       connectTimeout: 5000, resubscribe: false, queueQoSZero: false,
     });
     this.client = client;
     client.on("connect", () => {
       if (client !== this.client) return;
+      // this place is the broker's
+      this.brokers.length = 1;
       this.more = null;
       this.connected();
       client.subscribe(this.topics, { qos: 1 });
@@ -41,6 +46,7 @@ export class Link {
   lost(client) {
     if (client !== this.client) return;
     this.end();
+    this.brokers.push(this.brokers.shift());
     if (!this.isDenied) this.timer = setTimeout(() => this.connect(), PAUSE);
     this.changed();
   }

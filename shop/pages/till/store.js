@@ -36,8 +36,8 @@ export class Books {
     };
     const books = new Books();
     books.store = await done(request);
-    // the browser isn't to throw the books away when it wants room
-    if (navigator.storage?.persist) await navigator.storage.persist().catch(() => false);
+    // the browser isn't to throw the books away when it wants room; Firefox asks a person, for whom the page doesn't wait
+    navigator.storage?.persist?.().catch(() => false);
     return books;
   }
 

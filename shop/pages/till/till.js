@@ -70,7 +70,7 @@ class Page {
   /** Takes the till, unless another page of this browser has it, and goes on where its book is. An account that is new is
    *  kept, if `stays`, when the broker has taken it; until then the form stays. */
   async start(sign, isNew = false, stays = false) {
-    const { till } = sign, { shop, broker } = this.config, place = `${shop}/${till}`;
+    const { till } = sign, { shop, brokers } = this.config, place = `${shop}/${till}`;
     this.session?.end();
     this.session = null;
     at("title").textContent = document.title = `Till ${till}`;
@@ -82,7 +82,7 @@ class Page {
     for (const answer of answers) this.list(answer);
     this.sign = isNew ? { kept: stays ? sign : null } : null;
     const account = `till-${shop}-${till}`, { mark } = this, keep = (...books) => this.books.keep(place, ...books);
-    const connect = (...parts) => new Link(broker, account, sign.password, ...parts);
+    const connect = (...parts) => new Link(brokers, account, sign.password, ...parts);
     this.session = new Session({ shop, till, mark, book, keep, connect, screen: this, clock });
     if (!isNew) this.work();
     this.session.connect();
