@@ -6,6 +6,7 @@ import { configured, Link } from "./link.js";
 import * as queue from "./queue.js";
 import * as rules from "./rules.js";
 import { Session } from "./session.js";
+import { accountOf, codeIn } from "./sign.js";
 import { Books, Changed, hold } from "./store.js";
 
 // answers that are shown; milliseconds after a tap within which another one on the empty form is the same tap, and for which a
@@ -34,7 +35,7 @@ function stop(head, text) {
   at("stop-head").textContent = head;
   at("stop-text").textContent = text;
   show("stop", true);
-  ["sign", "again", "stop-waits", "work", "waits"].forEach((id) => show(id, false));
+  ["sign", "by-code", "again", "stop-waits", "work", "waits"].forEach((id) => show(id, false));
   at("sure").close();
   state("Stopped", "bad");
 }
@@ -90,7 +91,7 @@ class Page {
 
   /** Shows what a till needs, in the place of the form to sign in. */
   work() {
-    show("sign", false);
+    ["sign", "by-code"].forEach((id) => show(id, false));
     ["leave", "work", "done"].forEach((id) => show(id, true));
   }
 
@@ -109,10 +110,32 @@ class Page {
     this.session = null;
     this.books.keepSign(null);
     ["leave", "work", "done"].forEach((id) => show(id, false));
-    ["sign", "sign-fault"].forEach((id) => show(id, true));
+    this.ask();
+    show("sign-fault", true);
     at("password").value = "";
     at("password").focus();
+  }
+
+  /** Shows the forms to sign in. */
+  ask() {
+    ["sign", "by-code"].forEach((id) => show(id, true));
     state("Not signed in", "wait");
+  }
+
+  /** Signs in by a code, which the shop takes once. */
+  async byCode(code) {
+    at("code-fault").textContent = "";
+    show("code-fault", false);
+    try {
+      const { till, password } = await accountOf(code, this.config.shop);
+      at("code").value = "";
+      await this.start({ till, password }, true, at("stay").checked);
+    } catch (fault) {
+      this.ask();
+      at("code-fault").textContent = fault.message;
+      show("code-fault", true);
+      at("code").focus();
+    }
   }
 
   /** Before a count is set the shop says how many are there. */
@@ -316,6 +339,9 @@ function keepFiles() {
 }
 
 async function main() {
+  const given = codeIn(location.hash);
+  // a code is worth nothing once it is used, but it needn't be seen
+  if (given.code) history.replaceState(null, "", location.pathname);
   keepFiles();
   if (!navigator.locks || !globalThis.indexedDB)
     return stop("This browser can't be a till", "It has no store or no locks. Open the page by https, in a current browser.");
@@ -326,16 +352,17 @@ async function main() {
     show("sign-fault", false);
     page.start({ till: Number(at("till").value), password: at("password").value.trim() }, true, at("stay").checked);
   });
-  // the code of make_accounts.py has both; the password doesn't stay in the address
-  const given = new URLSearchParams(location.hash.slice(1)), [till, password] = ["till", "password"].map((name) => given.get(name));
-  if (password) history.replaceState(null, "", location.pathname);
-  if (sign && !password) return page.start(sign);
-  state("Not signed in", "wait");
-  show("sign", true);
-  at("till").value = till ?? "";
-  at("password").value = password ?? "";
-  if (password) at("sign").requestSubmit();
-  else at(till ? "password" : "till").focus();
+  at("by-code").addEventListener("submit", (event) => {
+    event.preventDefault();
+    page.byCode(at("code").value);
+  });
+  // an address that a camera reads may come into a tab that is here already
+  addEventListener("hashchange", () => { if (codeIn(location.hash).code) location.reload(); });
+  if (given.code) return page.byCode(given.code);
+  if (sign) return page.start(sign);
+  page.ask();
+  at("till").value = given.till ?? "";
+  at(given.till ? "password" : "code").focus();
 }
 
 main().catch((fault) => stop("The page can't start", String(fault)));

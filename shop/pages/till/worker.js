@@ -1,7 +1,7 @@
 // Keeps the page's files, so that it opens without net too. A file comes from the server if that answers in time.
 /* global self, caches */
 const CACHE = "ledger-till-2", PATIENCE = 3000;
-const FILES = ["./", "style.css", "till.js", "session.js", "queue.js", "rules.js", "store.js", "form.js", "chooser.js", "goods.js", "link.js", "marks.js", "mqtt.js"];
+const FILES = ["./", "style.css", "till.js", "session.js", "queue.js", "rules.js", "store.js", "form.js", "sign.js", "trust.html", "trust.js", "chooser.js", "goods.js", "link.js", "marks.js", "mqtt.js"];
 
 // what a shop may have beside the page's own files
 const MORE = ["goods.csv", "config.json"];

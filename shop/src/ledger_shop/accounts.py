@@ -1,6 +1,7 @@
 """Makes the accounts of a shop at a broker, and the broker's files that give each account its rights.
 
     ledger-shop accounts FOLDER --shop 1 --tills 4
+    ledger-shop accounts FOLDER                        the broker's files anew, as this version has them
     ledger-shop accounts FOLDER --qr till-1-3 --page https://shop.example/till_page/
 
 FOLDER gets a file `bridge-1.account` and, for each till and each screen, `till-1-N.account` and `screen-1-N.account`: one
@@ -173,11 +174,13 @@ def main():
         if not (NAME.fullmatch(given.qr) and given.qr.startswith("till-") and given.page):
             parser.error("--qr is a till's account, such as till-1-3, and wants --page")
         return print_code(given.folder, given.qr, given.page, given.codes)
-    if not (given.shop and given.tills):
-        parser.error("--shop and --tills are required")
-    if not NAME.fullmatch(f"bridge-{given.shop}"):
+    if bool(given.shop) != bool(given.tills):
+        parser.error("--shop wants --tills, and --tills wants --shop")
+    if given.shop and not NAME.fullmatch(f"bridge-{given.shop}"):
         parser.error("a shop's name has letters, digits and _ only")
-    accounts = make(given.folder, {given.shop: given.tills}, given.screens)
+    if not (given.shop or given.folder.is_dir()):
+        parser.error(f"there are no accounts in {given.folder}: --shop and --tills make some")
+    accounts = make(given.folder, {given.shop: given.tills} if given.shop else {}, given.screens)
     print(f"make_accounts: {len(accounts)} accounts in {given.folder}")
 
 
