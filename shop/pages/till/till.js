@@ -60,6 +60,7 @@ class Page {
     at("work").addEventListener("submit", (event) => { event.preventDefault(); this.tap(); });
     at("again").addEventListener("submit", (event) => { event.preventDefault(); this.goOn(event.submitter?.id !== "drop"); });
     at("leave").addEventListener("click", () => this.leave());
+    new IntersectionObserver(([one]) => { at("unseen-way").dataset.near = String(one.isIntersecting); }).observe(at("unseen-head"));
     at("unseen-way").addEventListener("click", () => at("unseen-head").focus());
     for (const id of ["yes", "no"]) at(id).addEventListener("click", () => at("sure").close(id));
     addEventListener("online", () => this.changed());
