@@ -82,6 +82,23 @@ def imports(folder, listed, many):
     check(broken.read_text() == "R,101,12\nR,1", "a file that isn't understood is written to")
 
 
+def without_cards(folder, listed):
+    """Goods of a supplier's list of which the shop has no card: named, and nothing is added, unless they may be set. A program
+    that prints what `show` does stands for the shop."""
+    show = folder / "show"
+    show.write_text("#!/bin/sh\necho 'TOP 9000'; echo 'CARD 101,40'; echo 'TILL 1,1,S,101,40,DONE,40'\n")
+    show.chmod(0o755)
+    supplier, wishes = folder / "fresh.csv", folder / "wishes6"
+    supplier.write_text("Article,Pieces\n101,5\n102,7\n102,1\n")
+    words = [supplier, "--goods", listed, "--item", "Article", "--quantity", "Pieces", "--image", "shop.d64", "--program", show]
+    told = tool("import", *words, "--add-to", wishes, status=3)
+    check("line 3: 7 of Poster, rolled (102) CAN'T come in" in told and "line 2: 5 of" in told, f"without a card: {told}")
+    check("2 of 3 lines have goods without a card" in told and not wishes.exists(), f"without a card: {told}")
+    tool("import", *words, "--new", "--add-to", wishes)
+    check(wishes.read_text() == "R,101,5\nS,102,7\nR,102,1\n", f"with --new: {wishes.read_text()}")
+    check("--new wants --image" in tool("import", *words[:7], "--new", status=2), "--new without an image")
+
+
 def first_stock(folder):
     """A shop's first stock: requests of till 1, or each fault by its line, and nothing written."""
     listed, requests = folder / "list.csv", folder / "stock.txt"
@@ -127,16 +144,17 @@ def reports(folder, listed):
     table = [line.split() for line in told.splitlines()]
     check(table[1][0] == "101" and table[1][-6:] == ["5", "3", "0", "2", "-2", "8"], f"item 101 is {table[1]}")
     check(table[2][0] == "102" and table[2][-6:] == ["0", "0", "2", "0", "0", "6"], f"item 102 is {table[2]}")
-    check("tills: 1 asked 2, 2 asked 3" in told and "refused: 1 SHORT" in told, f"the day is {told}")
+    check("tills: 1 asked 2, 2 asked 3" in told and "nothing was done: 1 (fewer are there)" in told, f"the day is {told}")
     check("the clock went back in this journal: 1" in told, f"the clock: {told}")
     rows = (folder / "day.csv").read_text().splitlines()
     check(rows[1].endswith(",5,3,0,2,-2,8") and rows[2] == '102,"Poster, rolled",0,0,2,0,0,6', f"the CSV is {rows}")
     tool("day-report", kept, "--day", "2026-11-26", "--csv", folder / "day.csv", status=1, **zone)
     told = tool("history", kept, 102, "--goods", listed, **zone)
     lines = told.splitlines()
-    check(len(lines) == 3 and "2 moved from" in lines[1] and lines[1].endswith(f"10 of {MARKUP} (101) left, 6 of Poster, rolled (102) left"), f"the history is {lines}")
+    check(len(lines) == 3 and lines[1].endswith(f"Move 2 from {MARKUP} (101) to Poster, rolled (102): 10 and 6 left"), f"the history is {lines}")
     told = tool("history", kept, 101, "--goods", listed, **zone)
-    check(f"3 of {MARKUP} (101) sold: 12 left" in told, f"the history is {told}")
+    check(f"Sell 3 of {MARKUP} (101): 12 left" in told, f"the history is {told}")
+    check(f"Sell 99 of {MARKUP} (101). Nothing was done: only 10 of {MARKUP} (101) are there." in told, f"the history is {told}")
     cut_short(folder, kept)
 
 
@@ -153,7 +171,8 @@ def cut_short(folder, whole):
     path.write_bytes(text + b"\x00" * 40)
     tool("history", path, 101)
     path.write_bytes(text.replace(b"2,1,I", b"2,1,X"))
-    check("line 4" in tool("history", path, 101, status=1), "a damaged line isn't named")
+    told = tool("history", path, 101)
+    check("5 requests for item 101" in told and "till 2, request 1:" not in told, f"a damaged line: {told}")
     path.write_bytes(b"\x7fELF\x00\x00")
     tool("history", path, 101, status=1)
 
@@ -163,6 +182,7 @@ def main():
         folder = Path(name)
         listed, many = goods(folder)
         imports(folder, listed, many)
+        without_cards(folder, listed)
         first_stock(folder)
         reports(folder, listed)
     print(f"shop_papers: {checks} checks of goods, imports, reports and journals; no difference")

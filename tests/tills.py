@@ -38,6 +38,8 @@ from ledger_shop import account, journal, wishes
 
 # exit statuses with which a till or a bridge is to be started again: killed, or `serve` was killed beneath it
 AGAIN = (-9, 75)
+# and those of a till that did all its wishes, also if some were refused
+DONE = (0, wishes.REFUSED)
 STOCK = 1000
 # the seconds between two kills, at most, and the mean bytes of a journal's line
 LONGEST, LENGTH = 5, 55
@@ -75,7 +77,7 @@ class Supervised:
         status = self.process.poll()
         if status is None or self.done:
             return
-        self.done = status == 0
+        self.done = status in DONE
         if not self.done:
             want(status in self.AGAIN, f"{self.name} ended with status {status}: {Path(self.log).read_text()[-500:]}")
             self.start()

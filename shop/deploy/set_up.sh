@@ -25,10 +25,15 @@ if [ "$host" != --update ]; then
     case $tills in [1-9] | [1-5][0-9] | 6[0-4]) ;; *) fail "$tills is no number from 1 to 64" ;; esac
 fi
 [ "$(id -u)" = 0 ] || fail "only root can do this"
+own=/etc/ledger
+if [ "$host" = --update ] && [ ! -e "$own/installed" ]; then
+    # a shop over RabbitMQ, which the README sets up: its units have the programs by name
+    systemctl try-restart 'ledger-bridge@*'
+    exit
+fi
 here=$(CDPATH= cd -- "$(dirname -- "$0")" && pwd -P)
 shop=${here%/deploy}
 pages=$shop/pages
-own=/etc/ledger
 # where the package has all this already
 packed=/usr/share/ledger-1541/shop
 for file in /usr/bin/ledger /usr/bin/curl /usr/sbin/mosquitto /usr/sbin/nginx /usr/bin/openssl /usr/bin/esbuild; do
@@ -112,18 +117,18 @@ put_pages() {
     done
 }
 
-# starts again what was updated: a bridge that isn't enabled stays as it is
+# starts again what was updated; a bridge that doesn't run stays as it is
 restart() {
     systemctl daemon-reload
     systemctl enable mosquitto nginx
     systemctl restart mosquitto nginx
     [ "$host" = --update ] || systemctl enable --now ledger-bridge-mqtt@1 ledger-backup@1.timer
     systemctl enable ledger-sign-in
-    systemctl restart ledger-sign-in 'ledger-bridge-mqtt@*'
+    systemctl restart ledger-sign-in
+    systemctl try-restart 'ledger-bridge-mqtt@*' 'ledger-bridge@*'
 }
 
 if [ "$host" = --update ]; then
-    [ -e "$own/installed" ] || fail "no shop was set up here"
     put_programs
     put_accounts
     put_pages

@@ -5,8 +5,8 @@
 
 Tills ask through the exchange `shop.1.asks`, each with its number as key. The asks lie in the quorum queue
 `shop.1.bridge`, which has a single active consumer: of several bridges one serves, and the others stand by. What the
-broker has delivered is handed to `serve` together, in its order. A message is acknowledged when the broker has confirmed
-or refused its reply; a bridge that dies before leaves it to the next, whose repeat has no second effect. Replies go out
+broker has delivered is handed to `serve` together, in its order. These messages are acknowledged when the broker has taken all
+their replies, in one transaction; a bridge that dies before leaves them to the next, whose repeat has no second effect. Replies go out
 through the exchange `shop.1.replies`, with the till's number as key.
 
 If the connection is lost, `serve` is ended before another is sought: another bridge may be the active one by then. How
@@ -49,8 +49,9 @@ def declare(channel, name):
 class Bridge:
     """A consumer of one shop's asks."""
 
-    # how many messages are on their way to a bridge at a time, and seconds without one until it lets the image go
-    AHEAD, IDLE = 64, 10
+    # how many messages are handed over together, how many are on their way to a bridge at a time, and seconds without one
+    # until it lets the image go
+    TOGETHER, AHEAD, IDLE = 64, 256, 10
 
     def __init__(self, parameters, name, serve):
         self.parameters, self.name, self.serve = parameters, name, serve
@@ -92,7 +93,7 @@ class Bridge:
         """A message, and those that the broker has delivered after it."""
         asks = [first]
         channel.connection.process_data_events(0)
-        while len(asks) < self.AHEAD and channel.get_waiting_message_count():
+        while len(asks) < self.TOGETHER and channel.get_waiting_message_count():
             method, _, message = next(messages)
             asks.append((method, message))
         return asks
@@ -100,13 +101,12 @@ class Bridge:
     def connected(self):
         """Serves over one connection, until it breaks."""
         import pika
-        from pika.exceptions import NackError
 
         connection = pika.BlockingConnection(self.parameters)
         try:
-            channel = connection.channel()
+            channel, out = connection.channel(), connection.channel()
             queue, replies = declare(channel, self.name)
-            channel.confirm_delivery()
+            out.tx_select()
             channel.basic_qos(prefetch_count=self.AHEAD)
             service.say(f"{self.title}: stands by")
             messages = channel.consume(queue, inactivity_timeout=self.IDLE)
@@ -115,13 +115,11 @@ class Bridge:
                     self.idle()
                     continue
                 asks = self.delivered(channel, messages, (method, message))
-                for (ask, _), reply in zip(asks, self.replies_to(asks, connection.sleep)):
-                    try:
-                        channel.basic_publish(replies, service.key_of(reply), reply)
-                    except NackError:
-                        # a queue behind the exchange is full: the reply is lost, and its till asks again
-                        self.serve.refusals.add(service.till_of(ask.routing_key))
-                    channel.basic_ack(ask.delivery_tag)
+                for reply in self.replies_to(asks, connection.sleep):
+                    out.basic_publish(replies, service.key_of(reply), reply)
+                # the broker has all these replies, before it forgets any of the messages
+                out.tx_commit()
+                channel.basic_ack(asks[-1][0].delivery_tag, multiple=True)
         finally:
             if connection.is_open:
                 connection.close()

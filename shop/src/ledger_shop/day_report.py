@@ -46,7 +46,7 @@ class Report:
         self.count += 1
         self.tills[one.till] += 1
         if not left:
-            self.refused[one.answer.split(",")[0] if one.answer[0].isalpha() else one.answer] += 1
+            self.refused[movements.REASONS[one.answer.split(",")[0]]] += 1
             return
         for item, count in left.items():
             self.rows.setdefault(item, Row()).left = count
@@ -94,7 +94,7 @@ def main():
         print(*report.table(goods), sep="\n")
         print("tills: " + ", ".join(f"{till} asked {count}" for till, count in sorted(report.tills.items())))
         if report.refused:
-            print("refused: " + ", ".join(f"{count} {word}" for word, count in sorted(report.refused.items())))
+            print("nothing was done: " + ", ".join(f"{count} ({why})" for why, count in sorted(report.refused.items())))
         if report.turns:
             print(f"times that the clock went back in this journal: {report.turns}; lines may count on another day")
         if given.csv:

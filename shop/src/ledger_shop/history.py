@@ -7,26 +7,10 @@ reads the journal's older files too. Status 1: the journal or the goods can't be
 
 import argparse
 import sys
+from functools import partial
 
 from ledger_shop import goods as shop_goods, movements
 from ledger_shop.account import Unfit
-
-
-def words_of(one, goods):
-    """What was asked, and what came of it."""
-    name = shop_goods.named(goods, one.item)
-    asked = {
-        "R": f"{one.quantity} of {name} received",
-        "I": f"{one.quantity} of {name} sold",
-        "S": f"{name} set to {one.quantity}",
-        "M": f"{one.quantity} moved from {name} to {shop_goods.named(goods, one.to)}",
-    }[one.kind]
-    left = movements.left(one)
-    if not left:
-        return f"{asked}: refused, {one.answer}"
-    if len(left) == 1:
-        return f"{asked}: {left[one.item]} left"
-    return f"{asked}: {', '.join(f'{count} of {shop_goods.named(goods, item)} left' for item, count in left.items())}"
 
 
 def main():
@@ -37,13 +21,13 @@ def main():
     given = parser.parse_args()
     try:
         goods = shop_goods.goods_of(given.goods) if given.goods else {}
-        count = 0
+        name, count = partial(shop_goods.named, goods), 0
         for one in movements.in_journal(given.journal):
             if given.item in (one.item, one.to):
                 count += 1
                 time = movements.local(one.time).isoformat(" ", "seconds")
-                print(f"{time} till {one.till}, request {one.number}: {words_of(one, goods)}")
-        print(f"{given.journal}: {count} requests for {shop_goods.named(goods, given.item)}")
+                print(f"{time} till {one.till}, request {one.number}: {movements.words_of(one, name)}")
+        print(f"{given.journal}: {count} requests for {name(given.item)}")
     except (Unfit, shop_goods.Faults, OSError) as fault:
         sys.exit(f"history: {fault}")
 

@@ -2,7 +2,7 @@
 
     ledger-shop import list.csv --stock stock.txt
     ledger-shop import list.csv --goods goods.csv --item Article --quantity Pieces              prints a preview
-    ledger-shop import list.csv --goods goods.csv --item Article --quantity Pieces --add-to wishes5
+    ledger-shop import list.csv --goods goods.csv --item Article --quantity Pieces --image shop1.d64 --add-to wishes5
 
 --stock: the list's lines are an item's number, and how many there are (`101,40`), with a heading or without. Each becomes
 a request of till 1, which sets it, in the new file stock.txt for `ledger play`.
@@ -11,13 +11,16 @@ Otherwise the list is a CSV file (UTF-8) whose first line names its columns; `--
 the column with the item's number, or --name the one with its name as in goods.csv. Each line becomes `R,ITEM,QUANTITY`
 (it comes in), or with --set `S,ITEM,QUANTITY` (there are so many). One line that is unfit, and nothing is written.
 
+--image names the shop's image, which may be served. Goods that can't come in, since the shop has no card of them yet, are named
+then, and nothing is added; with --new the line of such goods becomes `S,ITEM,QUANTITY`, which makes the card.
+
 --add-to adds them to the wishes of a till that only does imports. Line n of its file is the till's wish n, so the till
 does each once, however often it is started or killed:
 
     ledger-shop till-mqtt 5 --wishes wishes5 --book till5.book ..
 
 A list that was added already is refused; --again adds it once more. Status 1: a line is unfit, the list was added already,
-or the file of --stock is there."""
+or the file of --stock is there. 3: goods have no card in the shop."""
 
 import argparse
 import fcntl
@@ -25,8 +28,12 @@ import hashlib
 import os
 import sys
 
+from ledger_shop import PROGRAM, copies
 from ledger_shop import goods as shop_goods
 from ledger_shop.goods import Faults
+
+# the exit status if goods have no card
+NO_CARD = 3
 
 
 def column_of(head, name, path):
@@ -52,6 +59,7 @@ class List:
 
     def __init__(self, given, goods):
         self.kind, self.goods, self.wishes, self.faults = "S" if given.set or given.stock else "R", goods, [], []
+        self.cards, self.is_new = cards_of(given), given.new
         rows = shop_goods.rows_of(given.list, given.delimiter)
         if not rows:
             raise Faults(f"{given.list} is empty")
@@ -81,13 +89,39 @@ class List:
         else:
             self.wishes.append((line, item, quantity))
 
+    def without_card(self):
+        """The lines of goods that can't come in, since the shop has no card of them: one that an earlier line makes is there."""
+        if self.kind == "S" or self.cards is None:
+            return []
+        return [one for one in self.wishes if one[1] not in self.cards]
+
+    def first_of(self, item):
+        """The line that makes a card, if cards may be made."""
+        return next(line for line, other, _ in self.wishes if other == item)
+
+    def kind_of(self, line, item):
+        makes = self.is_new and self.cards is not None and item not in self.cards and line == self.first_of(item)
+        return "S" if makes else self.kind
+
     def lines(self):
-        return [f"{self.kind},{item},{quantity}" for _, item, quantity in self.wishes]
+        return [f"{self.kind_of(line, item)},{item},{quantity}" for line, item, quantity in self.wishes]
 
     def preview(self):
-        does = "there are" if self.kind == "S" else "come in"
         for line, item, quantity in self.wishes:
+            does = "there are" if self.kind == "S" else "come in"
+            if self.kind_of(line, item) != self.kind:
+                does = "come in, and the card is new"
+            elif (line, item, quantity) in self.without_card() and not self.is_new:
+                does = "CAN'T come in: the shop has no card of it"
             print(f"line {line}: {quantity} of {shop_goods.named(self.goods, item)} {does}")
+
+
+def cards_of(given):
+    """The items of which the shop has a card, or None if no image is named."""
+    if not given.image:
+        return None
+    lines = copies.run(given.program, "show", given.image).splitlines()
+    return {int(line.removeprefix("CARD ").split(",")[0]) for line in lines if line.startswith("CARD ")}
 
 
 def add(path, lines, digest, is_again):
@@ -131,11 +165,16 @@ def words():
     parser.add_argument("--quantity", metavar="COLUMN", help="the column with the quantity")
     parser.add_argument("--set", action="store_true", help="set the stock, and don't receive")
     parser.add_argument("--delimiter", default=",", help="what stands between two fields (default: a comma)")
+    parser.add_argument("--image", metavar="FILE", help="the shop's image: name the goods that have no card in it")
+    parser.add_argument("--new", action="store_true", help="with --image: set goods that have no card, which makes one")
+    parser.add_argument("--program", default=PROGRAM)
     parser.add_argument("--add-to", metavar="FILE", help="add the wishes to this file; without it only a preview")
     parser.add_argument("--again", action="store_true", help="add a list that was added already")
     given = parser.parse_args()
     if not given.stock and not (given.goods and given.quantity and (given.item or given.name)):
         parser.error("without --stock it wants --goods, --quantity, and --item or --name")
+    if given.new and not given.image:
+        parser.error("--new wants --image")
     return given
 
 
@@ -150,6 +189,11 @@ def main():
             print(f"{given.list}: {len(found.wishes)} requests of till 1 in {given.stock}")
             return
         found.preview()
+        missing = [] if given.new else found.without_card()
+        if missing:
+            print(f"{given.list}: {len(missing)} of {len(found.wishes)} lines have goods without a card: nothing was added.")
+            print("With --new such goods are set, which makes the card.")
+            sys.exit(NO_CARD)
         if not given.add_to:
             print(f"{given.list}: {len(found.wishes)} wishes, a preview: nothing was added")
             return
@@ -157,7 +201,7 @@ def main():
             digest = hashlib.sha256(file.read() + found.kind.encode()).hexdigest()
         first = add(given.add_to, found.lines(), digest, given.again)
         print(f"{given.list}: {len(found.wishes)} wishes added to {given.add_to}, from number {first} on")
-    except (Faults, OSError) as fault:
+    except (Faults, copies.Stopped, OSError) as fault:
         sys.exit(str(fault))
 
 

@@ -1,9 +1,10 @@
 """A bridge's figures for a monitor, on the loopback address (Debian's python3-prometheus-client).
 
 `/metrics` has them in Prometheus' form. `/health` answers 200 with `serving` or `stands by: WHY`, and 503 if the bridge
-hasn't stirred for 30 s. docs/OPERATIONS.md says which figure means what."""
+hasn't stirred for 30 s. Whoever holds a connection open keeps nobody else waiting, and loses it after 5 s. docs/OPERATIONS.md says which figure means what."""
 
 import glob
+import socket
 import sys
 import threading
 import time
@@ -15,6 +16,8 @@ from ledger_shop import service
 
 # seconds after which a bridge that doesn't stir counts as hung
 HUNG = 30.0
+# connections at a time, and the seconds that each has
+MOST, PATIENCE = 8, 5.0
 STORED, RETAINED = "$SYS/broker/store/messages/count", "$SYS/broker/retained messages/count"
 WORDS = ("DONE", "SHORT", "OVER", "NO CARD", "72", "52", "NO TILL", "CLASH", "STALE", "AHEAD", "30")
 LOOPBACK = "127.0.0.1"
@@ -23,7 +26,7 @@ LOOPBACK = "127.0.0.1"
 class Nothing:
     """Figures that nobody asks for."""
 
-    topics = ()
+    topics: tuple[str, ...] = ()
 
     def stands_by(self, why):
         pass
@@ -134,6 +137,52 @@ class Silent(WSGIRequestHandler):
         pass
 
 
+def server_of(port, answer):
+    """A server for `answer` on the loopback, which whoever holds a connection open doesn't stop. Each connection has a thread of
+    its own and so many seconds, and if there are too many the oldest gives way."""
+    from prometheus_client.exposition import ThreadingWSGIServer
+
+    class Server(ThreadingWSGIServer):
+        request_queue_size = 64
+
+        def __init__(self, *words):
+            self.held, self.lock = {}, threading.Lock()
+            super().__init__(*words)
+
+        def process_request(self, request, client_address):
+            with self.lock:
+                for old in list(self.held)[: max(len(self.held) - MOST + 1, 0)]:
+                    cut(old)
+                    del self.held[old]
+                self.held[request] = time.monotonic()
+            super().process_request(request, client_address)
+
+        def service_actions(self):
+            """Called twice a second."""
+            with self.lock:
+                for request, began in self.held.items():
+                    if time.monotonic() > began + PATIENCE:
+                        cut(request)
+
+        def shutdown_request(self, request):
+            with self.lock:
+                self.held.pop(request, None)
+            super().shutdown_request(request)
+
+        def handle_error(self, request, client_address):
+            """A connection that was cut is no news."""
+
+    return make_server(LOOPBACK, port, answer, Server, Silent)
+
+
+def cut(request):
+    """Ends a connection: the thread that waits for it goes on."""
+    try:
+        request.shutdown(socket.SHUT_RDWR)
+    except OSError:
+        pass
+
+
 def figures_of(port, backups, image):
     """The figures of the shop of an image, which are served on the loopback if a port is given. Ends the bridge if that can't be."""
     if not port:
@@ -155,7 +204,7 @@ def figures_of(port, backups, image):
         return whole(environment, start)
 
     try:
-        server = make_server(LOOPBACK, port, answer, handler_class=Silent)
+        server = server_of(port, answer)
     except OSError as fault:
         service.say(f"bridge: port {port} of {LOOPBACK} can't be had: {fault.strerror}")
         sys.exit(service.NO_SHOP)

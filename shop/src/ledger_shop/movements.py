@@ -4,10 +4,17 @@ import collections
 from datetime import datetime
 
 from ledger_shop import journal
+from ledger_shop.wishes import MOST
 
 Movement = collections.namedtuple("Movement", "time till number kind item quantity to answer")
-# words of a request's kinds, for people
-KINDS = {"R": "received", "I": "sold", "S": "set", "M": "moved"}
+# why nothing was done, by the first word of an answer, as the day's report has it
+REASONS = {
+    "SHORT": "fewer are there",
+    "OVER": f"more than {MOST} can't be",
+    "NO CARD": "no card",
+    "72": "the disk has no room",
+    "52": "an item's number can't be so large",
+}
 
 
 def movement_of(time, request, reply):
@@ -15,6 +22,39 @@ def movement_of(time, request, reply):
     till, number, kind, item, quantity, *to = request.split(",")
     whole = (int(till), int(number), kind, int(item), int(quantity), int(to[0]) if to else None)
     return Movement(time, *whole, journal.answer_of(reply))
+
+
+def wish_words(one, name):
+    """A wish in words, as the pages have them. `name` gives the name of an item."""
+    if one.kind == "R" and one.quantity == 0:
+        return f"Look at {name(one.item)}"
+    return {
+        "R": f"Receive {one.quantity} of {name(one.item)}",
+        "I": f"Sell {one.quantity} of {name(one.item)}",
+        "S": f"Set {name(one.item)} to {one.quantity}",
+        "M": f"Move {one.quantity} from {name(one.item)} to {name(one.to)}",
+    }[one.kind]
+
+
+def refusal_words(one, name):
+    """Why nothing was done, as the pages have it."""
+    word, _, count = one.answer.partition(",")
+    goods = "one of these goods" if one.kind == "M" else name(one.item)
+    return "Nothing was done: " + {
+        "NO CARD": f"{goods} has no card. Set it first.",
+        "SHORT": f"only {count} of {name(one.item)} are there.",
+        "OVER": f"{count} of {name(one.to or one.item)} are there, and more than {MOST} can't be.",
+        "72": f"the disk has no room for item {one.item}.",
+        "52": "an item's number can't be so large.",
+    }[word]
+
+
+def words_of(one, name):
+    """A request and its answer in a line of words, as the stock page has them."""
+    counts = left(one)
+    if not counts:
+        return f"{wish_words(one, name)}. {refusal_words(one, name)}"
+    return f"{wish_words(one, name)}: {' and '.join(map(str, counts.values()))} left"
 
 
 def left(movement):

@@ -14,6 +14,8 @@ from ledger_shop.wishes import request_of, say
 # exit statuses of a bridge, after sysexits.h
 DEVICE, AGAIN, NO_SHOP = 74, 75, 78
 MOST = 64
+# seconds for which `show` is asked again while another command has the image
+PATIENCE = 1.0
 # the reply to a message that is no request
 SYNTAX = b"30,SYNTAX ERROR,00,00"
 # the key of that reply, the till that no message is from, and the seconds between two reports of refused messages
@@ -186,10 +188,15 @@ class Serve:
 
     def show(self):
         """The lines that `show` prints beside `serve`: the shop with all that it has answered."""
-        told = subprocess.run([self.command[0], "show", self.command[2]], capture_output=True, text=True)
-        if told.returncode != 0:
-            raise Gone(told.returncode, told.stderr.strip())
-        return told.stdout.splitlines()
+        end = time.monotonic() + PATIENCE
+        while True:
+            told = subprocess.run([self.command[0], "show", self.command[2]], capture_output=True, text=True)
+            if told.returncode == 0:
+                return told.stdout.splitlines()
+            gone = Gone(told.returncode, told.stderr.strip())
+            if not gone.in_use() or time.monotonic() > end:
+                raise gone
+            time.sleep(0.05)
 
     def shown(self):
         """Each till's last request and its answer, as `show` prints them."""

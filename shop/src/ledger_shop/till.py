@@ -13,7 +13,7 @@ from ledger_shop import account, wishes
 try:
     import pika
     from pika.adapters.utils.connection_workflow import AMQPConnectorException
-    from pika.exceptions import AMQPError, ChannelClosedByBroker, ProbableAuthenticationError
+    from pika.exceptions import AMQPError, ChannelClosedByBroker, NackError, ProbableAuthenticationError
 
     # what pika raises if a broker isn't there, or is slow to answer
     FAULTS = (AMQPError, AMQPConnectorException, OSError)
@@ -55,6 +55,8 @@ class Broker(wishes.Carrier):
         self.channel.queue_declare(mine, exclusive=True, arguments={"x-max-length": MOST})
         self.channel.queue_bind(mine, self.replies, self.key)
         self.channel.basic_consume(mine, self.on_reply, auto_ack=True)
+        # a full queue says so, and the ask is sent again at once
+        self.channel.confirm_delivery()
 
     def on_reply(self, _channel, _method, _properties, reply):
         self.heard.append(reply.decode("ascii", "replace"))
@@ -64,6 +66,8 @@ class Broker(wishes.Carrier):
             if not self.connection:
                 self.connect()
             self.channel.basic_publish(self.asks, self.key, text.encode(), pika.BasicProperties(delivery_mode=2))
+        except NackError as full:
+            raise wishes.Full from full
         except FAULTS as fault:
             self.lost(fault)
 

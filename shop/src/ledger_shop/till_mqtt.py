@@ -130,6 +130,10 @@ class Broker(wishes.Carrier):
     def free(self):
         if self.numbers and self.numbers.is_here:
             self.client.publish(self.marks, self.numbers.mark, qos=1, retain=True).wait_for_publish(1)
+            self.numbers.taken = {}
+
+    def shop_number(self, last):
+        return self.numbers.below(last) if self.numbers else None
 
     def take(self, text):
         """Takes the number of this ask for this device, before it is asked."""

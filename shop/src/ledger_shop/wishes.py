@@ -32,8 +32,10 @@ ANSWER = {kind: re.compile(form, re.ASCII) for kind, form in ANSWERS.items()}
 REFUSALS = ("NO TILL", "CLASH", "STALE", "AHEAD")
 # seconds until a wish is asked again: at first, and at most; and until the till says what it waits for
 FIRST, LONGEST, PATIENCE = 2.0, 8.0, 4.0
-# the exit status of a till that a keeper has to look at
-LOOK = 4
+# and seconds until an ask is sent again for which a broker had no room
+SOON = 0.02
+# the exit statuses of a till that a keeper has to look at, and of one that did all wishes of a file and had one refused
+LOOK, REFUSED = 4, 3
 
 
 class Refused(Exception):
@@ -50,6 +52,10 @@ class Taken(Exception):
 
 class Away(Exception):
     """What carries the messages isn't there."""
+
+
+class Full(Exception):
+    """The broker has no room for the message now: others ask too much."""
 
 
 def say(text):
@@ -96,7 +102,7 @@ class Book:
     `= NUMBER,lost`. Its lock keeps away a second till. Raises Unfit, and leaves the file as it is, if it isn't a book, if
     its last line is damaged, or if another till has it."""
 
-    LINE = re.compile(f"([?=]) ({COUNT}),(.*)", re.ASCII)
+    LINE = re.compile(f"([?=]) ({NUMBER}),(.*)", re.ASCII)
     # what a line can have that broke off: no line is longer, or has other characters
     LONGEST, BROKEN = 80, re.compile(rb"(?:[?=] ?[0-9A-Z, ]*)?\0*")
 
@@ -138,8 +144,10 @@ class Book:
         if not found:
             return None
         mark, number, text = found[1], int(found[2]), found[3]
-        answers = any(form.fullmatch(text) for form in ANSWER.values()) or text == "lost"
-        return (mark, number, text) if (answers if mark == "=" else is_wish(text)) else None
+        if text == "lost" and mark == "=":
+            return mark, number, text
+        is_right = any(form.fullmatch(text) for form in ANSWER.values()) if mark == "=" else is_wish(text)
+        return (mark, number, text) if number and is_right else None
 
     def damaged(self, number, line):
         told = f"{self.path}, line {number}, is damaged or doesn't follow the line before: {line[:60]!r}."
@@ -156,7 +164,7 @@ class Till:
     """The till of this number, 1 to 64, with what its book says, or without a book from its first request on."""
 
     def __init__(self, till, book=None):
-        self.till, self.book = till, book
+        self.till, self.book, self.refused = till, book, 0
         self.last, self.open = (book.last, book.open) if book else (0, None)
 
     def note(self, line):
@@ -209,6 +217,10 @@ def answer_to(till, link):
                 if answer:
                     return answer
                 told = complain(till, link, began, told)
+        except Full:
+            told = complain(till, link, began, told)
+            time.sleep(SOON)
+            continue
         except Away:
             told = complain(till, link, began, told)
             time.sleep(min(wait, 1))
@@ -242,6 +254,10 @@ class Carrier:
 
     def free(self):
         """Forgets the numbers that devices took: the shop never had them."""
+
+    def shop_number(self, last):
+        """The shop's last number of this till, after it has said that the one after `last` is ahead; None if it isn't known."""
+        return None
 
 
 class Pipe(Carrier):
@@ -331,12 +347,12 @@ def words(description):
     return account.words(parser)
 
 
-def goes_on(given, till, taken):
+def goes_on(given, till, taken, counts="may or may not count"):
     """Goes on after the last number that another device used, if a person says so: by --go-on, or on a terminal. A file of
     wishes has a line for each number, so its till never does."""
     if taken.number is None or given.wishes != "-" or not (getattr(given, "go_on", False) or confirmed(f"{taken}. Go on here?")):
         return False
-    dropped = f"; the open wish {till.open} may or may not count" if till.open else ""
+    dropped = f"; the open wish {till.open} {counts}" if till.open else ""
     say(f"till {till.till} goes on after request {taken.number}{dropped}")
     till.go_on(taken.number)
     return True
@@ -366,16 +382,27 @@ def do(given, till, link):
     """Does the open wish, and prints number, wish and answer. It never gets another number: it may have been asked."""
     try:
         number, wish = till.last + 1, till.open
-        print(number, wish, answer_to(till, link), flush=True)
+        answer = answer_to(till, link)
+        print(number, wish, answer, flush=True)
+        till.refused += not answer.startswith("DONE,")
     except Taken as taken:
         if not goes_on(given, till, taken):
+            raise
+    except Refused as refused:
+        if not str(refused).endswith(",AHEAD"):
+            raise
+        # a device that was lost took a number and didn't ask with it, or the shop is older
+        link.free()
+        number = link.shop_number(till.last)
+        last = Taken(f"the shop's last request of till {till.till} is {number}", number)
+        if not goes_on(given, till, last, "didn't count"):
             raise
 
 
 def run(given, connect):
     """Does wish after wish, each a line `R,42,5` or `M,42,5,43`, and prints number, wish and answer of each. `connect`
     makes what carries its messages, unless that is a pipe. Status 1: a line of the file, or of a standard input that is
-    no terminal, is no wish. 4: a keeper has to look."""
+    no terminal, is no wish. 3: nothing was done for a wish of a file, as its answer says. 4: a keeper has to look."""
     link = None
     try:
         till = Till(given.till, Book(given.book))
@@ -386,14 +413,16 @@ def run(given, connect):
         for wish in wishes:
             take(given, till, link, wish)
             do(given, till, link)
+        if given.wishes != "-" and till.refused:
+            say(f"till {given.till}: nothing was done for {till.refused} of these wishes, as their answers say")
+            sys.exit(REFUSED)
         sys.exit(1 if wishes.wrong else 0)
     except Taken as taken:
         say(f"{taken}: with --go-on it goes on here" if taken.number else f"{taken}: start this one again to go on here")
         sys.exit(LOOK)
     except Refused as refused:
-        if str(refused).endswith(",AHEAD"):
-            link.free()
-        say(f"{refused}: another till has this number, or the shop isn't the one asked before")
+        cure = "; over MQTT --go-on takes the shop's number" if str(refused).endswith(",AHEAD") else ""
+        say(f"{refused}: another till has this number, or the shop isn't the one asked before{cure}")
         sys.exit(LOOK)
     except (Unfit, OSError) as fault:
         say(f"till {given.till}: {fault}")
