@@ -7,7 +7,7 @@
 # the net is cut. With 0 requests it ends before that. It wants to be root, for network namespaces, and Debian's packages
 # nodejs, chromium, chromium-driver, python3-selenium, mosquitto, python3-paho-mqtt, python3-pika, python3-prometheus-client,
 # python3-sdnotify, python3-pil, openssl, iproute2, esbuild, node-mqtt, node-buffer, node-process, node-url, node-readable-stream, qrencode,
-# zbar-tools, curl and libnss3-tools, and installs nothing. tests/quick_start.sh goes through the quick start. The status is 1
+# zbar-tools, curl, libnss3-tools, nginx-light and firefox-esr, and installs nothing. tests/quick_start.sh goes through the quick start. The status is 1
 # at the first difference.
 set -eu
 top="$(CDPATH= cd -- "$(dirname -- "$0")/.." && pwd)"
@@ -28,6 +28,10 @@ echo "pages: $(echo "$told" | sed -n 's/^# pass //p') tests of the pages' own ru
 /usr/bin/python3 "$top/tests/shop_keeping.py" "$program"
 set -- ${3:+--pictures "$3"}
 /usr/bin/python3 "$top/tests/certificates.py"
+for browser in chromium firefox; do
+    /usr/bin/python3 "$top/tests/sign_in.py" "$program" --browser "$browser"
+    for width in 390 1280; do /usr/bin/python3 "$top/tests/shop_counter.py" "$program" --browser "$browser" --width "$width"; done
+done
 /usr/bin/python3 "$top/tests/tablets.py" "$program"
 /usr/bin/python3 "$top/tests/shop_pages.py" "$program" "$@"
 [ "$requests" = 0 ] || /usr/bin/python3 "$top/tests/shop.py" "$program" --requests "$requests" "$@"

@@ -36,6 +36,8 @@ def missing():
         "zbar-tools": "/usr/bin/zbarimg",
         "curl": "/usr/bin/curl",
         "libnss3-tools": "/usr/bin/certutil",
+        "nginx-light": "/usr/sbin/nginx",
+        "firefox-esr": "/usr/bin/firefox-esr",
     }
     return [package for package, path in files.items() if not os.path.exists(path)]
 

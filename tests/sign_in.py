@@ -27,12 +27,24 @@ import shop_scene as scene
 from served import want
 from shop_paths import command
 from shop_scene import TillPage, until
-from tablets import read_code
 from web_server import Web
 
 from ledger_shop import sign_in
 
 GOODS = "item,name,unit,least\n1,Mug,piece,6\n"
+
+
+def read_code(printed, path):
+    """What zbar reads of a code that is printed with half blocks, bright on dark."""
+    from PIL import Image
+
+    halves = {" ": (0, 0), "▄": (0, 1), "▀": (1, 0), "█": (1, 1)}
+    rows = [[halves[one][half] for one in line] for line in printed.splitlines() if line for half in (0, 1)]
+    width = max(map(len, rows))
+    image = Image.new("L", (width, len(rows)), 255)
+    image.putdata([255 * one for row in rows for one in row + [1] * (width - len(row))])
+    image.resize((8 * width, 8 * len(rows)), Image.NEAREST).save(path)
+    return subprocess.run(["zbarimg", "--quiet", "--raw", path], capture_output=True, text=True, check=True).stdout.strip()
 
 
 class Trial:
