@@ -106,11 +106,14 @@ class Firefox:
         quiet = {"stdin": subprocess.DEVNULL, "stdout": subprocess.DEVNULL, "stderr": subprocess.DEVNULL}
         environment = {**os.environ, "HOME": str(self.folder), "MOZ_DISABLE_CONTENT_SANDBOX": "1"}
         self.process = subprocess.Popen(words, env=environment, start_new_session=True, **quiet)
-        self.link, self.number, self.switch_to = self.connected(port), 0, SwitchTo(self)
-        self.heard = b""
-        self.message()
-        self.ask("WebDriver:NewSession", capabilities={"alwaysMatch": {"acceptInsecureCerts": True}})
-        self.size(*size)
+        try:
+            self.link, self.number, self.switch_to, self.heard = self.connected(port), 0, SwitchTo(self), b""
+            self.message()
+            self.ask("WebDriver:NewSession", capabilities={"alwaysMatch": {"acceptInsecureCerts": True}})
+            self.size(*size)
+        except BaseException:
+            self.kill()
+            raise
 
     def trust(self, authority):
         """What a person does in the settings (Debian's package libnss3-tools)."""
@@ -120,10 +123,10 @@ class Firefox:
         subprocess.run(["certutil", "-A", "-n", "shop", "-t", "C,,", "-i", authority, *database], check=True)
 
     def connected(self, port):
-        end = time.monotonic() + 60
+        end = time.monotonic() + 240
         while True:
             try:
-                return socket.create_connection(("127.0.0.1", port), 120)
+                return socket.create_connection(("127.0.0.1", port), 300)
             except OSError:
                 if time.monotonic() > end or self.process.poll() is not None:
                     raise
@@ -226,6 +229,14 @@ class Firefox:
         try:
             self.process.wait(20)
         except subprocess.TimeoutExpired:
-            os.killpg(self.process.pid, signal.SIGKILL)
-            self.process.wait()
+            pass
+        self.kill()
         self.link.close()
+
+    def kill(self):
+        """Ends what is left of the browser."""
+        try:
+            os.killpg(self.process.pid, signal.SIGKILL)
+        except ProcessLookupError:
+            pass
+        self.process.wait()

@@ -54,7 +54,8 @@ class Scene:
         self.web.start()
         words = command("till-mqtt", 1, "--book", folder / "till1.book", *self.broker.words("till-1-1"))
         subprocess.run([*map(str, words)], input=FIRST, text=True, check=True, capture_output=True)
-        self.driver = scene.browser(folder / "browser", (1300, 900), self.broker.ca)
+        self.driver = scene.browser(folder / "browser", (1300, 1000), self.broker.ca)
+        self.driver.execute_cdp_cmd("Emulation.setScrollbarsHidden", {"hidden": True})
 
     def open_bridge(self):
         words = scene.bridge_words(self.given.program, self.image, self.folder / "shop1.lines", self.broker, "--screen")
@@ -68,7 +69,7 @@ class Scene:
             self.driver.execute_cdp_cmd("Emulation.setDeviceMetricsOverride", metrics)
             for look in looks:
                 self.driver.execute_cdp_cmd("Emulation.setEmulatedMedia", {"features": LOOKS[look]})
-                time.sleep(0.5)
+                time.sleep(1)
                 self.driver.save_screenshot(str(self.given.folder / "_".join(filter(None, (name, str(width), look)))) + ".png")
                 self.count += 1
         self.driver.execute_cdp_cmd("Emulation.setEmulatedMedia", {"features": []})

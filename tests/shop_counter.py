@@ -1,7 +1,7 @@
 #!/usr/bin/python3
 """A till's page at the counter, as a cashier uses it and as it goes wrong; `tests/shop.sh` runs it:
 
-    tests/shop_counter.py PROGRAM [--browser chromium|firefox] [--width N] [--pages FOLDER] [--only WORDS]
+    tests/shop_counter.py PROGRAM [--browser chromium|firefox] [--over mosquitto|rabbit] [--width N] [--pages FOLDER] [--only WORDS]
 
 Each check is one example: the form after each kind of answer, a count that is set by mistake, taps that follow each other at once,
 two devices with one number, a number that a lost device took, wishes while the net is away, and what is typed wrong. Whatever one
@@ -26,7 +26,8 @@ from web_server import Web
 
 from ledger_shop import journal
 
-PATIENCE = 8
+# seconds; a browser on a busy machine takes its time
+PATIENCE = 30
 GOODS = "item,name,unit,least\n" + "".join(f"{item},Thing no {item},piece,5\n" for item in range(1, 200))
 RESTS = (0.0, 0.1, 0.2, 0.4, 0.6, 0.8)
 TAPS = (0.05, 0.15, 0.3, 0.6, 0.9, 1.3)
@@ -53,7 +54,12 @@ class Trial:
     def __init__(self, given, folder):
         self.given, self.folder, self.till, self.drivers = given, folder, 0, {}
         self.passed, self.failed = [], []
-        self.broker = scene.Broker(folder, shops={scene.SHOP: 64})
+        if given.over == "rabbit":
+            from rabbit_pages import RabbitPages
+
+            self.broker = RabbitPages(folder, shops={scene.SHOP: 64})
+        else:
+            self.broker = scene.Broker(folder, shops={scene.SHOP: 64})
         self.broker.start()
         self.image, self.kept = scene.shop_image(given.program, folder / "shop1.d64", 64), folder / "shop1.lines"
         self.bridge = None
@@ -62,7 +68,7 @@ class Trial:
             self.pages = scene.Pages(folder, self.broker, GOODS, given.pages)
         else:
             scene.lay_pages(folder / "www", None, GOODS)
-            self.pages = Web(folder, folder / "www", self.broker.pages)
+            self.pages = Web(folder, folder / "www", getattr(self.broker, "way", self.broker.pages))
             self.pages.open()
 
     # the shop
@@ -130,18 +136,18 @@ class Trial:
         page = TillPage(self.driver(name), self.pages, till)
         page.driver.get("about:blank")
         page.open()
-        shown = until(lambda: [one for one in ("leave", "password") if page.at(one).is_displayed()], "the page", 20)
+        shown = until(lambda: [one for one in ("leave", "password") if page.at(one).is_displayed()], "the page", 60)
         if shown == ["leave"]:
             page.at("leave").click()
         page.sign_in(self.broker.password(f"till-1-{till}"))
-        until(lambda: not page.at("sign").is_displayed(), f"{name} signed in", 20)
+        until(lambda: not page.at("sign").is_displayed(), f"{name} signed in", 60)
         return page
 
     def fresh(self, name="first"):
         """A till that nobody has used yet, on a tablet, and goods of its own."""
         self.till += 1
         page = self.tablet(self.till, name)
-        page.ready(20)
+        page.ready(60)
         return page, 100 + self.till
 
     def kind(self, page):
@@ -256,7 +262,7 @@ class Trial:
             page.at("no").click()
         finally:
             self.open_bridge()
-        page.ready(20)
+        page.ready(60)
         want(self.last(self.till) == 1, "the count was set")
 
     def escape_is_no(self):
@@ -379,7 +385,7 @@ class Trial:
         self.stopped(other, "request 1)")
         want(not other.at("number").is_displayed(), "a number is asked for")
         self.go(other)
-        other.ready(20)
+        other.ready(60)
         want(self.act(other, "I", item, 1) == "DONE,99" and other.answers()[0][0] == 2, f"{other.answers()}")
 
     def number_that_is_wrong(self):
@@ -390,7 +396,7 @@ class Trial:
         self.stopped(other, "request 1)")
         other.driver.execute_script("document.getElementById('number').value = '1010'")
         self.go(other)
-        other.ready(20)
+        other.ready(60)
         other.fill("I", item, 1)
         other.send()
         until(lambda: other.answers()[:1] == [(2, "DONE,99")] or other.at("stop").is_displayed(), "an answer", PATIENCE)
@@ -406,7 +412,7 @@ class Trial:
         self.stopped(page, "(request 2)")
         want("last request of it is 1" in page.at("stop").text, f"the shop's number isn't shown: {page.at('stop').text}")
         self.go(page)
-        page.ready(20)
+        page.ready(60)
         page.fill("I", 100 + self.till, 1)
         page.send()
         until(lambda: page.answers() or page.at("stop").is_displayed(), "an answer", PATIENCE)
@@ -431,7 +437,7 @@ class Trial:
     def queued(self, page, item, wishes, is_loaded=False):
         """Enters wishes while the net is away; they wait in their order, under their numbers."""
         last = page.answers()[0][0] if page.answers() else 0
-        until(lambda: "No connection" in page.state() or "offline" in page.state(), "the net away", 20)
+        until(lambda: "No connection" in page.state() or "offline" in page.state(), "the net away", 60)
         for kind, quantity in wishes:
             self.quick(page, item, quantity, kind)
         numbers = list(range(last + 1, last + 1 + len(wishes)))
@@ -439,7 +445,7 @@ class Trial:
         want(f"Waiting ({len(wishes)})" in page.at("waits").text, page.at("waits").text)
         if is_loaded:
             page.driver.refresh()
-            until(lambda: self.waiting(page) == numbers, "what waits, after a reload", 20)
+            until(lambda: self.waiting(page) == numbers, "what waits, after a reload", 60)
         return numbers
 
     def queue_while_away(self):
@@ -466,11 +472,11 @@ class Trial:
             until(lambda: page.at("unseen").is_displayed(), "a word to the SHORT", PATIENCE)
             want("only 7" in page.at("unseen").text, page.at("unseen").text)
             page.driver.refresh()
-            page.ready(20)
+            page.ready(60)
         page.driver.find_element("css selector", "#unseen button").click()
         until(lambda: not page.at("unseen").is_displayed(), "nothing unseen", PATIENCE)
         page.driver.refresh()
-        page.ready(20)
+        page.ready(60)
         want(not page.at("unseen").is_displayed(), "what was seen comes again")
 
     def queue_and_second_tab(self):
@@ -483,7 +489,7 @@ class Trial:
             self.queued(page, item, [("I", 1), ("I", 1)])
             page.driver.switch_to.new_window("tab")
             page.open()
-            until(lambda: "open in another tab" in page.at("stop").text, "a word in the second tab", 20)
+            until(lambda: "open in another tab" in page.at("stop").text, "a word in the second tab", 60)
             want(not page.at("work").is_displayed(), "the second tab can ask")
         finally:
             self.net(True)
@@ -504,7 +510,7 @@ class Trial:
             other = self.tablet(self.till, "second")
             self.stopped(other, f"request {number})")
             self.go(other)
-            other.ready(20)
+            other.ready(60)
             left = self.act(other, "I", item, 1)
             want(other.answers()[0][0] == number + 1, f"{other.answers()} {left}")
             self.hidden(page, False)
@@ -512,7 +518,7 @@ class Trial:
             text = page.at("stop").text
             want(f"request {number + 1})" in text and "Sell 10" in text and "Sell 20" in text, text)
             self.go(page, button)
-            page.ready(20)
+            page.ready(60)
             if button == "go":
                 until(lambda: page.answers()[0][0] == 4, "the answers", PATIENCE)
                 want([one for one, _ in page.answers()] == [4, 3, 1], f"{page.answers()}")
@@ -564,7 +570,7 @@ class Trial:
         other = self.tablet(self.till, "second")
         self.stopped(other, "request 1)")
         self.go(other)
-        other.ready(20)
+        other.ready(60)
         want(self.act(other, "I", item, 1) == "DONE,99", f"{other.answers()}")
 
     def sign_out_while_waiting(self):
@@ -578,12 +584,12 @@ class Trial:
             until(lambda: self.asks(page), "a question", PATIENCE)
             want("1 request" in page.at("sure").text, page.at("sure").text)
             page.at("yes").click()
-            until(lambda: page.at("password").is_displayed(), "the form", 20)
+            until(lambda: page.at("password").is_displayed(), "the form", 60)
         finally:
             self.net(True)
         self.tend()
         page = self.tablet(self.till)
-        until(lambda: self.tend() or page.answers()[:1] == [(2, "DONE,90")], "the answer", 20)
+        until(lambda: self.tend() or page.answers()[:1] == [(2, "DONE,90")], "the answer", 60)
 
     def fits_the_width(self):
         """Nothing is wider than the page: signed in, with what waits, with what is unseen, and with a question."""
@@ -645,6 +651,7 @@ def main():
     parser = argparse.ArgumentParser(description=__doc__.splitlines()[0])
     parser.add_argument("program")
     parser.add_argument("--browser", choices=("chromium", "firefox"), default="chromium")
+    parser.add_argument("--over", choices=("mosquitto", "rabbit"), default="mosquitto", help="the broker")
     parser.add_argument("--width", type=int, default=1280, help="of the page, in pixels")
     parser.add_argument("--pages", type=Path, metavar="FOLDER", help="other pages")
     parser.add_argument("--only", nargs="+", metavar="WORD", help="the checks whose name has one of these words")
@@ -657,7 +664,7 @@ def main():
             trial.run()
         finally:
             trial.close()
-    print(f"shop_counter over {given.browser}, {given.width} wide: {len(trial.passed)} passed, {len(trial.failed)} failed")
+    print(f"shop_counter over {given.over} in {given.browser}, {given.width} wide: {len(trial.passed)} passed, {len(trial.failed)} failed")
     sys.exit(1 if trial.failed else 0)
 
 

@@ -100,16 +100,16 @@ class Trial:
 
     def ready(self, driver, till):
         page = TillPage(driver, self.web, till)
-        until(lambda: page.at("leave").is_displayed(), f"till {till} signed in", 20)
-        page.ready(20)
+        until(lambda: page.at("leave").is_displayed(), f"till {till} signed in", 60)
+        page.ready(60)
         return page
 
     def leave(self, driver):
         page = TillPage(driver, self.web, 0)
-        shown = until(lambda: [one for one in ("leave", "code") if page.at(one).is_displayed()], "the page", 20)
+        shown = until(lambda: [one for one in ("leave", "code") if page.at(one).is_displayed()], "the page", 60)
         if shown == ["leave"]:
             page.at("leave").click()
-        until(lambda: page.at("code").is_displayed(), "the form", 20)
+        until(lambda: page.at("code").is_displayed(), "the form", 60)
 
     # the code
 
@@ -128,7 +128,7 @@ class Trial:
         # the same tab: its address alone changes
         driver.get(text)
         page = TillPage(driver, self.web, 3)
-        until(lambda: "was used" in page.at("code-fault").text, "a word to a used code", 20)
+        until(lambda: "was used" in page.at("code-fault").text, "a word to a used code", 60)
         want(page.at("password").is_displayed(), "the form isn't there")
 
     def typed(self):
@@ -205,7 +205,7 @@ class Trial:
             page = TillPage(driver, self.web, 8)
             page.at("code").send_keys("K7QF-2M9X-4TBC")
             driver.find_element("css selector", "#by-code button").click()
-            until(lambda: "takes no codes" in page.at("code-fault").text, "a word", 20)
+            until(lambda: "takes no codes" in page.at("code-fault").text, "a word", 60)
             driver.get("about:blank")
             page.sign_in(self.broker.password("till-1-8"))
             self.ready(driver, 8)
@@ -228,7 +228,7 @@ class Trial:
         driver.get("about:blank")
         driver.get(self.web.url("till_page", f"#code={code}"))
         page = TillPage(driver, self.web, 1)
-        until(lambda: "another shop" in page.at("code-fault").text, "a word", 20)
+        until(lambda: "another shop" in page.at("code-fault").text, "a word", 60)
 
     def password_in_an_address(self):
         """An address with a password, as an earlier version's code had it, signs nobody in."""
@@ -236,7 +236,7 @@ class Trial:
         driver.get("about:blank")
         driver.get(self.web.url("till_page", f"#till=9&password={self.broker.password('till-1-9')}"))
         page = TillPage(driver, self.web, 9)
-        until(lambda: page.at("password").is_displayed() and page.state() == "Not signed in", "the form", 20)
+        until(lambda: page.at("password").is_displayed() and page.state() == "Not signed in", "the form", 60)
         want(page.at("password").get_attribute("value") == "", "the page takes the password of an address")
 
     def silent_clients(self):
@@ -285,7 +285,7 @@ class Trial:
         wanted = subprocess.run(words, capture_output=True, text=True, check=True).stdout.strip().partition("=")[2]
         driver = self.driver("first")
         driver.get(self.web.url("till_page", "trust.html"))
-        until(lambda: driver.execute_script("return document.querySelector('#print').textContent.trim()") == wanted, "the fingerprint", 20)
+        until(lambda: driver.execute_script("return document.querySelector('#print').textContent.trim()") == wanted, "the fingerprint", 60)
         steps = driver.execute_script("return [...document.querySelectorAll('.steps > li')].map((e) => e.querySelectorAll('svg').length)")
         want(steps == [1, 1, 1], f"the steps have {steps} pictures")
         want(driver.find_element("css selector", "#plain").text == "http://localhost/ca.crt", "the place of ca.crt")
@@ -332,7 +332,7 @@ def main():
             trial.run()
         finally:
             trial.close()
-    print(f"sign_in over {given.browser}, {given.width} wide: {len(trial.passed)} passed, {len(trial.failed)} failed")
+    print(f"sign_in in {given.browser}, {given.width} wide: {len(trial.passed)} passed, {len(trial.failed)} failed")
     sys.exit(1 if trial.failed else 0)
 
 

@@ -11,9 +11,10 @@ NGINX = "/usr/sbin/nginx"
 
 
 class Web:
-    """Serves a folder of pages. `mqtt` is the port of the broker's listener for pages, `codes` that of `ledger-shop sign-in`."""
+    """Serves a folder of pages. `mqtt` is the port of the broker's listener for pages, or the whole way there, `codes` the port of
+    `ledger-shop sign-in`."""
 
-    def __init__(self, folder: Path, root: Path, mqtt: int, codes: int = 9):
+    def __init__(self, folder: Path, root: Path, mqtt: int | str, codes: int = 9):
         self.folder, self.root, self.child = folder, root, None
         self.port, self.plain = brokers.free_ports(2)
         text = (DEPLOY / "nginx.conf").read_text()
@@ -24,7 +25,7 @@ class Web:
             r"/etc/ledger/pages\.crt": str(folder / "broker.crt"),
             r"/etc/ledger/pages\.key": str(folder / "broker.key"),
             r"root /var/www/ledger": f"root {root}",
-            r"127\.0\.0\.1:8884": f"127.0.0.1:{mqtt}",
+            r"https://127\.0\.0\.1:8884": mqtt if isinstance(mqtt, str) else f"https://127.0.0.1:{mqtt}",
             r"127\.0\.0\.1:9640": f"127.0.0.1:{codes}",
         }
         for form, chosen in changes.items():
