@@ -115,7 +115,8 @@ class Bridge:
                     self.idle()
                     continue
                 asks = self.delivered(channel, messages, (method, message))
-                for reply in self.replies_to(asks, connection.sleep):
+                # a reply goes out once, however often it was asked for meanwhile: a flood of one message costs one reply
+                for reply in dict.fromkeys(self.replies_to(asks, connection.sleep)):
                     out.basic_publish(replies, service.key_of(reply), reply)
                 # the broker has all these replies, before it forgets any of the messages
                 out.tx_commit()
