@@ -130,7 +130,7 @@ restart() {
 
 if [ "$host" = --update ]; then
     put_programs
-    put_accounts
+    [ ! -d "$own/accounts" ] || put_accounts
     put_pages
     restart
     echo "set_up: programs, units and pages are of this version, and the bridges are started again"
