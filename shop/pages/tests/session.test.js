@@ -126,6 +126,14 @@ test(`in ${WORLDS} worlds each request counts once, and each answer is one devic
   console.log(`${WORLDS} worlds: ${counted} requests counted, ${doubtful} doubtful, ${dropped} dropped by a person`);
 });
 
+test("a store that fails stops the till, and the request isn't asked", async () => {
+  const { world, device } = await lone(1);
+  device.session.store = () => Promise.reject(new Error("no room"));
+  const kept = device.session.enter("I,1,1");
+  await world.clock.until(70_000);
+  assert.deepEqual([await kept, device.session.halt.kind, world.shop.requests.length, device.disk.last], [false, "store", 1, 1]);
+});
+
 test("how many of an item the shop has", () => {
   assert.deepEqual([countIn("15,9\n16,4", 15), countIn("15,9\n16,4", 16), countIn("15,9\n16,4", 5), countIn("", 5)], [9, 4, null, null]);
 });

@@ -192,7 +192,9 @@ class Page {
     }
     this.tapped = performance.now();
     this.form.clear(kind);
-    this.session.enter(wish);
+    this.session.enter(wish).then((isKept) => {
+      if (!isKept) at("stop-text").append(` It wasn't kept: ${rules.wishWords(wish, this.name)}.`);
+    });
   }
 
   /** Shows an answer, above the earlier ones. */
