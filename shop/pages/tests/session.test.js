@@ -126,6 +126,20 @@ test(`in ${WORLDS} worlds each request counts once, and each answer is one devic
   console.log(`${WORLDS} worlds: ${counted} requests counted, ${doubtful} doubtful, ${dropped} dropped by a person`);
 });
 
+test("a reply that a broker keeps is nobody's", async () => {
+  const { world, device } = await lone(1);
+  world.broker.serve(false);
+  device.enter();
+  await world.clock.until(70_000);
+  world.broker.retained.set("replies/7", "7,2,DONE,777");
+  device.open();
+  await world.clock.until(80_000);
+  assert.deepEqual([device.answers.length, queue.waiting(device.disk).length], [1, 1]);
+  world.broker.serve(true);
+  await world.clock.until(90_000);
+  assert.deepEqual(device.answers.map((one) => one.answer), ["DONE,999999", "DONE,999998"]);
+});
+
 test("a store that fails stops the till, and the request isn't asked", async () => {
   const { world, device } = await lone(1);
   device.session.store = () => Promise.reject(new Error("no room"));
