@@ -134,6 +134,9 @@ test("a reply that a broker keeps is nobody's", async () => {
   world.broker.retained.set("replies/7", "7,2,DONE,777");
   device.open();
   await world.clock.until(80_000);
+  // a broker may hand it over again, once the device has the till
+  device.session.message("shops/1/replies/7", "7,2,DONE,777", true);
+  await world.clock.until(81_000);
   assert.deepEqual([device.answers.length, queue.waiting(device.disk).length], [1, 1]);
   world.broker.serve(true);
   await world.clock.until(90_000);
