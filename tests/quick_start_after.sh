@@ -25,9 +25,28 @@ grep -qi '^content-type: text/javascript; charset=utf-8' /shop/heads
 grep -qi '^x-frame-options: deny' /shop/heads
 [ "$(get https://localhost/till_page/mqtt.js | wc -c)" -gt 100000 ]
 ! get https://localhost/accounts/till-1-1.account
-get -i --http1.1 --max-time 3 -H 'Connection: Upgrade' -H 'Upgrade: websocket' -H 'Sec-WebSocket-Version: 13' \
-    -H 'Sec-WebSocket-Key: dGhlIHNhbXBsZSBub25jZQ==' -H 'Sec-WebSocket-Protocol: mqtt' https://localhost:8884/ >/shop/upgrade || true
-head -n 1 /shop/upgrade | grep -q ' 101 '
+for place in https://localhost/mqtt https://localhost:8884/; do
+    get -i --http1.1 --max-time 3 -H 'Connection: Upgrade' -H 'Upgrade: websocket' -H 'Sec-WebSocket-Version: 13' \
+        -H 'Sec-WebSocket-Key: dGhlIHNhbXBsZSBub25jZQ==' -H 'Sec-WebSocket-Protocol: mqtt' "$place" >/shop/upgrade || true
+    head -n 1 /shop/upgrade | grep -q ' 101 '
+done
+get https://localhost/till/rules.js | cmp - /var/www/ledger/till_page/rules.js
+
+# port 80 has the authority, and nothing else
+curl -sf http://localhost/ca.crt | cmp - "$own/ca.crt"
+for path in / /till_page/ /sign_in /nginx; do
+    [ "$(curl -s -o /dev/null -w '%{http_code} %{redirect_url}' "http://localhost$path")" = "301 https://localhost$path" ]
+done
+! curl -s http://localhost/ | grep -i 'welcome to nginx'
+
+# a code signs in once
+sign_in() { curl -s --cacert "$own/ca.crt" -w " %{http_code}" --data-binary "$1" https://localhost/sign_in; }
+ledger-shop accounts "$own/accounts" --qr till-1-3 --page https://localhost/till_page/ | tail -n 1 >/shop/code
+code=$(grep -o '[0-9A-Z]\{4\}-[0-9A-Z]\{4\}-[0-9A-Z]\{4\}' /shop/code)
+! grep -q "$(cut -d : -f 2 "$own/accounts/till-1-3.account")" /shop/code
+sign_in "$code" | grep -qF "\"password\": \"$(cut -d : -f 2 "$own/accounts/till-1-3.account")\"} 200"
+sign_in "$code" | grep -q ' 404$'
+[ "$(systemctl is-active ledger-sign-in)" = active ]
 [ "$(stat -c %a "$own/accounts/till-1-1.account" "$own/ca/ca.key" "$own/pages.key" | sort -u)" = 600 ]
 
 # a second run, for one till more, and one with a file that somebody changed

@@ -128,7 +128,7 @@ class Trial:
             heard[till].append((line.split(",", 2)[2], journal.answer_of(reply)))
         for till in self.tills:
             book, answers = till.store()
-            want(book == {"last": len(till.wishes), "open": None}, f"till {till.number}'s book is {book}")
+            want((book["last"], book["open"], book["more"]) == (len(till.wishes), None, []), f"till {till.number}'s book is {book}")
             asked = [(one["wish"], one["answer"]) for one in answers]
             want([one["number"] for one in answers] == list(range(1, len(till.wishes) + 1)), "an answer twice or not at all")
             want(asked == heard[till.number] and [wish for wish, _ in asked] == till.wishes, f"till {till.number} heard otherwise")

@@ -33,8 +33,7 @@ if [ "$host" = --update ] && [ ! -e "$own/installed" ]; then
 fi
 here=$(CDPATH= cd -- "$(dirname -- "$0")" && pwd -P)
 shop=${here%/deploy}
-till_page=$shop/../examples/till_page
-stock_page=$shop/../examples/stock_page
+pages=$shop/pages
 # where the package has all this already
 packed=/usr/share/ledger-1541/shop
 for file in /usr/bin/ledger /usr/bin/curl /usr/sbin/mosquitto /usr/sbin/nginx /usr/bin/openssl /usr/bin/esbuild; do
@@ -70,21 +69,43 @@ put_programs() {
     done
 }
 
+# put_accounts WORDS: adds accounts, and gives the broker what each of all may do in this version
+put_accounts() {
+    /usr/bin/ledger-shop accounts "$own/accounts" "$@"
+    install -m 640 -g mosquitto "$own/accounts/ledger.passwords" "$own/accounts/ledger.acl" /etc/mosquitto/
+}
+
+# Debian's page "Welcome to nginx!" at port 80 gives way, unless somebody changed it
+free_port() {
+    site=/etc/nginx/sites-enabled/default
+    [ -e "$site" ] || return 0
+    known=$(dpkg-query -W -f '${Conffiles}\n' nginx-common 2>/dev/null | sed -n 's|^ /etc/nginx/sites-available/default ||p' | cut -c 1-32)
+    if [ "$(readlink -f "$site")" = /etc/nginx/sites-available/default ] && [ "$(md5sum <"$site" | cut -c 1-32)" = "$known" ]; then
+        rm "$site"
+        echo "set_up: $site, Debian's page at port 80, gives way to one that has ca.crt; it stays in /etc/nginx/sites-available" >&2
+    else
+        echo "set_up: $site was changed and stays; let your site at port 80 give /var/www/ledger/ca.crt as /ca.crt" >&2
+    fi
+}
+
 # the brokers' and the web server's configuration, and the pages with the goods
 put_pages() {
     put root:root 644 "$here/mosquitto.conf" /etc/mosquitto/conf.d/ledger.conf
-    put root:root 644 "$till_page/mosquitto_pages.conf" /etc/mosquitto/conf.d/ledger_pages.conf
+    put root:root 644 "$here/mosquitto_pages.conf" /etc/mosquitto/conf.d/ledger_pages.conf
     printf 'BROKERS="--broker mqtts://localhost --ca %s/ca.crt"\nWATCH="--screen --metrics 9641 --backups /var/backups/ledger"\n' "$own" >"$own/new.env"
     put root:root 644 "$own/new.env" "$own/bridge-mqtt.env"
     rm -f "$own/new.env"
-    install -D -m 644 -t /var/www/ledger/till_page "$till_page"/*.html "$till_page"/*.css "$till_page"/*.js
-    install -D -m 644 -t /var/www/ledger/stock_page "$stock_page"/*.html "$stock_page"/*.css "$stock_page"/*.js
-    sh "$till_page/make_mqtt.sh" /var/www/ledger/till_page >/dev/null
+    install -D -m 644 -t /var/www/ledger/till_page "$pages"/till/*.html "$pages"/till/*.css "$pages"/till/*.js
+    install -D -m 644 -t /var/www/ledger/stock_page "$pages"/stock/*.html "$pages"/stock/*.css "$pages"/stock/*.js
+    # the stock page's name for the till's, from which it takes modules
+    ln -sfn till_page /var/www/ledger/till
+    sh "$pages/make_mqtt.sh" /var/www/ledger/till_page >/dev/null
     install -m 644 "$own/ca.crt" /var/www/ledger/ca.crt
     [ -e "$own/goods.csv" ] || install -m 644 "$here/goods.csv" "$own/goods.csv"
     /usr/bin/ledger-shop goods "$own/goods.csv"
     install -m 644 "$own/goods.csv" /var/www/ledger/till_page/goods.csv
-    put root:root 644 "$till_page/nginx.conf" /etc/nginx/conf.d/ledger_pages.conf
+    put root:root 644 "$here/nginx.conf" /etc/nginx/conf.d/ledger_pages.conf
+    free_port
 
     # a further shop has copies of them, as OPERATIONS.md makes them
     for other in /var/www/ledger/*/; do
@@ -92,6 +113,7 @@ put_pages() {
         for page in till_page stock_page; do
             install -m 644 -t "$other$page" /var/www/ledger/"$page"/*.html /var/www/ledger/"$page"/*.css /var/www/ledger/"$page"/*.js
         done
+        ln -sfn till_page "${other}till"
     done
 }
 
@@ -101,11 +123,14 @@ restart() {
     systemctl enable mosquitto nginx
     systemctl restart mosquitto nginx
     [ "$host" = --update ] || systemctl enable --now ledger-bridge-mqtt@1 ledger-backup@1.timer
+    systemctl enable ledger-sign-in
+    systemctl restart ledger-sign-in
     systemctl try-restart 'ledger-bridge-mqtt@*' 'ledger-bridge@*'
 }
 
 if [ "$host" = --update ]; then
     put_programs
+    [ ! -d "$own/accounts" ] || put_accounts
     put_pages
     restart
     echo "set_up: programs, units and pages are of this version, and the bridges are started again"
@@ -128,8 +153,7 @@ install -m 644 broker.crt "$own/pages.crt"
 install -m 600 broker.key "$own/pages.key"
 
 # the accounts, and the broker's files of them
-/usr/bin/ledger-shop accounts "$own/accounts" --shop 1 --tills "$tills"
-install -m 640 -g mosquitto "$own/accounts/ledger.passwords" "$own/accounts/ledger.acl" /etc/mosquitto/
+put_accounts --shop 1 --tills "$tills"
 install -m 600 "$own/accounts/bridge-1.account" "$own/bridge-1.account"
 put_pages
 
@@ -144,3 +168,4 @@ for _ in 1 2 3 4 5 6 7 8 9 10; do
 done
 case $host in *:*) host="[$host]" ;; esac
 echo "set_up: a shop with $tills tills at https://$host/till_page/ and https://$host/stock_page/, passwords in $own/accounts, 1 bridge started"
+echo "set_up: a tablet trusts it with http://$host/ca.crt (https://$host/till_page/trust.html says how), SHA-256 $(openssl x509 -noout -fingerprint -sha256 -in "$own/ca.crt" | cut -d = -f 2)"

@@ -1,6 +1,7 @@
 """Makes the accounts of a shop at a broker, and the broker's files that give each account its rights.
 
     ledger-shop accounts FOLDER --shop 1 --tills 4
+    ledger-shop accounts FOLDER                        the broker's files anew, as this version has them
     ledger-shop accounts FOLDER --qr till-1-3 --page https://shop.example/till_page/
 
 FOLDER gets a file `bridge-1.account` and, for each till and each screen, `till-1-N.account` and `screen-1-N.account`: one
@@ -9,8 +10,8 @@ A file that is there already is kept. From all accounts in FOLDER it writes, for
 `ledger.acl`, and for RabbitMQ `ledger.definitions.json`. These hold no password, only hashes. Run it again with another
 shop or more tills, and give the broker the new files. SECURITY.md says who gets which file.
 
---qr prints a code with which a tablet signs in as a till: the page's address with number and password (Debian's package
-qrencode). Whoever sees the code has the account."""
+--qr prints a code with which a tablet signs in as a till: it works once, within ten minutes, by a camera or typed (Debian's
+package qrencode, and the service `ledger-sign-in`). No address and no history has the password."""
 
 import argparse
 import base64
@@ -22,6 +23,8 @@ import secrets
 import subprocess
 import sys
 from pathlib import Path
+
+from ledger_shop import sign_in
 
 SHOP = "([A-Za-z0-9_]+)"
 NAME = re.compile(f"bridge-{SHOP}|till-{SHOP}-([1-9]|[1-5][0-9]|6[0-4])|screen-{SHOP}-[1-9][0-9]?", re.ASCII)
@@ -68,8 +71,8 @@ def mosquitto_line(user, password):
 
 def mosquitto_rights(user):
     """A bridge reads what all tills of its shop ask, and writes replies and what the screen shows. A till writes its own
-    asks, reads its own replies and its last request, and says which device takes its numbers. All see whether the bridge is
-    there."""
+    asks, reads its own replies, its last request and the stock, and says which device takes its numbers. All see whether the
+    bridge is there."""
     shop, till = shop_and_till(user)
     screen = [f"shops/{shop}/{topic}" for topic in ("stock/+", "tills/+", "last", "top", "history/+")]
     if user.startswith("screen-"):
@@ -80,7 +83,7 @@ def mosquitto_rights(user):
         rights += [f"read {topic}" for topic in FIGURES]
     else:
         rights = [f"write shops/{shop}/asks/{till}", f"readwrite shops/{shop}/marks/{till}"]
-        rights += [f"read shops/{shop}/{topic}" for topic in (f"replies/{till}", f"tills/{till}", "bridge")]
+        rights += [f"read shops/{shop}/{topic}" for topic in (f"replies/{till}", f"tills/{till}", "bridge", "top", "stock/+")]
     return f"user {user}\n" + "".join(f"topic {right}\n" for right in rights) + "\n"
 
 
@@ -145,18 +148,16 @@ def make(folder, shops, screens=1):
     return accounts
 
 
-def print_code(folder, user, page):
-    """Prints the code of a till's account. The password goes to qrencode by a pipe: no process shows it in its words."""
-    path, (_, till) = folder / f"{user}.account", shop_and_till(user)
+def print_code(folder, user, page, codes):
+    """Prints a code with which a tablet signs in once as the till of this account."""
+    shop, till = shop_and_till(user)
     try:
-        password = path.read_text(encoding="ascii").strip().partition(":")[2]
-        subprocess.run(["qrencode", "-t", "ANSIUTF8"], input=f"{page}#till={till}&password={password}", text=True, check=True)
+        password = (folder / f"{user}.account").read_text(encoding="ascii").strip().partition(":")[2]
+        sign_in.show(codes, user, shop, int(till), password, page)
     except FileNotFoundError as fault:
-        sys.exit(
-            f"make_accounts: there is no {fault.filename}" + (" (Debian's qrencode)" if fault.filename == "qrencode" else "")
-        )
-    except (OSError, subprocess.CalledProcessError) as fault:
-        sys.exit(f"make_accounts: {fault}")
+        sys.exit(f"accounts: there is no {fault.filename}" + (" (Debian's qrencode)" if fault.filename == "qrencode" else ""))
+    except (OSError, sign_in.NoCode, subprocess.CalledProcessError) as fault:
+        sys.exit(f"accounts: {fault}")
 
 
 def main():
@@ -167,16 +168,19 @@ def main():
     parser.add_argument("--screens", type=int, default=1, choices=range(100), metavar="SCREENS", help="0 to 99, default 1")
     parser.add_argument("--qr", metavar="TILL", help="print the code of this account, such as till-1-3")
     parser.add_argument("--page", help="with --qr: the address of the till's page")
+    parser.add_argument("--codes", type=Path, default=sign_in.FOLDER, help="with --qr: the folder of ledger-shop sign-in")
     given = parser.parse_args()
     if given.qr:
         if not (NAME.fullmatch(given.qr) and given.qr.startswith("till-") and given.page):
             parser.error("--qr is a till's account, such as till-1-3, and wants --page")
-        return print_code(given.folder, given.qr, given.page)
-    if not (given.shop and given.tills):
-        parser.error("--shop and --tills are required")
-    if not NAME.fullmatch(f"bridge-{given.shop}"):
+        return print_code(given.folder, given.qr, given.page, given.codes)
+    if bool(given.shop) != bool(given.tills):
+        parser.error("--shop wants --tills, and --tills wants --shop")
+    if given.shop and not NAME.fullmatch(f"bridge-{given.shop}"):
         parser.error("a shop's name has letters, digits and _ only")
-    accounts = make(given.folder, {given.shop: given.tills}, given.screens)
+    if not (given.shop or given.folder.is_dir()):
+        parser.error(f"there are no accounts in {given.folder}: --shop and --tills make some")
+    accounts = make(given.folder, {given.shop: given.tills} if given.shop else {}, given.screens)
     print(f"make_accounts: {len(accounts)} accounts in {given.folder}")
 
 

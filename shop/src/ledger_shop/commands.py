@@ -12,6 +12,7 @@ COMMANDS = {
     "till": ("till", "takes wishes and prints their answers, over RabbitMQ or a pipe"),
     "till-mqtt": ("till_mqtt", "the same over MQTT"),
     "accounts": ("accounts", "makes the accounts of a shop and the broker's files of them"),
+    "sign-in": ("sign_in", "takes the codes with which tablets sign in"),
     "goods": ("goods", "checks goods.csv, and puts names to what `show` prints"),
     "import": ("imports", "turns a list into requests: a first stock, or a supplier's list"),
     "history": ("history", "prints what happened to an item"),

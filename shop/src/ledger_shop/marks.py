@@ -75,9 +75,13 @@ class Numbers:
         return self.shop if 0 < self.shop < last else 0 if last == 1 else None
 
     def take(self, number):
-        """Takes a number for this device; returns what to publish for that, or None if it is so already."""
-        if self.is_here and self.taken.get(number) == self.mark:
+        """Takes a number for this device; returns what to publish for that, or None if it is so already. If others have taken
+        later numbers, this one was taken before them, and theirs stay: they mustn't be forgotten."""
+        is_late = max(self.taken, default=0) > number
+        if self.is_here and (is_late or self.taken.get(number) == self.mark):
             return None
-        kept = {other: mark for other, mark in self.taken.items() if other == number - 1}
-        self.at, self.taken, self.is_here = self.mark, {**kept, number: self.mark}, True
+        if not is_late:
+            kept = {other: mark for other, mark in self.taken.items() if other == number - 1}
+            self.taken = {**kept, number: self.mark}
+        self.at, self.is_here = self.mark, True
         return " ".join([self.mark, *(f"{other}:{mark}" for other, mark in self.taken.items())])
