@@ -1,10 +1,11 @@
 #!/usr/bin/env python3
 """Writes the documents of a package, as a user of it reads them:
 
-    packaging/documents.py FOLDER NAME
+    packaging/documents.py FOLDER SHOP NAME
 
 NAME is the command under which the program is installed. FOLDER gets the pages for users, with their pictures, and all files under
-examples/. A link to a page that isn't among them becomes plain text; a table's row that has no other link goes. Where a page speaks of
+examples/. SHOP gets what is under shop/ and no page, but its tests: the program that a shop runs. A link to a page that isn't among
+them becomes plain text; a table's row that has no other link goes. Where a page speaks of
 this folder and of the program in it, the copy speaks of the package's. Files stay executable."""
 
 import os
@@ -15,6 +16,8 @@ from pathlib import Path
 
 TOP = Path(__file__).resolve().parent.parent
 PAGES = ("KEEPERS", "SHOP_OWNER", "OPERATIONS", "TRUST", "LOG", "MESSAGES", "CARDS", "DISK", "DRIVE", "POWER_CUTS", "FAQ", "GLOSSARY")
+# folders whose files nobody needs who runs a shop
+LEFT_OUT = {"__pycache__", "tests", ".mypy_cache", ".pytest_cache"}
 LINK = re.compile(r"(!?)\[([^\]]*)\]\(([^)\s]+)\)")
 
 
@@ -22,7 +25,8 @@ def shipped():
     """The files of the package, from the top."""
     pages = ["README.md", "SECURITY.md", "CHANGELOG.md", *(f"docs/{it}.md" for it in PAGES)]
     found = [TOP / it for it in pages] + sorted(TOP.glob("docs/pictures/*.svg"))
-    found += sorted(it for it in TOP.glob("examples/**/*") if it.is_file() and "__pycache__" not in it.parts)
+    folders = [it for form in ("examples/**/*", "shop/**/*") for it in sorted(TOP.glob(form))]
+    found += [it for it in folders if it.is_file() and not LEFT_OUT.intersection(it.relative_to(TOP).parts)]
     return [it.relative_to(TOP) for it in found]
 
 
@@ -60,14 +64,14 @@ def readme(text):
 
 def renamed(text, name):
     """A script or a unit, which calls the program by the package's name."""
-    return re.sub(r"/usr/bin/ledger(?![\w-])", f"/usr/bin/{name}", text).replace('default="ledger"', f'default="{name}"')
+    return re.sub(r"/usr/bin/ledger(?![\w-])", f"/usr/bin/{name}", text).replace('PROGRAM = "ledger"', f'PROGRAM = "{name}"')
 
 
 def for_users(file, text, name):
     """What the package has of a file."""
     if file.name == "QUICK_START.md":
         text = re.sub(r"(?m)^install .* /usr/bin/ledger\n", "", text)
-    if file.parts[:2] == ("examples", "tills") and file.name == "README.md":
+    if str(file) == "shop/README.md":
         text = text.replace("with `ledger` in `/usr/bin`", f"with `{name}` in `/usr/bin`")
     if str(file) == "README.md":
         text = readme(text)
@@ -75,13 +79,14 @@ def for_users(file, text, name):
 
 
 def main():
-    if len(sys.argv) != 3:
+    if len(sys.argv) != 4:
         sys.exit(__doc__)
-    folder, name = Path(sys.argv[1]), sys.argv[2]
+    folder, shop, name = Path(sys.argv[1]), Path(sys.argv[2]), sys.argv[3]
     files = shipped()
     known = {TOP / it for file in files for it in (file, *file.parents)} | {TOP / "copyright"}
     for file in files:
-        copied = folder / file
+        is_program = file.parts[0] == "shop" and file.suffix != ".md"
+        copied = shop / file.relative_to("shop") if is_program else folder / file
         copied.parent.mkdir(parents=True, exist_ok=True)
         shutil.copyfile(TOP / file, copied)
         copied.chmod(0o755 if os.access(TOP / file, os.X_OK) else 0o644)

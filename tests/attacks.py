@@ -1,5 +1,5 @@
 #!/usr/bin/python3
-"""Attacks on a shop behind a real broker that runs the configuration of examples/tills:
+"""Attacks on a shop behind a real broker that runs the configuration of shop/deploy:
 
     tests/attacks.py PROGRAM [--over rabbit|mqtt] [--folder FOLDER] [--told]
 
@@ -21,13 +21,15 @@ import tempfile
 import time
 from pathlib import Path
 
-import tills
 import brokers
-import wishes
+import tills
 from attack_names import BRIDGE, HONEST, INSIDER, LONGEST, PATIENT, SHOPS, SILENT
 from attacks_mqtt import OverMqtt
 from attacks_rabbit import OverRabbit
 from served import sure, want
+from shop_paths import command
+
+from ledger_shop import wishes
 
 
 class Scene:
@@ -56,10 +58,10 @@ class Scene:
 
     def open_bridge(self):
         words = [self.image, "--program", self.program, "--keep", self.kept, *self.own.words(BRIDGE)]
-        command = [tills.PYTHON, tills.EXAMPLES / self.broker.bridge, *words]
+        asked = command(self.broker.bridge, *words)
         with open(self.log, "ab") as log:
-            command = list(map(str, command))
-            self.process = subprocess.Popen(command, stdin=subprocess.DEVNULL, stdout=log, stderr=log)
+            asked = list(map(str, asked))
+            self.process = subprocess.Popen(asked, stdin=subprocess.DEVNULL, stdout=log, stderr=log)
 
     def close_bridge(self):
         self.process.kill()
@@ -100,9 +102,9 @@ class Scene:
         """A till's process, with a book and a list of wishes."""
         (self.folder / f"wishes{till}").write_text("".join(line + "\n" for line in lines))
         words = [till, "--book", self.book(till), "--wishes", self.folder / f"wishes{till}"]
-        command = [tills.PYTHON, tills.EXAMPLES / self.broker.till, *words, *self.own.words(f"till-1-{till}")]
+        asked = command(self.broker.till, *words, *self.own.words(f"till-1-{till}"))
         pipes = {"stdout": subprocess.PIPE, "stderr": subprocess.PIPE, "text": True}
-        return subprocess.Popen(list(map(str, command)), **pipes)
+        return subprocess.Popen(list(map(str, asked)), **pipes)
 
     def book(self, till):
         return self.folder / f"book{till}"
@@ -168,8 +170,8 @@ class Scene:
             ["--broker", f"{kind}://shop.example"],
         ]
         for number, words in enumerate(given):
-            words = [tills.EXAMPLES / self.broker.till, 8, "--book", self.folder / f"loose{number}", *words]
-            done = subprocess.run([tills.PYTHON, *map(str, words)], input="S,1,1\n", capture_output=True, text=True)
+            words = command(self.broker.till, 8, "--book", self.folder / f"loose{number}", *words)
+            done = subprocess.run([*map(str, words)], input="S,1,1\n", capture_output=True, text=True)
             want(done.returncode == wishes.LOOK, f"{words[-2:]}: status {done.returncode} {done.stderr}")
 
     def impostor(self):
@@ -183,9 +185,9 @@ class Scene:
             context.load_cert_chain(folder / "broker.crt", folder / "broker.key")
             kind = "amqps" if self.over == "rabbit" else "mqtts"
             words = ["--broker", f"{kind}://127.0.0.1:{server.getsockname()[1]}", *self.own.words(INSIDER)[-4:]]
-            words = [tills.EXAMPLES / self.broker.till, 8, "--book", self.folder / "impostor.book", *words]
+            words = command(self.broker.till, 8, "--book", self.folder / "impostor.book", *words)
             pipes = {"stdin": subprocess.PIPE, "stdout": subprocess.PIPE, "stderr": subprocess.PIPE}
-            till = subprocess.Popen([tills.PYTHON, *map(str, words)], **pipes)
+            till = subprocess.Popen([*map(str, words)], **pipes)
             till.stdin.write(b"S,1,1\n")
             till.stdin.flush()
             try:

@@ -2,10 +2,11 @@
 
 import time
 
-import account
 import brokers
 from attack_names import BRIDGE, FLOOD, FOREIGN, HONEST, INSIDER, LONGEST, OTHER, REPEATS, SILENT, VICTIM
 from served import want
+
+from ledger_shop import account
 
 
 def attacker(name, clean):

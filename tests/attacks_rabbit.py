@@ -4,10 +4,11 @@ import os
 import subprocess
 import time
 
-import account
 import brokers
 from attack_names import FLOOD, FOREIGN, INSIDER, LONGEST, OTHER, REPEATS, SILENT, VICTIM
 from served import want
+
+from ledger_shop import account
 
 # AMQP's code of what isn't allowed
 DENIED = 403
@@ -21,7 +22,7 @@ class OverRabbit:
 
     def connection(self, user=INSIDER, password=None, secure=True):
         import pika
-        import till as over_rabbit
+        from ledger_shop import till as over_rabbit
 
         place = account.Place(self.scene.own.places[0], "amqp")
         if not secure:
@@ -31,7 +32,7 @@ class OverRabbit:
         return pika.BlockingConnection(over_rabbit.parameters([place], pair, context))
 
     def shut_out(self, **more):
-        import till as over_rabbit
+        from ledger_shop import till as over_rabbit
 
         try:
             self.connection(**more).close()
@@ -104,7 +105,7 @@ class OverRabbit:
 
     def connections(self):
         """A till's account has so many connections and no more."""
-        import till as over_rabbit
+        from ledger_shop import till as over_rabbit
 
         opened = []
         try:

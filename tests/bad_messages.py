@@ -3,7 +3,7 @@
 
     tests/bad_messages.py PROGRAM [--over rabbit|mqtt] [--folder FOLDER]
 
-One RabbitMQ node, or one mosquitto, is started on the loopback address, with one bridge of examples/tills. Each message
+One RabbitMQ node, or one mosquitto, is started on the loopback address, with one bridge of the folder shop. Each message
 has the reply of docs/MESSAGES.md under the key of its till, or under `refused` if it is no request, and the bridge that
 took it lives on; one that is longer than the broker takes doesn't come. What the broker delivers together is handed over
 together, and each till hears its answer. Then the broker is killed: a till that asks
@@ -18,11 +18,13 @@ import threading
 import time
 from pathlib import Path
 
-import tills
 import brokers
-import wishes
+import tills
 from served import sure, want
+from shop_paths import command
 from shop_rule import SYNTAX
+
+from ledger_shop import journal, wishes
 
 TILLS = 8
 # seconds in which a reply has to come, and in which no second one may
@@ -164,8 +166,8 @@ class Trial(tills.Trial):
             self.until(lambda: replies.append(self.heard_from(link)) or replies[-1], f"a reply to till {till}")
             want(replies[-1] == f"{till},1,DONE,{till}", f"till {till} is told {replies[-1]}")
             link.close()
-        lines = self.kept.read_text().splitlines()
-        taken = [set(found[2].split()) for found in map(tills.journal.TAKES.fullmatch, lines) if found]
+        notes = (one.note for one in journal.lines_in(self.kept.read_bytes())[0])
+        taken = [set(one.requests) for one in notes if isinstance(one, journal.Takes) and len(one.requests) > 1]
         want(taken == [{f"{till},1,S,{till},{till}" for till in TOGETHER}], f"together were taken {taken}")
 
     def away(self, seconds=5):
@@ -190,7 +192,7 @@ class Trial(tills.Trial):
         cards += [f"TILL {till},1,S,{till},{till},DONE,{till}" for till in TOGETHER]
         want(shown == cards, f"show prints {shown}")
         words = [self.folder / "new.d64", self.kept, "--tills", TILLS, "--image", self.image]
-        sure(tills.PYTHON, tills.EXAMPLES / "rebuild.py", *words, "--program", self.program)
+        sure(*command("rebuild", *words, "--program", self.program))
         self.says(5, None, "no bridge of shop 1 is at the broker")
 
 

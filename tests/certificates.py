@@ -1,5 +1,5 @@
 #!/usr/bin/python3
-"""The certificate that examples/operator/make_certificate.sh makes for a name, an IPv4 and an IPv6 address; `tests/shop.sh`
+"""The certificate that shop/deploy/make_certificate.sh makes for a name, an IPv4 and an IPv6 address; `tests/shop.sh`
 runs it:
 
     tests/certificates.py
@@ -19,9 +19,9 @@ import threading
 from pathlib import Path
 
 from served import run, want
-from shop_scene import EXAMPLES
+from shop_paths import DEPLOY
 
-MAKE = EXAMPLES / "operator" / "make_certificate.sh"
+MAKE = DEPLOY / "make_certificate.sh"
 # the host, where it is reached, and a host that it isn't
 HOSTS = [("shop.example", "127.0.0.1", "other.example"), ("127.0.0.2", "127.0.0.2", "127.0.0.3"), ("::1", "::1", "127.0.0.2")]
 BAD = ["10.300.0.1", "-x", "a b", "fe80::zz", "", "shop.example/", "1.2.3"]

@@ -2,7 +2,7 @@
 """Checks the language and links of the documents, and prints a line for each thing that it finds:
   tests/language.py [--counts] [FILE ..]
 
-Documents are README.md, CHANGELOG.md, SECURITY.md, releases/README.md, docs/*.md, crates/*/README.md and each page under examples/;
+Documents are README.md, CHANGELOG.md, SECURITY.md, releases/README.md, docs/*.md, crates/*/README.md and each page under examples/ and shop/;
 FILE names some of them. Of each it checks
   - sentences of more than 35 words, outside tables, code and pictures;
   - the words of WORDS below, outside code and quotation marks;
@@ -29,7 +29,7 @@ from commands import COMMANDS  # noqa: E402
 
 TOP = Path(__file__).resolve().parent.parent
 LONGEST = 35
-FOLDERS = ("bench", "crates", "docs", "examples", "packaging", "tests", "tools", "wrong_bodies")
+FOLDERS = ("bench", "crates", "docs", "examples", "packaging", "shop", "tests", "tools", "wrong_bodies")
 GENERATED = ("docs/CORE.md",)
 # copies of the sources, whose words don't count
 COPIED = ("docs/CORE.md",)
@@ -51,7 +51,7 @@ WORDS = {
 def documents():
     """The documents, in the order in which they are printed."""
     found = [TOP / it for it in ("README.md", "CHANGELOG.md", "SECURITY.md", "releases/README.md")]
-    for form in ("docs/*.md", "crates/*/README.md", "examples/**/*.md"):
+    for form in ("docs/*.md", "crates/*/README.md", "examples/**/*.md", "shop/**/*.md"):
         found += sorted(TOP.glob(form))
     return [it for it in found if it.exists()]
 

@@ -41,11 +41,15 @@ share=$work/tree/usr/share
 python3 "$top/tests/completions.py" ledger-1541 "$share/bash-completion/completions/ledger-1541" \
     "$share/zsh/vendor-completions/_ledger-1541" "$share/fish/vendor_completions.d/ledger-1541.fish" >&2
 # what git has as a script is one in the package, and the program goes by the package's name in it
-(cd "$top" && git ls-files -s examples) | while read -r mode _ _ file; do
-    has=$(stat -c %a "$share/doc/ledger-1541/$file")
+(cd "$top" && git ls-files -s examples shop ':(exclude)shop/**/tests/*') | while read -r mode _ _ file; do
+    has=$(stat -L -c %a "$share/doc/ledger-1541/$file")
     [ "${mode#100}" = "$has" ] || fail "$file has mode $has"
 done
-! grep -rnE '/usr/bin/ledger([^-]|$)|default="ledger"' "$share/doc/ledger-1541/examples" || fail "another program is called"
+! grep -rnE '/usr/bin/ledger([^-]|$)|PROGRAM = "ledger"' "$share/doc/ledger-1541/examples" "$share/ledger-1541/shop" || fail "another program is called"
+# the shop's commands run, also under the names of earlier versions
+for script in "$work/tree/usr/bin/ledger-shop backup" "$work/tree/usr/lib/ledger/backup.py"; do
+    PYTHONDONTWRITEBYTECODE=1 $script --help | grep -q '^usage: ledger-shop backup ' || fail "$script doesn't run"
+done
 grep -q '^License: Apache-2.0' "$share/doc/ledger-1541/copyright" || fail "no licence"
 [ "$(sed -n 's/^program: //p' "$work/one/BUILT_FROM")" = "$(sha256sum <"$work/tree/usr/bin/ledger-1541" | cut -c 1-64)" ] || fail "another program"
 mkdir "$work/tar"
@@ -60,9 +64,9 @@ diff - "$work/pages" <<END
 ./README.md
 ./SECURITY.md
 $(printf './docs/%s.md\n' CARDS DISK DRIVE FAQ GLOSSARY KEEPERS LOG MESSAGES OPERATIONS POWER_CUTS SHOP_OWNER TRUST)
-./examples/operator/QUICK_START.md
-./examples/tills/README.md
-./examples/tills/SECURITY.md
+./shop/QUICK_START.md
+./shop/README.md
+./shop/SECURITY.md
 END
 # each of their links leads to a file and a heading
 PYTHONPATH=$top/tests PYTHONDONTWRITEBYTECODE=1 python3 - "$share/doc/ledger-1541" <<'END' || fail "dead links"

@@ -19,6 +19,7 @@ from pathlib import Path
 
 import tills
 from served import sure, want
+from shop_paths import command
 
 QUEUE = "shop.1.bridge"
 # seconds that a change of hands may take
@@ -42,7 +43,7 @@ class Parted(tills.Trial):
 
     def till(self, till):
         words = [till, "--book", self.book(till), "--wishes", self.wishes, *self.broker.words(f"till-1-{till}")]
-        return tills.Supervised("till 1", [tills.PYTHON, tills.EXAMPLES / "till.py", *words], self.folder / "till1.log")
+        return tills.Supervised("till 1", command("till", *words), self.folder / "till1.log")
 
     def until(self, holds, what):
         end = time.monotonic() + LONGEST

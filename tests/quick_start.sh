@@ -1,5 +1,5 @@
 #!/bin/sh
-# The commands of examples/operator/QUICK_START.md, as they stand, on a clean Debian:
+# The commands of shop/QUICK_START.md, as they stand, on a clean Debian:
 #   tests/quick_start.sh PROGRAM [DEBIAN]
 # PROGRAM is what `tools/program` prints. DEBIAN is a folder that debootstrap has made, with systemd; without it this makes
 # one, in some two minutes. A copy of it is started as a container whose net is its own: it reaches nothing but a proxy that
@@ -33,9 +33,9 @@ fi
 
 # the repository's top, with the program where `./ledger` puts it
 install -D -m 755 "$program" "$root/shop/releases/out/ledger"
-cp -a "$top/examples" "$root/shop/"
+cp -a "$top/examples" "$top/shop" "$root/shop/"
 cp "$top/tests/quick_start_after.sh" "$root/shop/after"
-sed -n '/^```sh$/,/^```$/{/^```/!p}' "$top/examples/operator/QUICK_START.md" >"$root/shop/commands"
+sed -n '/^```sh$/,/^```$/{/^```/!p}' "$top/shop/QUICK_START.md" >"$root/shop/commands"
 count=$(grep -c . "$root/shop/commands")
 [ "$count" -le 10 ] || { echo "quick_start: $count commands" >&2; exit 1; }
 

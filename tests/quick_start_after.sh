@@ -12,7 +12,7 @@ serving() {
     return 1
 }
 sell() {
-    printf '%s\n' "$3" | /usr/lib/ledger/till_mqtt.py "$1" --book "$2" --broker mqtts://localhost --ca "$own/ca.crt" \
+    printf '%s\n' "$3" | ledger-shop till-mqtt "$1" --book "$2" --broker mqtts://localhost --ca "$own/ca.crt" \
         --account "$own/accounts/till-1-$1.account"
 }
 
@@ -25,9 +25,28 @@ grep -qi '^content-type: text/javascript; charset=utf-8' /shop/heads
 grep -qi '^x-frame-options: deny' /shop/heads
 [ "$(get https://localhost/till_page/mqtt.js | wc -c)" -gt 100000 ]
 ! get https://localhost/accounts/till-1-1.account
-get -i --http1.1 --max-time 3 -H 'Connection: Upgrade' -H 'Upgrade: websocket' -H 'Sec-WebSocket-Version: 13' \
-    -H 'Sec-WebSocket-Key: dGhlIHNhbXBsZSBub25jZQ==' -H 'Sec-WebSocket-Protocol: mqtt' https://localhost:8884/ >/shop/upgrade || true
-head -n 1 /shop/upgrade | grep -q ' 101 '
+for place in https://localhost/mqtt https://localhost:8884/; do
+    get -i --http1.1 --max-time 3 -H 'Connection: Upgrade' -H 'Upgrade: websocket' -H 'Sec-WebSocket-Version: 13' \
+        -H 'Sec-WebSocket-Key: dGhlIHNhbXBsZSBub25jZQ==' -H 'Sec-WebSocket-Protocol: mqtt' "$place" >/shop/upgrade || true
+    head -n 1 /shop/upgrade | grep -q ' 101 '
+done
+get https://localhost/till/rules.js | cmp - /var/www/ledger/till_page/rules.js
+
+# port 80 has the authority, and nothing else
+curl -sf http://localhost/ca.crt | cmp - "$own/ca.crt"
+for path in / /till_page/ /sign_in /nginx; do
+    [ "$(curl -s -o /dev/null -w '%{http_code} %{redirect_url}' "http://localhost$path")" = "301 https://localhost$path" ]
+done
+! curl -s http://localhost/ | grep -i 'welcome to nginx'
+
+# a code signs in once
+sign_in() { curl -s --cacert "$own/ca.crt" -w " %{http_code}" --data-binary "$1" https://localhost/sign_in; }
+ledger-shop accounts "$own/accounts" --qr till-1-3 --page https://localhost/till_page/ | tail -n 1 >/shop/code
+code=$(grep -o '[0-9A-Z]\{4\}-[0-9A-Z]\{4\}-[0-9A-Z]\{4\}' /shop/code)
+! grep -q "$(cut -d : -f 2 "$own/accounts/till-1-3.account")" /shop/code
+sign_in "$code" | grep -qF "\"password\": \"$(cut -d : -f 2 "$own/accounts/till-1-3.account")\"} 200"
+sign_in "$code" | grep -q ' 404$'
+[ "$(systemctl is-active ledger-sign-in)" = active ]
 [ "$(stat -c %a "$own/accounts/till-1-1.account" "$own/ca/ca.key" "$own/pages.key" | sort -u)" = 600 ]
 
 # a second run, for one till more, and one with a file that somebody changed
@@ -36,11 +55,11 @@ sums() {
     ledger show /var/lib/ledger/shop1.d64
 }
 before=$(sums)
-examples/operator/set_up.sh shop.example 4
+shop/deploy/set_up.sh shop.example 4
 [ "$before" = "$(sums)" ]
 [ "$(sell 4 till4.book R,101,0)" = '1 R,101,0 DONE,36' ]
 echo '# mine' >>/etc/nginx/conf.d/ledger_pages.conf
-examples/operator/set_up.sh shop.example 4 2>/shop/second || { cat /shop/second; exit 1; }
+shop/deploy/set_up.sh shop.example 4 2>/shop/second || { cat /shop/second; exit 1; }
 grep -q 'ledger_pages.conf was changed and stays' /shop/second
 grep -q '^# mine' /etc/nginx/conf.d/ledger_pages.conf
 
@@ -48,7 +67,7 @@ grep -q '^# mine' /etc/nginx/conf.d/ledger_pages.conf
 authority=$(sha256sum "$own/ca.crt")
 for host in 10.213.0.2 ::1 shop.example; do
     case $host in *:*) place="[$host]" ;; *) place=$host ;; esac
-    examples/operator/set_up.sh "$host" 4 2>/shop/address || { cat /shop/address; exit 1; }
+    shop/deploy/set_up.sh "$host" 4 2>/shop/address || { cat /shop/address; exit 1; }
     grep -q "gives way to one of $host" /shop/address
     get "https://$place/till_page/" | grep -q '<title>Till</title>'
     for port in 443 8883 8884; do
@@ -70,13 +89,13 @@ for _ in $(seq 60); do
     sleep 0.5
 done
 grep -q '^ledger-bridge-mqtt@1.service' /var/lib/ledger/alarms
-/usr/lib/ledger/restore.py /var/lib/ledger/shop1.d64 /var/backups/ledger --journal /var/lib/ledger/shop1.lines --unit ledger-bridge-mqtt@1
+ledger-shop restore /var/lib/ledger/shop1.d64 /var/backups/ledger --journal /var/lib/ledger/shop1.lines --unit ledger-bridge-mqtt@1
 serving
 cmp /shop/zeros /var/lib/ledger/shop1.d64.aside1
 [ "$(stat -c %U /var/lib/ledger/shop1.d64)" = ledger ]
 [ "$(sell 2 till2.book I,101,1)" = '2 I,101,1 DONE,35' ]
-/usr/lib/ledger/history.py /var/lib/ledger/shop1.lines 101 --goods "$own/goods.csv" | grep -c ' left$'
-/usr/lib/ledger/day_report.py /var/lib/ledger/shop1.lines --goods "$own/goods.csv"
+ledger-shop history /var/lib/ledger/shop1.lines 101 --goods "$own/goods.csv" | grep -c ' left$'
+ledger-shop day-report /var/lib/ledger/shop1.lines --goods "$own/goods.csv"
 systemctl start ledger-backup@1
 ls /var/backups/ledger/shop1-000002.d64
 [ "$(systemctl is-active ledger-bridge-mqtt@1)" = active ]

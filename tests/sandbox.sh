@@ -1,12 +1,12 @@
 #!/bin/sh
-# How exposed the units of examples/tills are, after `systemd-analyze security`: tests/sandbox.sh
+# How exposed the units of shop/deploy are, after `systemd-analyze security`: tests/sandbox.sh
 # Each unit has to be at most at 3.0 (of 10; less is safer). It wants Debian's package systemd, starts nothing, and
 # prints one line. The status is 1 if a unit is above.
 set -eu
 top="$(CDPATH= cd -- "$(dirname -- "$0")/.." && pwd)"
 told=
 count=0
-for unit in "$top"/examples/tills/ledger-*.service; do
+for unit in "$top"/shop/deploy/ledger-*.service; do
     line=$(systemd-analyze security --offline=true --no-pager --threshold=30 "$unit" | tail -n 1) ||
         { echo "sandbox: $line" >&2; exit 1; }
     level=$(echo "$line" | sed -n 's/.*: \([0-9.]*\) .*/\1/p')
@@ -14,5 +14,5 @@ for unit in "$top"/examples/tills/ledger-*.service; do
     told="$told, $(basename "$unit" @.service) $level"
     count=$((count + 1))
 done
-[ "$count" = 4 ] || { echo "sandbox: $count units, not 4" >&2; exit 1; }
+[ "$count" = 5 ] || { echo "sandbox: $count units, not 5" >&2; exit 1; }
 echo "sandbox: $count units, exposure${told#,}; at most 3.0"

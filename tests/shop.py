@@ -9,7 +9,7 @@ bridge or `serve` is killed with SIGKILL, or the cable is pulled for some second
 - each page has shown the answer to each of its requests, once and in order, and its store has no other;
 - these are the answers of docs/MESSAGES.md (tests/shop_rule.py) over the requests of the journal, which are all that
   counted, each once; `show` prints what comes of them, and so does a stock page that was open all the time;
-- `format` and `play` make the same shop of the journal (examples/tills/rebuild.py)."""
+- `format` and `play` make the same shop of the journal (`ledger-shop rebuild`)."""
 
 import argparse
 import json
@@ -23,17 +23,16 @@ import time
 from collections import Counter
 from pathlib import Path
 
+import brokers
 import shop_scene as scene
 from served import sure, want
-from shop_rule import Shop, request_of
-from shop_scene import PYTHON, TILLS, until
-
-sys.path.insert(0, str(TILLS))
-
-import brokers
-import journal
 from shop_nets import COUNT, THERE, Broker, Nets, Till, browsers_of
+from shop_paths import PYTHON, command
+from shop_rule import Shop, request_of
+from shop_scene import until
 from tills import Supervised, ended, requests_in, wishes_of
+
+from ledger_shop import journal
 
 LONGEST = 3000
 
@@ -129,7 +128,7 @@ class Trial:
             heard[till].append((line.split(",", 2)[2], journal.answer_of(reply)))
         for till in self.tills:
             book, answers = till.store()
-            want(book == {"last": len(till.wishes), "open": None}, f"till {till.number}'s book is {book}")
+            want((book["last"], book["open"], book["more"]) == (len(till.wishes), None, []), f"till {till.number}'s book is {book}")
             asked = [(one["wish"], one["answer"]) for one in answers]
             want([one["number"] for one in answers] == list(range(1, len(till.wishes) + 1)), "an answer twice or not at all")
             want(asked == heard[till.number] and [wish for wish, _ in asked] == till.wishes, f"till {till.number} heard otherwise")
@@ -155,7 +154,7 @@ class Trial:
         until(lambda: subprocess.run([self.given.program, "show", self.image], capture_output=True).returncode == 0, "a free image")
         cards = dict(map(int, line[5:].split(",")) for line in sure(self.given.program, "show", self.image) if line.startswith("CARD"))
         want(cards == rule.stock, f"show has {cards}, not {rule.stock}")
-        rebuilt = [PYTHON, TILLS / "rebuild.py", self.folder / "new.d64", self.kept, "--tills", COUNT, "--image", self.image]
+        rebuilt = command("rebuild", self.folder / "new.d64", self.kept, "--tills", COUNT, "--image", self.image)
         print(*sure(*map(str, rebuilt), "--program", self.given.program), sep="\n")
 
     def close(self):
@@ -184,8 +183,8 @@ def main():
         nets = Nets()
         names = json.dumps([nets.here, nets.there])
         try:
-            command = ["ip", "netns", "exec", nets.here, PYTHON, __file__, *sys.argv[1:], "--seed", str(given.seed)]
-            sys.exit(subprocess.run(command, env={**os.environ, "SHOP_NETS": names}).returncode)
+            words = ["ip", "netns", "exec", nets.here, PYTHON, __file__, *sys.argv[1:], "--seed", str(given.seed)]
+            sys.exit(subprocess.run(words, env={**os.environ, "SHOP_NETS": names}).returncode)
         finally:
             nets.remove()
     nets = Nets.__new__(Nets)

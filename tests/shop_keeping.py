@@ -22,17 +22,16 @@ import shop_papers
 import shop_scene as scene
 from served import sure, want
 from shop_papers import check, tool
+from shop_paths import command
 from shop_rule import Shop
-from shop_scene import PYTHON, TILLS, until
-
-sys.path.insert(0, str(TILLS))
+from shop_scene import until
 
 
 class Bridge:
     """A bridge over pipes, with a journal, as till 1 and 2 ask it."""
 
     def __init__(self, program, image, kept):
-        words = [PYTHON, TILLS / "bridge.py", image, "--pipes", "--program", program, "--keep", kept, "--keep-size", 400]
+        words = command("bridge", image, "--pipes", "--program", program, "--keep", kept, "--keep-size", 400)
         self.process = subprocess.Popen(list(map(str, words)), stdin=subprocess.PIPE, stdout=subprocess.PIPE, stderr=subprocess.DEVNULL, text=True)
 
     def ask(self, line):
@@ -87,41 +86,41 @@ def backups(program, folder):
         day(program, image, kept, rule, 1 + 10 * round_of, 10)
         # the clock jumps: what was written last is the oldest by its time
         os.utime(image, (1_700_000_000 - 1000 * round_of,) * 2)
-        told = tool("backup.py", *words)
+        told = tool("backup", *words)
     names = sorted(path.name for path in copies.iterdir())
     check(names == ["shop1-000003.d64", "shop1-000004.d64"], f"the copies are {names}")
     check("copy 4; 1 copies and " in told and "removes " in told, f"the backup says {told}")
     left = sorted(path.name for path in folder.glob("shop1.lines*"))
     check(1 < len(left) < 12, f"the journal has {left}")
     shows(program, copies / names[1], rule)
-    tool("backup.py", *words[:-2], "--program", "/bin/false", status=1)
+    tool("backup", *words[:-2], "--program", "/bin/false", status=1)
     held = Bridge(program, image, kept)
     held.ask("3,1,S,3,1")
     rule.reply("3,1,S,3,1")
-    tool("backup.py", *words)
+    tool("backup", *words)
     check(held.ask("3,2,S,3,2") == rule.reply("3,2,S,3,2"), "a bridge doesn't serve on behind a backup")
     shows(program, image, rule)
-    tool("backup.py", *words)
+    tool("backup", *words)
     names = sorted(path.name for path in copies.iterdir())
     check(names == ["shop1-000005.d64", "shop1-000006.d64"], f"beside a bridge the copies are {names}")
     shows(program, copies / names[1], rule)
     held.kill()
     check(log_of(image).exists(), "a serve that was killed leaves no log")
-    tool("backup.py", *words)
+    tool("backup", *words)
     shows(program, copies / "shop1-000007.d64", rule)
     day(program, image, kept, rule, 41, 1)
     check(not log_of(image).exists(), "the log stays")
-    tool("backup.py", *words)
+    tool("backup", *words)
     old = folder / "old.d64"
     image.rename(old)
     image.write_bytes((copies / "shop1-000007.d64").read_bytes())
     (copies / "shop1-000009.d64").write_bytes(old.read_bytes())
-    check("is older than" in tool("backup.py", *words, status=1), "an older image is kept")
+    check("is older than" in tool("backup", *words, status=1), "an older image is kept")
     (copies / "shop1-000009.d64").unlink()
     image.unlink()
     old.rename(image)
     (copies / "my notes.txt").write_text("keep me")
-    tool("backup.py", *words)
+    tool("backup", *words)
     check((copies / "my notes.txt").read_text() == "keep me", "a stranger's file is touched")
     return image, kept, copies, rule
 
@@ -134,7 +133,7 @@ def restores(program, folder, image, kept, copies, rule):
     whole = damaged.read_bytes()
     damaged.write_bytes(bytes(len(whole)))
     image.write_bytes(bytes(1000))
-    told = tool("restore.py", *words)
+    told = tool("restore", *words)
     steps = [line.split(".")[0] for line in told.splitlines() if line[:1].isdigit()]
     check(steps == list("123456"), f"the steps are {steps}")
     check("restored of" in told and damaged.name not in told.splitlines()[-1], f"the restore says {told}")
@@ -146,9 +145,9 @@ def restores(program, folder, image, kept, copies, rule):
     last = kept.read_bytes()
     kept.write_bytes(b"garbage\n" + last)
     before = image.read_bytes()
-    told = tool("restore.py", *words, status=1)
+    told = tool("restore", *words, status=1)
     check("step 3 failed" in told and "is as it was" in told and image.read_bytes() == before, f"a damaged journal: {told}")
-    told = tool("restore.py", *words, "--without-journal")
+    told = tool("restore", *words, "--without-journal")
     check("is lost" in told and (folder / "shop1.lines.aside1").exists(), f"without the journal: {told}")
     check(image.read_bytes() == damaged.read_bytes(), "the copy isn't in its place")
 
@@ -162,7 +161,7 @@ def with_log(program, image, kept, rule, words):
     own, log = image.read_bytes(), log_of(image).read_bytes()
     check(own == before[:TAG] + b"LOG AWAY" + before[TAG + 8 :], "serve writes more of the image itself than its tag")
     shows(program, image, rule)
-    tool("restore.py", *words)
+    tool("restore", *words)
     check(not log_of(image).exists(), "a log of the old image stays")
     shows(program, image, rule)
     aside = image.with_name("shop1.d64.aside2")
@@ -234,7 +233,7 @@ def counted(folder, broker, port):
     lines = ["S,5,10", "I,5,3", "I,5,9", "R,9,1", "S,9999,1"]
     wishes = folder / "wishes"
     wishes.write_text("".join(line + "\n" for line in lines))
-    till = [PYTHON, TILLS / "till_mqtt.py", 1, "--book", folder / "book", "--wishes", wishes, *broker.words("till-1-1")]
+    till = command("till-mqtt", 1, "--book", folder / "book", "--wishes", wishes, *broker.words("till-1-1"))
     check(len(sure(*map(str, till))) == len(lines), "the till isn't answered")
     found = figures(port)
     replies = {word: found[f'ledger_replies_total{{word="{word}"}}'] for word in ("DONE", "SHORT", "NO CARD", "72")}

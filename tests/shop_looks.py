@@ -2,11 +2,11 @@
 
 import time
 
-import account
 import brokers
-import till_mqtt
 from served import want
 from shop_scene import until
+
+from ledger_shop import account, till_mqtt
 
 SIZES = {"phone": (390, 800), "tablet": (820, 1180), "desk": (1280, 900)}
 
@@ -70,7 +70,7 @@ class Strangers:
         for client in clients:
             client.disconnect()
             client.loop_stop()
-        others = [topic for topic in heard if topic != "shops/1/tills/2"]
+        others = [topic for topic in heard if topic != "shops/1/tills/2" and not topic.startswith("shops/1/stock/")]
         want(not others, f"strangers hear {others[:3]}")
         ago = lambda text: [line for line in text.splitlines() if " ago" not in line]
         until(lambda: screen.find_element("css selector", "#state").text == "Open", "the screen again: its account was used twice")

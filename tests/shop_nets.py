@@ -133,6 +133,9 @@ class Till(threading.Thread):
             want(self.shown[number - 1] == answer, f"till {self.number} shows {number} {answer} after {self.shown[number - 1]}")
         if last == len(self.wishes):
             self.is_done = True
+        elif self.driver.execute_script("return document.getElementById('sure').open"):
+            # a count is set while nobody knows how many are there
+            self.page.at("yes").click()
         elif not self.page.at("waits").is_displayed():
             self.ask(self.wishes[last], last)
         else:

@@ -6,20 +6,16 @@ import json
 import os
 import shutil
 import subprocess
-import sys
 import threading
 import time
 from functools import partial
 from pathlib import Path
 
-TOP = Path(__file__).resolve().parent.parent
-EXAMPLES, TILLS = TOP / "examples", TOP / "examples" / "tills"
-sys.path.insert(0, str(TILLS))
-
 import brokers
 from served import sure, want
+from shop_paths import DEPLOY, TOP, command
 
-PYTHON = "/usr/bin/python3"
+PAGES = TOP / "shop" / "pages"
 SHOP = "1"
 
 
@@ -40,6 +36,8 @@ def missing():
         "zbar-tools": "/usr/bin/zbarimg",
         "curl": "/usr/bin/curl",
         "libnss3-tools": "/usr/bin/certutil",
+        "nginx-light": "/usr/sbin/nginx",
+        "firefox-esr": "/usr/bin/firefox-esr",
     }
     return [package for package, path in files.items() if not os.path.exists(path)]
 
@@ -50,7 +48,7 @@ class Broker(brokers.Mosquitto):
     def __init__(self, folder, **more):
         super().__init__(folder, **more)
         self.pages = brokers.free_ports(1)[0]
-        text = (EXAMPLES / "till_page" / "mosquitto_pages.conf").read_text()
+        text = (DEPLOY / "mosquitto_pages.conf").read_text()
         where = {"certfile": folder / "broker.crt", "keyfile": folder / "broker.key"}
         listener = f"{self.pages} {self.address}"
         (folder / "conf.d" / "ledger_pages.conf").write_text(brokers.set_in(text, " ", listener=listener, **where))
@@ -66,23 +64,26 @@ class Quiet(http.server.SimpleHTTPRequestHandler):
         pass
 
 
-def lay_pages(root, broker, goods=None):
-    """Lays the pages into a folder, with the place of their broker and the goods."""
-    for name in ("till_page", "stock_page"):
-        shutil.copytree(EXAMPLES / name, root / name)
+def lay_pages(root, broker, goods=None, pages=PAGES):
+    """Lays the pages into a folder as set_up.sh does, with the place of their broker and the goods."""
+    for page in ("till", "stock"):
+        name = f"{page}_page"
+        shutil.copytree(pages / page if (pages / page).exists() else pages / name, root / name)
     here = root / "till_page"
-    (here / "config.json").write_text(json.dumps({"broker": broker, "shop": SHOP}))
+    (root / "till").symlink_to("till_page")
+    if broker:
+        (here / "config.json").write_text(json.dumps({"broker": broker, "shop": SHOP}))
     if goods:
         (here / "goods.csv").write_text(goods, encoding="utf-8")
-    subprocess.run([here / "make_mqtt.sh", here], check=True, capture_output=True)
+    subprocess.run([PAGES / "make_mqtt.sh", here], check=True, capture_output=True)
 
 
 class Pages:
     """A web server with the pages, on localhost, which browsers take for a secure place."""
 
-    def __init__(self, folder, broker, goods=None):
+    def __init__(self, folder, broker, goods=None, pages=None):
         self.root = folder / "www"
-        lay_pages(self.root, f"wss://localhost:{broker.pages}", goods)
+        lay_pages(self.root, f"wss://localhost:{broker.pages}", goods, pages or PAGES)
         self.port = 0
         self.open()
 
@@ -99,26 +100,40 @@ class Pages:
         self.server.server_close()
 
 
-def browser(folder, size=(1100, 800)):
-    """A browser whose store lies in a folder, and stays there when it is killed."""
+def trusting(home, authority):
+    """A home folder in which Chromium finds that an authority is trusted (Debian's package libnss3-tools)."""
+    store = home / ".pki" / "nssdb"
+    if not store.exists():
+        store.mkdir(parents=True)
+        database = ["-d", f"sql:{store}"]
+        subprocess.run(["certutil", "-N", "--empty-password", *database], check=True)
+        subprocess.run(["certutil", "-A", "-n", "shop", "-t", "C,,", "-i", authority, *database], check=True)
+    return {**os.environ, "HOME": str(home)}
+
+
+def browser(folder, size=(1100, 800), authority=None):
+    """A browser whose store lies in a folder, and stays there when it is killed. With an authority it trusts that one, and
+    otherwise every certificate."""
     from selenium import webdriver
     from selenium.webdriver.chrome.service import Service
 
     options = webdriver.ChromeOptions()
     options.binary_location = "/usr/bin/chromium"
     words = ["--headless=new", "--no-sandbox", "--disable-dev-shm-usage", "--disable-gpu", "--no-first-run"]
-    words += ["--ignore-certificate-errors", f"--user-data-dir={folder}", "--window-size={},{}".format(*size)]
+    words += [f"--user-data-dir={folder}", "--window-size={},{}".format(*size)]
+    words += [] if authority else ["--ignore-certificate-errors"]
     words += ["--disable-background-timer-throttling", "--disable-renderer-backgrounding", "--disable-component-update"]
     words += ["--disable-backgrounding-occluded-windows", "--disable-sync", "--disable-background-networking"]
     for word in words:
         options.add_argument(word)
     options.set_capability("goog:loggingPrefs", {"browser": "ALL"})
-    return webdriver.Chrome(service=Service("/usr/bin/chromedriver"), options=options)
+    home = trusting(Path(f"{folder}.home"), authority) if authority else None
+    return webdriver.Chrome(service=Service("/usr/bin/chromedriver", env=home), options=options)
 
 
 def bridge_words(program, image, kept, broker, *more):
     """The command of a bridge."""
-    words = [PYTHON, TILLS / "bridge_mqtt.py", image, "--shop", SHOP, "--program", program, "--keep", kept]
+    words = command("bridge-mqtt", image, "--shop", SHOP, "--program", program, "--keep", kept)
     return [*map(str, [*words, *broker.words(f"bridge-{SHOP}"), *more])]
 
 

@@ -3,42 +3,28 @@
 
     tests/tablets.py PROGRAM
 
-Two tablets (Chromium) and a terminal (till_mqtt.py) sell as till 4 by turns, with wishes that are all the same: what the
+Two tablets (Chromium) and a terminal (`ledger-shop till-mqtt`) sell as till 4 by turns, with wishes that are all the same: what the
 devices call *Done* together is what the shop has counted, each once. A device that comes newly to a used number is asked, with
-that number filled in; one whose till was taken over says so. Wishes that were entered without net, while the bridge was away
+that number shown; one whose till was taken over says so. Wishes that were entered while the bridge was away
 and before the broker was killed with SIGKILL are counted once, and shown as *Done* by the device that entered them alone. A
 second tap at 0.05 to 0.6 s sells nothing, and all goods have to be chosen anew. A wrong password shows the form with a word
-beside its field, and nothing of it is kept. After an old backup both go on from the shop's number. A code of make_accounts.py signs in, as zbar reads it (Debian's zbar-tools)."""
+beside its field, and nothing of it is kept. After an old backup both go on from the shop's number."""
 
 import argparse
 import os
 import pty
-import re
 import subprocess
-import sys
 import tempfile
 import time
 from pathlib import Path
 
 import shop_scene as scene
 from served import sure, want
-from shop_scene import PYTHON, TILLS, TillPage, until
+from shop_paths import command
+from shop_scene import TillPage, until
 
 STOCK, TAPS = 1000, (0.05, 0.15, 0.3, 0.6)
 GOODS = "item,name,unit,least\n1,Mug,piece,6\n2,Postcard,piece,20\n"
-
-
-def read_code(printed, path):
-    """What zbar reads of a code that is printed with half blocks, bright on dark."""
-    from PIL import Image
-
-    halves = {" ": (0, 0), "▄": (0, 1), "▀": (1, 0), "█": (1, 1)}
-    rows = [[halves[one][half] for one in line] for line in printed.splitlines() if line for half in (0, 1)]
-    width = max(map(len, rows))
-    image = Image.new("L", (width, len(rows)), 255)
-    image.putdata([255 * one for row in rows for one in row + [1] * (width - len(row))])
-    image.resize((8 * width, 8 * len(rows)), Image.NEAREST).save(path)
-    return subprocess.run(["zbarimg", "--quiet", "--raw", path], capture_output=True, text=True, check=True).stdout.strip()
 
 
 class Trial:
@@ -77,7 +63,7 @@ class Trial:
 
     def words(self, till, book=None, *more):
         book = self.folder / (book or f"till{till}.book")
-        return [*map(str, [PYTHON, TILLS / "till_mqtt.py", till, "--book", book, *self.broker.words(f"till-1-{till}"), *more])]
+        return [*map(str, command("till-mqtt", till, "--book", book, *self.broker.words(f"till-1-{till}"), *more))]
 
     def terminal(self, till, wishes, book=None, *more):
         """A till in a terminal: its status, what it prints, and what it says."""
@@ -106,10 +92,11 @@ class Trial:
     def asked(self, page, words, number=None):
         """The page has stopped with these words, and with this number filled in; it goes on after that."""
         self.stopped(page, words)
+        self.want(not page.at("number").is_displayed(), "a number is asked for")
         if number is not None:
-            self.want(page.at("number").get_attribute("value") == str(number), f"not {number} is filled in")
+            self.want(f"request {number}" in page.at("stop").text or f"till is {number}." in page.at("stop").text, f"{number} isn't shown")
         text = page.at("stop").text
-        page.at("again").find_element("css selector", "button").click()
+        page.at("go").click()
         until(lambda: page.at("stop").text != text, "what comes after going on")
 
     def back(self, page, number):
@@ -209,7 +196,7 @@ class Trial:
         self.open_bridge()
         until(lambda: second.answers() and second.answers()[0][0] == 12, "the second tablet's answer")
         self.stopped(first, "Another device is signed in as till 4")
-        first.at("again").find_element("css selector", "button").click()
+        first.at("go").click()
         until(lambda: first.answers()[0][0] == 11, "the first tablet's own answer")
         self.done += 10
         self.want((first.answers()[0][1], second.answers()[0][1]) == (f"DONE,{STOCK - self.done + 5}", f"DONE,{STOCK - self.done}"), "answers of others")
@@ -217,7 +204,7 @@ class Trial:
         self.asked(first, "Till 4 was used on another device (request 12)", 12)
 
     def offline(self, first, second):
-        """A wish that was entered without net, and the same one by another device: only that one's is done."""
+        """A wish that was entered without net, and the same one by another device: a person sends it after all, and both count."""
         first.ready()
         before = first.answers()
         self.hidden(first, True)
@@ -231,10 +218,13 @@ class Trial:
         self.hidden(first, False)
         self.stopped(first, "Another device is signed in as till 4")
         self.want("on another device (request 13)" in first.at("stop").text, "the number isn't named")
-        self.want("dropped" in first.at("stop").text and "Sell 3 of Mug" in first.at("stop").text, "what is dropped isn't named")
+        self.want("Never done" in first.at("stop").text and "Sell 3 of Mug" in first.at("stop").text, "what waits isn't named")
         self.want(first.answers() == before, f"another device's answer is shown: {first.answers()[:1]}")
         self.counted("a wish without net")
         self.asked(first, "on another device (request 13)", 13)
+        until(lambda: first.answers()[0][0] == 14, "the answer to what waited")
+        self.done += 3
+        self.counted("what waited, under the next number")
         self.sell(first)
 
     def hidden(self, page, is_away):
@@ -327,19 +317,14 @@ class Trial:
         page.ready()
         self.sell(page)
 
-    def code(self):
-        """A code of make_accounts.py, as another program reads it: it signs in, and the password leaves the address."""
-        words = [PYTHON, TILLS / "make_accounts.py", self.broker.accounts.folder, "--qr", "till-1-1", "--page", self.pages.url("till_page")]
-        printed = "\n".join(subprocess.run(list(map(str, words)), capture_output=True, text=True, check=True).stdout.splitlines())
-        text = read_code(re.sub(r"\x1b\[[0-9;]*m", "", printed), self.folder / "code.png")
-        self.want(text == f"{self.pages.url('till_page')}#till=1&password={self.broker.password('till-1-1')}", "zbar reads another text")
+    def other_till(self):
+        """The tablet signs out, and in as another till."""
         page = TillPage(self.drivers["sign"], self.pages, 1)
         page.at("leave").click()
         until(lambda: page.at("password").is_displayed(), "the form")
         page.driver.get("about:blank")
-        page.driver.get(text)
+        page.sign_in(self.broker.password("till-1-1"))
         page.ready()
-        self.want("password" not in page.driver.current_url, "the password stays in the address")
         self.sell(page)
 
     def old_backup(self):
@@ -359,13 +344,14 @@ class Trial:
         page.ready()
         page.fill("I", 1, 1)
         page.send()
+        self.want("Never done" in page.at("stop").text and "Sell 1 of Mug" in page.at("stop").text, "what the shop refused isn't named")
         self.asked(page, "(AHEAD)", number)
         page.ready()
         page.fill("R", 2, 7)
         page.send()
-        until(lambda: any(line.startswith(f"TILL 1,{number + 1},R,2,7,DONE") for line in sure(self.program, "show", self.image)), "the page's request")
+        until(lambda: any(line.startswith(f"TILL 1,{number + 2},R,2,7,DONE") for line in sure(self.program, "show", self.image)), "the page's request")
         until(lambda: "Receive 7 of Postcard" in page.at("answers").text, "the answer after an old backup")
-        self.want(page.answers()[0][0] == number + 1, f"after an old backup the page shows {page.answers()[:2]}")
+        self.want([one for one, _ in page.answers()[:2]] == [number + 2, number + 1], f"after an old backup the page shows {page.answers()[:2]}")
         status, out, told = self.terminal(5, "I,2,1\n", "new.book")
         self.want(status == 4 and "AHEAD" in told, f"the terminal: {status} {out} {told}")
         last = [line.split(",")[1] for line in sure(self.program, "show", self.image) if line.startswith("TILL 5,")]
@@ -378,7 +364,7 @@ class Trial:
         self.main_way()
         self.taps()
         self.sign_in()
-        self.code()
+        self.other_till()
         self.counted("all")
         self.old_backup()
         print(f"tablets: {self.done} sold by 3 tablets and a terminal, {self.done} counted; {len(TAPS)} double taps, {self.checks} checks; no difference")

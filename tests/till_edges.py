@@ -22,14 +22,11 @@ import tempfile
 import time
 from pathlib import Path
 
-EXAMPLES = Path(__file__).resolve().parent.parent / "examples" / "tills"
-sys.path.insert(0, str(EXAMPLES))
-
-import account
-import wishes
 from served import sure, want
+from shop_paths import PYTHON, SHOP, command
 
-PYTHON = "/usr/bin/python3"
+from ledger_shop import account, wishes
+
 # what is no answer to `3,5,R,1,5`, `3,5,S,1,5` or `3,5,M,1,5,2`
 FORGED = {
     "R,1,5": ["", "3,5,", "3,5,DONE", "3,5,DONE,", "3,5,DONE,5\n", "3,5,DONE,5\n= 999999999,DONE,1", "3,5,DONE,5\r"],
@@ -61,18 +58,18 @@ class Pipes:
     def __init__(self, program, folder):
         self.folder, self.image = folder, folder / "shop.d64"
         sure(program, "format", self.image, "--tills", 64)
-        bridge = f"'{EXAMPLES / 'bridge.py'}' '{self.image}' --pipes --program '{program}'"
+        bridge = f"'{SHOP / 'ledger-shop'}' bridge '{self.image}' --pipes --program '{program}'"
         self.words = ["--pipe", f"{PYTHON} {bridge}"]
 
     def till(self, number, book, typed=None, **more):
         """A till's run: its status, and what it printed."""
-        command = [PYTHON, EXAMPLES / "till.py", number, "--book", book, *self.words]
-        done = subprocess.run([*map(str, command)], input=typed, capture_output=True, text=True, timeout=120, **more)
+        asked = command("till", number, "--book", book, *self.words)
+        done = subprocess.run([*map(str, asked)], input=typed, capture_output=True, text=True, timeout=120, **more)
         return done.returncode, done.stdout.splitlines(), done.stderr
 
     def start(self, *words):
         pipes = {"stdin": subprocess.PIPE, "stdout": subprocess.PIPE, "stderr": subprocess.PIPE, "text": True}
-        return subprocess.Popen([PYTHON, *map(str, words)], **pipes)
+        return subprocess.Popen([*map(str, command(*words))], **pipes)
 
 
 def forged(folder):
@@ -92,7 +89,7 @@ def forged(folder):
 
 def one_book(shop):
     book = shop.folder / "shared"
-    first = shop.start(EXAMPLES / "till.py", 1, "--book", book, *shop.words)
+    first = shop.start("till", 1, "--book", book, *shop.words)
     first.stdin.write("S,1,5\n")
     first.stdin.flush()
     want(first.stdout.readline() == "1 S,1,5 DONE,5\n", "the first till isn't answered")
@@ -146,13 +143,13 @@ def typed(shop):
     want((status, out) == (1, answers) and "'S,3' is no wish" in err, f"a pipe: {status} {out} {err}")
     (shop.folder / "wishes").write_text(lines)
     words = ["--wishes", shop.folder / "wishes"]
-    command = [PYTHON, EXAMPLES / "till.py", 4, "--book", shop.folder / "filed", *words, *shop.words]
-    done = subprocess.run([*map(str, command)], capture_output=True, text=True, timeout=120)
+    asked = command("till", 4, "--book", shop.folder / "filed", *words, *shop.words)
+    done = subprocess.run([*map(str, asked)], capture_output=True, text=True, timeout=120)
     want((done.returncode, done.stdout) == (1, "1 S,3,1 DONE,1\n"), f"a file: {done.returncode} {done.stdout}")
     ours, theirs = pty.openpty()
-    command = [PYTHON, EXAMPLES / "till.py", 5, "--book", shop.folder / "terminal", *shop.words]
+    asked = command("till", 5, "--book", shop.folder / "terminal", *shop.words)
     pipes = {"stdout": subprocess.PIPE, "stderr": subprocess.PIPE, "text": True}
-    till = subprocess.Popen([*map(str, command)], stdin=theirs, **pipes)
+    till = subprocess.Popen([*map(str, asked)], stdin=theirs, **pipes)
     os.close(theirs)
     os.write(ours, lines.encode() + b"\x04")
     out, err = till.communicate(timeout=120)
@@ -170,8 +167,8 @@ def without_pika(shop):
     bare = {"env": {**os.environ, "PYTHONPATH": str(folder)}}
     status, out, err = shop.till(7, shop.folder / "bare.book", "S,7,1\n", **bare)
     want((status, out) == (0, ["1 S,7,1 DONE,1"]), f"without pika: {status} {out} {err}")
-    command = [PYTHON, EXAMPLES / "till.py", 7, "--book", shop.folder / "bare2.book"]
-    done = subprocess.run([*map(str, command)], input="S,7,1\n", capture_output=True, text=True, timeout=60, **bare)
+    asked = command("till", 7, "--book", shop.folder / "bare2.book")
+    done = subprocess.run([*map(str, asked)], input="S,7,1\n", capture_output=True, text=True, timeout=60, **bare)
     want(done.returncode == wishes.LOOK and "python3-pika" in done.stderr and "Traceback" not in done.stderr, f"without pika: {done.stderr}")
     return 2
 
@@ -241,15 +238,15 @@ def silent(shop):
     standing.write_text("#!/bin/sh\nexec sleep 60\n")
     standing.chmod(0o755)
     waits = [
-        ("till.py", ["--broker", f"amqp://127.0.0.1:{port}/"], f"no broker at 127.0.0.1:{port}"),
-        ("till_mqtt.py", ["--broker", f"mqtt://127.0.0.1:{port}"], f"no broker at 127.0.0.1:{port}"),
-        ("till.py", ["--broker", f"amqps://127.0.0.1:{port}/"], f"no broker at 127.0.0.1:{port}"),
-        ("till.py", ["--pipe", standing], "the command gives no answer"),
-        ("till.py", ["--pipe", "true"], "the command ends"),
+        ("till", ["--broker", f"amqp://127.0.0.1:{port}/"], f"no broker at 127.0.0.1:{port}"),
+        ("till-mqtt", ["--broker", f"mqtt://127.0.0.1:{port}"], f"no broker at 127.0.0.1:{port}"),
+        ("till", ["--broker", f"amqps://127.0.0.1:{port}/"], f"no broker at 127.0.0.1:{port}"),
+        ("till", ["--pipe", standing], "the command gives no answer"),
+        ("till", ["--pipe", "true"], "the command ends"),
     ]
     tills = []
     for number, (script, words, text) in enumerate(waits):
-        till = shop.start(EXAMPLES / script, 6, "--book", shop.folder / f"silent{number}", *words)
+        till = shop.start(script, 6, "--book", shop.folder / f"silent{number}", *words)
         till.stdin.write("S,6,1\n")
         till.stdin.flush()
         tills.append((till, text, words))

@@ -4,16 +4,16 @@
     tests/tills.py PROGRAM [--over rabbit|mqtt] [--tills N] [--wishes N] [--every LINES] [--seed N] [--folder FOLDER]
 
 A cluster of three RabbitMQ nodes, or one mosquitto, is started on the loopback address, with two bridges and so many
-tills of examples/tills, each with its own list of so many wishes. At random moments one is killed with SIGKILL: a
+tills of the folder shop, each with its own list of so many wishes. At random moments one is killed with SIGKILL: a
 till, a bridge, the `serve` behind it, a node of the cluster (which is started again some seconds later). Meanwhile
 old messages are sent once more, and messages that are no request, that are too long, with LF within, of another till
-than their key says, and of tills that there aren't. The brokers run the configuration of examples/tills, so each till and
+than their key says, and of tills that there aren't. The brokers run the configuration of shop/deploy, so each till and
 each bridge comes over TLS and with an account of its own. Then
 - each till has heard the answer to each of its wishes, once and in order, and never heard `CLASH` or `AHEAD`;
 - these are the answers of docs/MESSAGES.md (tests/shop_rule.py) over the requests of the journal, which are all that
   counted, each once and with its reply; and `show` prints what comes of them;
 - what is on hand of all items is what came in and didn't go out, reckoned from what the tills heard alone;
-- `format` and `play` make the same shop of the journal (examples/tills/rebuild.py).
+- `format` and `play` make the same shop of the journal (`ledger-shop rebuild`).
 At last nothing is killed, and the time from wish to answer is taken, through the broker and through a plain pipe."""
 
 import argparse
@@ -29,19 +29,17 @@ import time
 from collections import Counter
 from pathlib import Path
 
-EXAMPLES = Path(__file__).resolve().parent.parent / "examples" / "tills"
-sys.path.insert(0, str(EXAMPLES))
-
-import account
 import brokers
-import journal
-import wishes
 from served import sure, want
+from shop_paths import command
 from shop_rule import Shop, request_of
 
-PYTHON = "/usr/bin/python3"
+from ledger_shop import account, journal, wishes
+
 # exit statuses with which a till or a bridge is to be started again: killed, or `serve` was killed beneath it
 AGAIN = (-9, 75)
+# and those of a till that did all its wishes, also if some were refused
+DONE = (0, wishes.REFUSED)
 STOCK = 1000
 # the seconds between two kills, at most, and the mean bytes of a journal's line
 LONGEST, LENGTH = 5, 55
@@ -79,7 +77,7 @@ class Supervised:
         status = self.process.poll()
         if status is None or self.done:
             return
-        self.done = status == 0
+        self.done = status in DONE
         if not self.done:
             want(status in self.AGAIN, f"{self.name} ended with status {status}: {Path(self.log).read_text()[-500:]}")
             self.start()
@@ -114,7 +112,7 @@ class Rabbit:
         self.cluster = brokers.Rabbit(folder, **more)
         self.away, self.back = None, 0
         self.words = self.cluster.words
-        self.till, self.bridge = "till.py", "bridge.py"
+        self.till, self.bridge = "till", "bridge"
         self.start, self.stop = self.cluster.start, self.cluster.stop
 
     def strike(self, draw):
@@ -138,7 +136,7 @@ class Rabbit:
         return self.link_as(till, account.account_of(self.cluster.accounts.file(user or f"till-1-{till}")))
 
     def link_as(self, till, user):
-        import till as over_rabbit
+        from ledger_shop import till as over_rabbit
 
         places = [account.Place(text, "amqp") for text in self.cluster.places]
         return over_rabbit.Broker(places, "1", till, user, self.cluster.ca)
@@ -154,7 +152,7 @@ class Mqtt:
     def __init__(self, folder, **more):
         self.broker = brokers.Mosquitto(folder, **more)
         self.words = self.broker.words
-        self.till, self.bridge = "till_mqtt.py", "bridge_mqtt.py"
+        self.till, self.bridge = "till-mqtt", "bridge-mqtt"
         self.start, self.stop = self.broker.start, self.broker.stop
 
     def strike(self, _draw):
@@ -169,7 +167,7 @@ class Mqtt:
         return self.link_as(till, account.account_of(self.broker.accounts.file(user or f"till-1-{till}")))
 
     def link_as(self, till, user):
-        import till_mqtt
+        from ledger_shop import till_mqtt
 
         place = account.Place(self.broker.places[0], "mqtt")
         return till_mqtt.Broker(place, "1", till, user, self.broker.ca)
@@ -222,7 +220,7 @@ def journals(path):
 
 def requests_in(path):
     """The requests of a journal's file with their replies."""
-    return journal.Entries(path.read_bytes(), path).requests if path.exists() else []
+    return [(one.request, one.reply) for one in journal.answers_in([path])] if path.exists() else []
 
 
 class Trial:
@@ -248,16 +246,16 @@ class Trial:
 
     def bridge(self, name):
         words = [self.image, "--program", self.program, "--keep", self.kept, "--keep-size", TURN]
-        command = [PYTHON, EXAMPLES / self.broker.bridge, *words, *self.broker.words("bridge-1")]
-        return Supervised(f"bridge {name}", command, self.folder / f"bridge{name}.log")
+        asked = command(self.broker.bridge, *words, *self.broker.words("bridge-1"))
+        return Supervised(f"bridge {name}", asked, self.folder / f"bridge{name}.log")
 
     def till(self, till):
         lines = wishes_of(self.draw, till, self.given.tills, self.given.wishes)
         path = self.folder / f"wishes{till}"
         path.write_text("".join(line + "\n" for line in lines))
         words = [till, "--book", self.book(till), "--wishes", path, *self.broker.words(f"till-1-{till}")]
-        command = [PYTHON, EXAMPLES / self.broker.till, *words]
-        return Supervised(f"till {till}", command, self.folder / f"till{till}.log")
+        asked = command(self.broker.till, *words)
+        return Supervised(f"till {till}", asked, self.folder / f"till{till}.log")
 
     def book(self, till):
         return self.folder / f"book{till}"
@@ -355,13 +353,14 @@ class Trial:
         want(on_hand == came, f"{on_hand} are on hand, and {came} came in and didn't go out")
         want(sure(self.program, "check", self.image) == ["OK"], "check isn't OK")
         words = [self.folder / "new.d64", self.kept, "--tills", self.given.tills, "--image", self.image]
-        sure(PYTHON, EXAMPLES / "rebuild.py", *words, "--program", self.program)
+        sure(*command("rebuild", *words, "--program", self.program))
         return len(answers)
 
     def together(self):
         """How many requests a bridge handed over with others."""
-        lines = (line for path in journals(self.kept) for line in path.read_text().splitlines())
-        return sum(len(found[2].split()) for found in map(journal.TAKES.fullmatch, lines) if found)
+        notes = (line.note for path in journals(self.kept) for line in journal.lines_in(path.read_bytes())[0])
+        counts = (len(one.requests) for one in notes if isinstance(one, journal.Takes))
+        return sum(count for count in counts if count > 1)
 
     def report(self, seconds):
         counted = self.judge()

@@ -5,7 +5,7 @@
 # that is away, and nodes of a cluster that lose each other. Then, over RabbitMQ and over MQTT, 8 tills with 40 wishes
 # each, all in some six minutes; or with `full` 64 tills and 20,000 wishes, half an hour. It wants Debian's packages
 # rabbitmq-server, mosquitto, python3-pika, python3-paho-mqtt and openssl, and installs nothing; the brokers are its own,
-# on the loopback address, with the configuration of examples/tills. tests/tills.py says what is compared. The status is
+# on the loopback address, with the configuration of shop/deploy. tests/tills.py says what is compared. The status is
 # 1 at the first difference.
 set -eu
 top="$(CDPATH= cd -- "$(dirname -- "$0")/.." && pwd)"
@@ -21,8 +21,8 @@ work=$(mktemp -d)
 trap 'rm -rf "$work"' EXIT
 printf 'S,1,10\nI,1,3\nI,1,8\n' >"$work/wishes"
 "$program" format "$work/shop.d64" --tills 4 >/dev/null
-"$top/examples/tills/till.py" 2 --book "$work/book" --wishes "$work/wishes" \
-    --pipe "'$top/examples/tills/bridge.py' '$work/shop.d64' --pipes --program '$program'" >"$work/answers"
+"$top/shop/ledger-shop" till 2 --book "$work/book" --wishes "$work/wishes" \
+    --pipe "'$top/shop/ledger-shop' bridge '$work/shop.d64' --pipes --program '$program'" >"$work/answers"
 printf '1 S,1,10 DONE,10\n2 I,1,3 DONE,7\n3 I,1,8 SHORT,7\n' | cmp - "$work/answers"
 echo "a till and a bridge over pipes: no difference"
 for script in till_edges kept_lines; do

@@ -30,6 +30,7 @@ from pathlib import Path
 import tills
 from served import want
 from shared_disk import Glusterfs, Local
+from shop_paths import command
 
 HERE = "192.0.2.1"
 # seconds between two words of a broker, seconds in which it gives up a client, and that a change of hands may take
@@ -144,8 +145,8 @@ class Two(tills.Trial):
         words += self.broker.words("bridge-1")
         if self.given.over == "mqtt":
             words += ["--silence", HEARTBEAT]
-        command = [tills.PYTHON, tills.EXAMPLES / self.broker.bridge, *words]
-        return Machine(name, self.given.net, self.disk, command, self.folder / f"machine{name}.log")
+        asked = command(self.broker.bridge, *words)
+        return Machine(name, self.given.net, self.disk, asked, self.folder / f"machine{name}.log")
 
     def tend(self):
         """While machines change hands no till is done: it gets more wishes, and is started again."""

@@ -2,7 +2,7 @@
 # Two machines that see one image, and are cut off, stopped and killed in turns:
 #   tests/two_machines.sh PROGRAM [CHANGES]
 # PROGRAM is what `tools/program` prints. Each machine is a network namespace with a
-# bridge of examples/tills in it; a third one has the broker and the tills, and a switch with a cable to each machine.
+# bridge of the folder shop in it; a third one has the broker and the tills, and a switch with a cable to each machine.
 # CHANGES times (24) the machine that serves loses its cable, or its power, or all its processes, or stops for a
 # while, and the other has to go on: over RabbitMQ and over MQTT with a folder that both see, and over RabbitMQ with a
 # GlusterFS disk in the third namespace, which a machine without its cable loses too. tests/two_machines.py says what is

@@ -1,20 +1,16 @@
-"""Starts, stops and kills the units of examples/tills, as the first process's own child: `tests/units.sh` runs it in a
+"""Starts, stops and kills the units of shop/deploy, as the first process's own child: `tests/units.sh` runs it in a
 container. Each unit is verified; a till asks through the bridge while the bridge is killed, its `serve` is killed, it is
 stopped and started, and its broker goes away and comes back; what a keeper has to look at isn't started again, and the
-alarm's unit says so. The brokers run the configuration of examples/tills, and the units get their accounts as
+alarm's unit says so. The brokers run the configuration of shop/deploy, and the units get their accounts as
 credentials."""
 
 import os
 import shutil
 import signal
 import subprocess
-import sys
 import tempfile
 import time
 from pathlib import Path
-
-INSTALLED = Path("/usr/lib/ledger")
-sys.path.insert(0, str(INSTALLED))
 
 import brokers
 from served import sure, want
@@ -142,7 +138,7 @@ class Mqtt:
 
     def __init__(self, folder, number):
         self.broker = brokers.Mosquitto(folder)
-        configure(self.broker, "bridge-mqtt.env", "till_mqtt.py", number)
+        configure(self.broker, "bridge-mqtt.env", "till-mqtt", number)
         self.start = self.back = self.broker.start
         self.strike = self.stop = self.broker.stop
 
@@ -152,7 +148,7 @@ class Rabbit:
 
     def __init__(self, folder, number):
         self.broker = brokers.Rabbit(folder, 1)
-        configure(self.broker, "bridge.env", "till.py", number)
+        configure(self.broker, "bridge.env", "till", number)
         self.start, self.stop = self.broker.start, self.broker.stop
 
     def strike(self):
@@ -170,7 +166,7 @@ def configure(broker, bridge, till, number):
         (OWN / f"{name}.account").chmod(0o600)
     brokers = f'BROKERS="--broker {broker.places[0]} --ca {OWN}/ca.crt"\n'
     (OWN / bridge).write_text(brokers)
-    (OWN / "till.env").write_text(f"TILL={INSTALLED}/{till}\nSHOP=1\n{brokers}")
+    (OWN / "till.env").write_text(f"TILL=\"/usr/bin/ledger-shop {till}\"\nSHOP=1\n{brokers}")
 
 
 def verified(unit):

@@ -1,8 +1,8 @@
 #!/bin/sh
-# The units of examples/tills under a systemd of their own:
+# The units of shop/deploy under a systemd of their own:
 #   tests/units.sh PROGRAM
 # PROGRAM is what `tools/program` prints. A container is started with this machine's
-# /usr, to which the program and examples/tills come as their README installs them, and nothing else: its net is its
+# /usr, to which the program and the shop's package come as set_up.sh installs them, and nothing else: its net is its
 # own loopback, and it falls at the end. In it tests/units.py starts, stops and kills the units by `systemctl`, over
 # mosquitto and over a RabbitMQ node, and tells what it sees. It wants to be root, and Debian's packages
 # systemd-container, rabbitmq-server, mosquitto, python3-pika, python3-paho-mqtt and python3-sdnotify, and installs nothing. The status
@@ -22,7 +22,7 @@ trap 'rm -rf "$work"' EXIT
 trap 'exit 1' INT TERM
 root="$work/root"
 mkdir -p "$root/usr" "$root/etc/systemd/system/multi-user.target.wants" "$root/etc/ledger" "$root/var/lib" \
-    "$work/usr/bin" "$work/usr/lib/ledger" "$work/told"
+    "$work/usr/bin" "$work/usr/lib/ledger/shop" "$work/told"
 for name in bin sbin lib lib64; do
     ln -s "usr/$name" "$root/$name"
 done
@@ -32,9 +32,10 @@ printf 'root:x:0:\nledger:x:990:\n' >"$root/etc/group"
 echo "127.0.0.1 localhost" >"$root/etc/hosts"
 install -d -o 990 -g 990 "$root/var/lib/ledger"
 install -m 755 "$program" "$work/usr/bin/ledger"
-install -m 755 "$top"/examples/tills/*.py "$top"/examples/tills/*.sh "$work/usr/lib/ledger/"
-install -m 644 "$top"/examples/tills/*.conf "$work/usr/lib/ledger/"
-cp "$top"/examples/tills/*.service "$root/etc/systemd/system/"
+cp -a "$top/shop/ledger-shop" "$top/shop/src" "$work/usr/lib/ledger/shop/"
+cp "$top/shop/deploy/alarm.sh" "$work/usr/lib/ledger/"
+ln -s ../lib/ledger/shop/ledger-shop "$work/usr/bin/ledger-shop"
+cp "$top"/shop/deploy/*.service "$root/etc/systemd/system/"
 for name in systemd-firstboot systemd-logind systemd-networkd systemd-resolved console-getty rabbitmq-server mosquitto; do
     ln -s /dev/null "$root/etc/systemd/system/$name.service"
 done
@@ -52,7 +53,7 @@ END
 ln -s ../trial.service "$root/etc/systemd/system/multi-user.target.wants/trial.service"
 
 SYSTEMD_NSPAWN_UNIFIED_HIERARCHY=1 systemd-nspawn --quiet --register=no --keep-unit --private-network --machine="units$$" --directory="$root" \
-    --overlay="/usr:$work/usr:/usr" --bind-ro="$top/tests:/trial" --bind="$work/told:/told" \
+    --overlay="/usr:$work/usr:/usr" --bind-ro="$top/tests:/trial" --bind-ro="$top/shop:/shop" --bind="$work/told:/told" \
     --boot systemd.firstboot=off >"$work/boot" 2>&1 </dev/null && status=0 || status=$?
 cat "$work/told/out" 2>/dev/null || cat "$work/boot"
 exit "$status"
