@@ -1,8 +1,9 @@
 //! What the words mean that the program prints: the sentences that a person reads at a terminal.
 
+use crate::cures::{FORMAT, GEOS};
 use crate::near_names::NO_SUCH_FILE;
 use crate::refusal_subjects::{
-    BAD_LINE, CUT_SHORT, FEWER, FOREIGN_LOG, FORMAT, GEOS, KEPT, LOCKED, LOG_AWAY, NAMED,
+    BAD_LINE, CUT_SHORT, FEWER, FOREIGN_LOG, KEPT, LOCKED, LOG_AWAY, NAMED,
     NO_MEMORY, NO_ROOM, NO_SHOP, SECOND_NAME, SHOP_FILE, TAKEN, said_of_fault,
 };
 use crate::size_lines::SIZE;
