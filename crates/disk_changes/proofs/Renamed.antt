@@ -30,7 +30,7 @@ module _ (image from to : List ℕ) (a b : MemDisk) (whole : IsSoundDisk image) 
 
   pub rename-refused : (fault : CommandFault) → Renames memory a b from to (Err fault)
       → IsRenameRefusal image from to fault
-  rename-refused faults.NoFile c = record { whole = whole; but = inr ((c.layout whole.layout sound).not_found refl) }
-  rename-refused faults.FileExists c = record { whole = whole; but = (c.layout whole.layout sound).exists refl }
+  rename-refused faults.NoFile c = record { disk = whole; but = inr ((c.layout whole.layout sound).not_found refl) }
+  rename-refused faults.FileExists c = record { disk = whole; but = (c.layout whole.layout sound).exists refl }
   rename-refused faults.Device c = absurd (never-fails a b c.failures)
   rename-refused _ c = absurd (⊎_elim (λ e. cc) (⊎_elim (λ e. cc) (λ e. cc)) c.told)

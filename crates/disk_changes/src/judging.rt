@@ -123,7 +123,10 @@ fn is_named_cut(alloc: Global, image: &[u8], name: &[u8]) -> Result<bool, Comman
     ensures err { IfErr result (IsLoadFault image.now) }
 {
     let mut disk = load(alloc, image)?;
-    Ok(cut_named(&mut disk, name).is_some())
+    match cut_named(&mut disk, name) {
+        Some(_) => Ok(true),
+        None => Ok(false),
+    }
 }
 
 /// Whether a change of the file of this name accepts that a file is cut short: if that is asked, or if it is this very file.

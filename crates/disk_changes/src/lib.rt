@@ -38,5 +38,5 @@ pub use lines::record_storing::store_image;
 pub use mended::kinds::has_geos_sign;
 pub use mended::mending::repair_image;
 pub use mended::rebuilding::rebuild_image;
-pub use remedies::{Remedy, Way, remedy, try_repair};
+pub use remedies::{Remedy, Way, find_remedy};
 pub use shop_files::has_shop_file;

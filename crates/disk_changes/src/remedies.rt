@@ -1,9 +1,9 @@
 //! What can be done for a disk: which repair of it ends well. Each is tried in memory, so that what is said of it holds.
-ghost use Rattle.std.specs.Prelude.{◌≡◌, IfErr, IfOk, IsTrue, length};
+ghost use Rattle.std.specs.Prelude.{◌≡◌, ℕ, IfErr, IfOk, IsTrue, length};
 ghost use Rattle.command_faults.specs.Faults.{IsLoadFault};
 ghost use Rattle.d64_image.specs.Memory.{sectors_in};
 ghost use Rattle.disk_changes.specs.Remedies.{EndsBy, HasNoneCut, IsRefusedBy, IsRemedy, change_by as change_of};
-ghost use Rattle.disk_changes.specs.declared.remedies.Way.TheVariants.{Plain};
+ghost use Rattle.disk_changes.specs.declared.remedies.Way.TheVariants.{Freeing, Plain};
 ghost use Rattle.disk_layout.specs.Clean.{IsClean};
 
 use crate::changes::Change;
@@ -87,13 +87,23 @@ fn change_by(way: Way) -> Change<'static>
 }
 
 /// Tries a repair in memory: how many sectors it leaves, or why it is refused. Nothing is written.
-pub fn try_repair(alloc: Global, image: &[u8], way: Way) -> Result<u16, CommandFault>
+fn try_repair(alloc: Global, image: &[u8], way: Way) -> Result<u16, CommandFault>
     ensures ok { IfOk result (EndsBy image.now way) }
     ensures err { IfErr result (IsRefusedBy image.now way) }
 {
     match change(alloc, &change_by(way), image) {
         Ok(made) => Ok(made.left),
         Err(fault) => Err(fault),
+    }
+}
+
+/// Whether no file of an image is cut short.
+fn is_uncut(alloc: Global, image: &[u8]) -> bool
+    ensures { IsTrue result → HasNoneCut image.now }
+{
+    match taken_disk(alloc, image, Loss::Refused) {
+        Ok(_) => true,
+        Err(_) => false,
     }
 }
 
@@ -104,12 +114,19 @@ fn is_whole(alloc: Global, image: &[u8]) -> Result<bool, CommandFault>
     ensures err { IfErr result (IsLoadFault image.now) }
 {
     let mut disk = load(alloc, image)?;
-    if check(&mut disk).is_err() {
-        return Ok(false);
-    }
-    match taken_disk(alloc, image, Loss::Refused) {
-        Ok(_) => Ok(true),
+    match check(&mut disk) {
+        Ok(_) => Ok(is_uncut(alloc, image)),
         Err(_) => Ok(false),
+    }
+}
+
+/// Whether `repair --free` can be made.
+fn can_free(alloc: Global, image: &[u8]) -> bool
+    ensures { IsTrue result → (none : ℕ) × EndsBy image.now Freeing none }
+{
+    match try_repair(alloc, image, Way::Freeing) {
+        Ok(_) => true,
+        Err(_) => false,
     }
 }
 
@@ -118,14 +135,20 @@ fn plain_way(alloc: Global, image: &[u8], left: u16) -> Remedy
     requires { EndsBy image.now Plain left }
     ensures { IsRemedy image.now result }
 {
-    if left == 0 || check_usable(alloc, image).is_err() {
-        return Remedy::Repair {
-            way: Way::Plain,
-            left,
-        };
+    let repair = Remedy::Repair {
+        way: Way::Plain,
+        left,
+    };
+    if left == 0 {
+        return repair;
     }
-    let freed = try_repair(alloc, image, Way::Freeing).is_ok();
-    Remedy::Strays { left, freed }
+    match check_usable(alloc, image) {
+        Ok(()) => {
+            let freed = can_free(alloc, image);
+            Remedy::Strays { left, freed }
+        }
+        Err(_) => repair,
+    }
 }
 
 /// What these ways of repairing do: the first that can be gone. `Rescue` with the reason of the last if none can.
@@ -151,7 +174,7 @@ fn other_way(alloc: Global, image: &[u8]) -> Remedy
 /// Each is tried in memory, and nothing is written.
 ///
 /// The errors are `ImageSize` and `NoMemory`.
-pub fn remedy(alloc: Global, image: &[u8]) -> Result<Remedy, CommandFault>
+pub fn find_remedy(alloc: Global, image: &[u8]) -> Result<Remedy, CommandFault>
     ensures ok { IfOk result (IsRemedy image.now) }
     ensures err { IfErr result (IsLoadFault image.now) }
 {

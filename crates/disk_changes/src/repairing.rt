@@ -1,5 +1,6 @@
 //! The disk of an image repaired.
-ghost use Rattle.std.specs.Prelude.{◌≡◌, IfErr, IfOk, None, OnOk};
+ghost use Rattle.std.specs.Prelude.{◌≡◌, ◌↔◌, IfErr, IfOk, IsTrue, None, OnOk, true};
+ghost use Rattle.damaged_files.specs.cut.Geos.{HasGeosEntry};
 ghost use Rattle.d64_image.specs.Memory.{disk_image, sectors_in};
 ghost use Rattle.damaged_files.specs.cut.Settled.{IsSettled};
 ghost use Rattle.damaged_files.specs.cut.Told.{IsShortfallOf};
@@ -87,6 +88,13 @@ fn settled_and_mended(
     }
 }
 
+/// Whether sectors that no file owns are to become free on a disk with a file of GEOS.
+fn frees_geos(disk: &mut MemDisk, free: bool) -> bool
+    ensures { IsTrue result ↔ ((free ≡ true) × HasGeosEntry (disk_image disk.old)) }
+{
+    free && has_geos_entry(disk)
+}
+
 /// The image with its disk mended, if no file of it is cut short. If sectors that no file owns are to become free, no file is one
 /// of GEOS: they may hold its records.
 fn whole_and_mended(alloc: Global, image: &[u8], free: bool) -> Result<Changed, CommandFault>
@@ -94,7 +102,7 @@ fn whole_and_mended(alloc: Global, image: &[u8], free: bool) -> Result<Changed, 
     ensures err { IfErr result (IsRepairRefusal image.now free Refused) }
 {
     let mut disk = taken_disk(alloc, image, Loss::Refused)?;
-    if free && has_geos_entry(&mut disk) {
+    if frees_geos(&mut disk, free) {
         return Err(CommandFault::Geos);
     }
     mended_image(alloc, image, free)

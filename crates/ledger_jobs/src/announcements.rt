@@ -9,7 +9,7 @@ use crate::refusal_subjects::{CUT_SHORT, FEWER};
 use crate::typed_names::warn_of_name;
 use command_faults::CommandFault;
 use damaged_files::Shortfall;
-use disk_changes::{Remedy, has_geos_sign, remedy};
+use disk_changes::{Remedy, find_remedy, has_geos_sign};
 use disk_layout::{Fault, map_place};
 use image_file::{HostFiles, Locks, ShownPath};
 use image_looks::Look;
@@ -70,7 +70,7 @@ where
         return None;
     }
     let image = image_of_file(rt, path).ok()?;
-    remedy(rt.alloc(), image.as_slice()).ok()
+    find_remedy(rt.alloc(), image.as_slice()).ok()
 }
 
 /// Prints what a fault of the image at a path means, and what can be done about this very image.

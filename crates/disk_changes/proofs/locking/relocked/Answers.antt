@@ -47,7 +47,7 @@ module _ (image name : List ℕ) (a b : MemDisk) (whole : IsSoundDisk image) (is
       }
 
   refused : (fault : CommandFault) → FindsEntry memory a b name (Err fault) → IsLockRefusal image name fault
-  refused faults.NoFile c = record { whole = whole; but = inr (c.not_found whole.layout sound refl) }
+  refused faults.NoFile c = record { disk = whole; but = inr (c.not_found whole.layout sound refl) }
   refused faults.Device c = absurd (never-fails a b c.failures)
   refused _ c = absurd (⊎_elim (λ e. cc) (λ e. cc) c.told)
 
