@@ -59,8 +59,9 @@ It prints MADE. To fill the file, use store.
 Exit status:
   0  the file was made
   1  the disk isn't clean (LAYOUT and a fault: repair mends MAPWRONG and
-     COUNTWRONG, repair --sides also BADSIDE, nothing else), SHORT,
-     IMAGE SIZE, LOG, LOG AWAY, FILE EXISTS, DISK FULL: nothing was done
+     COUNTWRONG, repair --sides also BADSIDE, nothing else), SHORT, GEOS,
+     IMAGE SIZE, LOG, LOG AWAY, TWO NAMES, FILE EXISTS, DISK FULL: nothing was
+     done
   2  NAME, LENGTH
   3  FILE, NO MEMORY, IN USE, DEVICE
 
@@ -90,8 +91,8 @@ that goes beyond the next position is refused. Otherwise a line has one column.
 Exit status:
   0  the records were stored
   1  the disk isn't clean (LAYOUT: repair mends MAPWRONG and COUNTWRONG,
-     repair --sides also BADSIDE, nothing else), SHORT, IMAGE SIZE, LOG,
-     LOG AWAY, NO FILE, RECORDS LINE n, DISK FULL: nothing was done
+     repair --sides also BADSIDE, nothing else), SHORT, GEOS, IMAGE SIZE, LOG,
+     LOG AWAY, TWO NAMES, NO FILE, RECORDS LINE n, DISK FULL: nothing was done
   2  NAME, POSITIONS, FLAGS
   3  FILE, NO MEMORY, IN USE, DEVICE
 
@@ -135,13 +136,14 @@ refused (FILE): cbmconvert takes them out.
 Exit status:
   0  the file is on the disk
   1  the disk isn't clean (LAYOUT and a fault: repair mends MAPWRONG and
-     COUNTWRONG, repair --sides also BADSIDE, nothing else), SHORT,
-     IMAGE SIZE, LOG, LOG AWAY, FILE EXISTS, DISK FULL: nothing was done
+     COUNTWRONG, repair --sides also BADSIDE, nothing else), SHORT, GEOS,
+     IMAGE SIZE, LOG, LOG AWAY, TWO NAMES, FILE EXISTS, DISK FULL: nothing was
+     done
   2  NAME, TYPE
   3  FILE, NO MEMORY, IN USE, DEVICE
 
 Example: ledger put new.d64 GAME game.prg --type prg",
-    values: &[IMAGE, NAME, FILE, FILE_TYPE, ACCEPT_AWAY, DRY_RUN],
+    values: &[IMAGE, NAME, FILE, FILE_TYPE, ACCEPT_LOSS, DRY_RUN],
 };
 
 /// The image whose file is copied.
@@ -173,13 +175,13 @@ Exit status:
   0  the copy is on the disk
   1  FROM has no such file (NO FILE), or not whole (LAYOUT and a fault, SHORT).
      The disk isn't clean (LAYOUT: repair mends MAPWRONG and COUNTWRONG,
-     repair --sides also BADSIDE, nothing else), SHORT, IMAGE SIZE, LOG,
-     LOG AWAY, FILE EXISTS, DISK FULL: nothing was done
+     repair --sides also BADSIDE, nothing else), SHORT, GEOS, IMAGE SIZE, LOG,
+     LOG AWAY, TWO NAMES, FILE EXISTS, DISK FULL: nothing was done
   2  NAME
   3  FILE, NO MEMORY, IN USE, DEVICE
 
 Example: ledger copy-file old.d64 GAME new.d64",
-    values: &[FROM, NAME, IMAGE, ACCEPT_AWAY, DRY_RUN, COPY_NAME],
+    values: &[FROM, NAME, IMAGE, ACCEPT_LOSS, DRY_RUN, COPY_NAME],
 };
 
 /// The name of a file that gets another.
@@ -208,7 +210,7 @@ It renames the first file that has the name OLD, and prints RENAMED.
 Exit status:
   0  the file was renamed
   1  a file or the directory is damaged (LAYOUT and a fault: repair --sides
-     mends BADSIDE, nothing else), SHORT, IMAGE SIZE, LOG, LOG AWAY, NO FILE,
+     mends BADSIDE, nothing else), IMAGE SIZE, LOG, LOG AWAY, TWO NAMES, NO FILE,
      FILE EXISTS (NEW), SHOP FILE: nothing was done
   2  NAME
   3  FILE, NO MEMORY, IN USE, DEVICE
@@ -227,7 +229,7 @@ It changes the name and the ID that list shows first, and prints TITLED.
 Exit status:
   0  the disk has them
   1  a file or the directory is damaged (LAYOUT and a fault: repair --sides
-     mends BADSIDE, nothing else), SHORT, IMAGE SIZE, LOG, LOG AWAY: nothing
+     mends BADSIDE, nothing else), IMAGE SIZE, LOG, LOG AWAY, TWO NAMES: nothing
      was done
   2  NAME: more than 16 bytes; ID: not two bytes
   3  FILE, NO MEMORY, IN USE, DEVICE

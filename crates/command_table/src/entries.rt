@@ -1,6 +1,6 @@
 //! The subcommands that change the entries of a directory: the words of each, and what help says of it, at most 80 columns wide.
 use crate::subcommands::Subcommand;
-use crate::values::{ACCEPT_AWAY, Count, DRY_RUN, IMAGE, NAME, Value};
+use crate::values::{ACCEPT_AWAY, ACCEPT_LOSS, Count, DRY_RUN, IMAGE, NAME, Value};
 
 /// The subcommands that change the entries of a directory, in the order in which help lists them.
 pub(crate) const ENTRIES: &[Subcommand] = &[LOCK, UNLOCK, DELETE, UNDELETE, SORT];
@@ -19,8 +19,8 @@ LOCKED. unlock takes the lock off.
 Exit status:
   0  the file is locked
   1  a file or the directory is damaged (LAYOUT and a fault: repair --sides
-     mends BADSIDE, nothing else), SHORT, IMAGE SIZE, LOG, LOG AWAY, NO FILE,
-     SHOP FILE: nothing was done
+     mends BADSIDE, nothing else), IMAGE SIZE, LOG, LOG AWAY, TWO NAMES,
+     NO FILE, SHOP FILE: nothing was done
   2  NAME
   3  FILE, NO MEMORY, IN USE, DEVICE
 
@@ -38,8 +38,8 @@ It takes the lock off the first file that has this name, and prints UNLOCKED.
 Exit status:
   0  the file isn't locked
   1  a file or the directory is damaged (LAYOUT and a fault: repair --sides
-     mends BADSIDE, nothing else), SHORT, IMAGE SIZE, LOG, LOG AWAY, NO FILE,
-     SHOP FILE: nothing was done
+     mends BADSIDE, nothing else), IMAGE SIZE, LOG, LOG AWAY, TWO NAMES,
+     NO FILE, SHOP FILE: nothing was done
   2  NAME
   3  FILE, NO MEMORY, IN USE, DEVICE
 
@@ -52,18 +52,21 @@ const DELETE: Subcommand = Subcommand {
     name: "delete",
     about: "Delete a file, and free its sectors",
     more: "\
-It deletes the first file that has this name, and prints DELETED.
+It deletes the first file that has this name, and prints DELETED. If a file of
+the disk is cut short (SHORT), it asks for --accept-loss, but not to delete that
+very file.
 
 Exit status:
   0  the file was deleted
   1  the disk isn't clean (LAYOUT and a fault: repair mends MAPWRONG and
-     COUNTWRONG, repair --sides also BADSIDE, nothing else), SHORT,
-     IMAGE SIZE, LOG, LOG AWAY, NO FILE, LOCKED, SHOP FILE: nothing was done
+     COUNTWRONG, repair --sides also BADSIDE, nothing else), SHORT, GEOS,
+     IMAGE SIZE, LOG, LOG AWAY, TWO NAMES, NO FILE, LOCKED, SHOP FILE: nothing
+     was done
   2  NAME
   3  FILE, NO MEMORY, IN USE, DEVICE
 
 Example: ledger delete old.d64 LETTER",
-    values: ENTRY,
+    values: &[IMAGE, NAME, ACCEPT_LOSS, DRY_RUN],
 };
 
 /// The type of a deleted file.
@@ -88,12 +91,12 @@ Exit status:
   0  the file is there
   1  a file or the directory is damaged or would be (LAYOUT: OWNEDTWICE if
      another file has a block), SHORT, IMAGE SIZE, GEOS, FORMAT, LOG, LOG AWAY,
-     NO FILE, FILE EXISTS: nothing was done
+     TWO NAMES, NO FILE, FILE EXISTS: nothing was done
   2  NAME, TYPE
   3  FILE, NO MEMORY, IN USE, DEVICE
 
 Example: ledger undelete old.d64 LETTER --type seq",
-    values: &[IMAGE, NAME, ENTRY_TYPE, ACCEPT_AWAY, DRY_RUN],
+    values: &[IMAGE, NAME, ENTRY_TYPE, ACCEPT_LOSS, DRY_RUN],
 };
 
 /// `sort IMAGE [--accept-loss] [--dry-run]`
@@ -108,7 +111,7 @@ others. Files and blocks stay where they are.
 Exit status:
   0  the directory is sorted
   1  a file or the directory is damaged (LAYOUT and a fault: repair --sides
-     mends BADSIDE, nothing else), SHORT, IMAGE SIZE, LOG, LOG AWAY: nothing
+     mends BADSIDE, nothing else), IMAGE SIZE, LOG, LOG AWAY, TWO NAMES: nothing
      was done
   3  FILE, NO MEMORY, IN USE, DEVICE
 

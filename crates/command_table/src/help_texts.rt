@@ -3,7 +3,7 @@
 /// The exit statuses, and where more is.
 pub(crate) const MORE: &str = "\
 The commands from list to sector look at disks. Those from records to trim
-rescue what is on them, those from new to delete change them, and those from
+rescue what is on them, those from new to sort change them, and those from
 format to copy run a shop.
 
 Exit status:

@@ -160,10 +160,14 @@ it prints KEPT and their number instead of OK. With --free it frees them, and
 prints FREED and the sector for each. With --sides it first rebuilds the side
 sectors that disagree with their file's chain, and prints MENDED for each.
 
+With --accept-loss a file that a lost sector cut short ends where it ends now,
+and its entry counts what is there: no command refuses the disk for it any more.
+Keep a copy first, because the lost part can't be found by the disk afterwards.
+
 Exit status:
   0  the disk is clean
   1  KEPT; or the disk is refused (LAYOUT, SHORT, GEOS, FORMAT, IMAGE SIZE, LOG,
-     LOG AWAY) and untouched
+     LOG AWAY, TWO NAMES) and untouched
   3  FILE, NO MEMORY, IN USE, DEVICE
 
 Example: ledger repair --dry-run old.d64",

@@ -31,7 +31,8 @@ IMAGE without asking if that exists, and its log with it.
 
 Exit status:
   0  the image was made
-  1  FILE EXISTS, with --new: IMAGE or its log exists, and nothing was done
+  1  FILE EXISTS, with --new: IMAGE or its log exists; TWO NAMES, without it:
+     nothing was done
   2  TILLS: not 1 to 64
   3  FILE (the file, its folder or the output failed), NO MEMORY, IN USE
 
@@ -84,7 +85,8 @@ end. Without it a power loss can lose answered requests, or leave a wrong shop.
 
 Exit status:
   0  all lines were played
-  1  the script (SCRIPT LINE n) or the image is refused: nothing was done
+  1  the script (SCRIPT LINE n) or the image is refused (TWO NAMES, too):
+     nothing was done
   3  FILE, NOT READY, NO MEMORY, IN USE; or DEVICE: check a copy on another
      disk, and go on there
 
@@ -121,7 +123,7 @@ there.
 Exit status:
   0  the input ended
   1  the image isn't a shop, a file of the disk has lost its end (SHORT), LOG,
-     LOG AWAY: nothing was done
+     LOG AWAY, TWO NAMES: nothing was done
   3  FILE, NOT READY (input that doesn't wait), NO MEMORY, IN USE, DEVICE (also
      if IMAGE no longer names the file that is served)
 

@@ -97,7 +97,7 @@ pub(crate) const MIXED: Value = Value {
     help: "The same of the character set with small letters",
 };
 
-/// The flag of those that go on without the log of an image, but not with a disk that has lost a part of a file.
+/// The flag of those that go on without the log of an image. That a file is cut short doesn't matter to them.
 pub(crate) const ACCEPT_AWAY: Value = Value {
     name: "accept-loss",
     word: Some("accept-loss"),
@@ -105,7 +105,7 @@ pub(crate) const ACCEPT_AWAY: Value = Value {
     help: "Go on without the lost log (LOG AWAY)",
 };
 
-/// The flag of those that write a disk that may have lost a part of a file.
+/// The flag of those that write a disk that may have lost a part of a file, or the image its log: it accepts both losses.
 pub(crate) const ACCEPT_LOSS: Value = Value {
     name: "accept-loss",
     word: Some("accept-loss"),

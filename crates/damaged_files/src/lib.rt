@@ -7,8 +7,11 @@ mod cut;
 mod sides;
 
 pub use cut::cuts::{find_cut, find_shortfall, sound_cut};
+pub use cut::geos::has_geos_entry;
 pub use cut::images::find_image_shortfall;
 pub use cut::laws::whole_is_uncut;
+pub use cut::named::cut_named;
+pub use cut::settling::settle;
 pub use cut::shortfalls::Shortfall;
 pub use sides::naming::name_sides;
 pub use sides::planning::Loss;

@@ -2,7 +2,7 @@
 use Rattle.std.proofs.Common.{◌≡◌, List, inl, inr, ℕ}
 use Rattle.command_faults.specs.declared.faults.CommandFault.{CommandFault}
 use Rattle.command_faults.specs.declared.faults.CommandFault.TheVariants as faults
-use Rattle.damaged_files.specs.declared.sides.planning.Loss.TheVariants.{Refused}
+use Rattle.damaged_files.specs.declared.sides.planning.Loss.{Loss}
 use Rattle.disk_changes.specs.Copies.{IsCopyRefusal, IsNoCopyAs, IsNoCopyOf, IsNoRecordCopyOf, IsNoTextOf}
 use Rattle.disk_changes.specs.Locks.{IsLockRefusal}
 use Rattle.disk_changes.specs.Makes.{IsMakeRefusal}
@@ -12,45 +12,45 @@ use Rattle.disk_layout.specs.declared.slot.Slot.{Slot}
 use Rattle.file_changes.specs.declared.file_type.FileType.{FileType}
 use Rattle.file_rescues.specs.Whole.{IsWholeFile}
 
-module _ (source name to image : List ℕ) where
+module _ (source name to image : List ℕ) (cut : Loss) where
   -- the other image has a file that isn't copied
   pub not-copied : (entry : Slot) (content : List ℕ) → IsWholeFile source name entry content → (why : CommandFault)
-      → IsNoCopyAs entry content source name to image why → IsCopyRefusal source name to image why
+      → IsNoCopyAs entry content source name to image cut why → IsCopyRefusal source name to image cut why
   not-copied entry content whole faults.NoMemory because = inl whole.file.size
   not-copied entry content whole _ because = inr (entry, content, whole, because)
 
   -- what is no reason at any step is none
   module _ (entry : Slot) (content : List ℕ) (why : CommandFault) (none : why ≡ faults.NoFile → ⊥)
-      (put : (kind : FileType) → IsPutRefusal image to kind content why → ⊥) (text : IsNoTextOf source name why → ⊥)
-      (make : IsMakeRefusal image to Refused why → ⊥)
-      (store : (bytes given : List ℕ) → IsStoreRefusal bytes to given Refused why → ⊥)
+      (put : (kind : FileType) → IsPutRefusal image to kind content cut why → ⊥) (text : IsNoTextOf source name why → ⊥)
+      (make : IsMakeRefusal image to cut why → ⊥)
+      (store : (bytes given : List ℕ) → IsStoreRefusal bytes to given cut why → ⊥)
       (lock : (bytes : List ℕ) → IsLockRefusal bytes to why → ⊥) where
-    no-copy : IsNoCopyOf entry content to image why → ⊥
+    no-copy : IsNoCopyOf entry content to image cut why → ⊥
     no-copy (inl (is, relative)) = none is
     no-copy (inr (kind, at, inl refused)) = put kind refused
     no-copy (inr (kind, at, inr (first, was, (locked, bytes, same, refused)))) = lock bytes refused
 
-    no-records : (given : List ℕ) → IsNoRecordCopyOf entry given to image why → ⊥
+    no-records : (given : List ℕ) → IsNoRecordCopyOf entry given to image cut why → ⊥
     no-records given (inl (is, size)) = none is
     no-records given (inr (inl refused)) = make refused
     no-records given (inr (inr (first, new, bytes, held, inl refused))) = store bytes given refused
     no-records given (inr (inr (first, new, bytes, held, inr (second, filled, (locked, after, same, refused))))) = lock after refused
 
-    never : IsNoCopyAs entry content source name to image why → ⊥
+    never : IsNoCopyAs entry content source name to image cut why → ⊥
     never (inl (plain, because)) = no-copy because
     never (inr (relative, inl unread)) = text unread
     never (inr (relative, inr (given, is, unmade))) = no-records given unmade
 
-  no-output : IsCopyRefusal source name to image faults.File → ⊥
+  no-output : IsCopyRefusal source name to image cut faults.File → ⊥
   no-output (inl why) = why
   no-output (inr (entry, content, whole, because)) = never entry content faults.File (λ is. cc) (λ kind why. why) (λ why. why)
       (λ why. why) (λ bytes given why. why) (λ bytes why. why) because
 
-  no-device : IsCopyRefusal source name to image faults.Device → ⊥
+  no-device : IsCopyRefusal source name to image cut faults.Device → ⊥
   no-device (inl why) = why
   no-device (inr (entry, content, whole, because)) = never entry content faults.Device (λ is. cc) (λ kind why. why) (λ why. why)
       (λ why. why) (λ bytes given why. why) (λ bytes why. why) because
 
   -- what refuses a copy in memory is neither the output nor the device
-  pub copied-in-memory : (IsCopyRefusal source name to image faults.File → ⊥) × (IsCopyRefusal source name to image faults.Device → ⊥)
+  pub copied-in-memory : (IsCopyRefusal source name to image cut faults.File → ⊥) × (IsCopyRefusal source name to image cut faults.Device → ⊥)
   copied-in-memory = (no-output, no-device)

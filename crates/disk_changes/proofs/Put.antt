@@ -4,7 +4,7 @@ use Rattle.std.specs.Prelude.{codes}
 use Rattle.d64_image.specs.Images.{Image}
 use Rattle.d64_image.specs.Memory.{disk_image, memory, sectors_in}
 use Rattle.d64_image.specs.declared.mem_disk.MemDisk.{MemDisk}
-use Rattle.damaged_files.specs.declared.sides.planning.Loss.TheVariants.{Refused}
+use Rattle.damaged_files.specs.declared.sides.planning.Loss.{Loss}
 use Rattle.disk_changes.proofs.Judged.{never-fails}
 use Rattle.disk_changes.specs.Judged.{IsUsableDisk}
 use Rattle.disk_changes.specs.Puts.{IsPut, IsPutRefusal}
@@ -16,13 +16,13 @@ use Rattle.command_faults.specs.declared.faults.CommandFault.{CommandFault}
 use Rattle.file_changes.specs.declared.file_type.FileType.{FileType}
 use Rattle.rel_records.specs.creation.Made.{HasNoRoomFor}
 
-module _ (image name : List ℕ) (kind : FileType) (content : List ℕ) (a b : MemDisk) (whole : IsUsableDisk image Refused)
+module _ (image name : List ℕ) (kind : FileType) (content : List ℕ) (cut : Loss) (a b : MemDisk) (whole : IsUsableDisk image cut)
     (is : disk_image a ≡ sectors_in image) where
   sound : IsLayout (disk_image a) whole.layout
   sound = subst (λ (i : Image). IsLayout i whole.layout) (sym is) whole.usable.clean.layout
 
   pub put-done : (x : Unit {0}) → Puts memory a b name kind content (Ok x) → (made : Changed) → made.disk ≡ b
-      → made.text.items ≡ codes "PUT\n" → IsPut image name kind content made
+      → made.text.items ≡ codes "PUT\n" → IsPut image name kind content cut made
   put-done x c made disk text = record {
     before = whole;
     after = subst (λ (d : MemDisk). HasPut (sectors_in image) whole.layout name kind (stored content) (disk_image d)) (sym disk)
@@ -32,7 +32,7 @@ module _ (image name : List ℕ) (kind : FileType) (content : List ℕ) (a b : M
   }
 
   pub put-refused : (fault : CommandFault) → Puts memory a b name kind content (Err fault)
-      → IsPutRefusal image name kind content fault
+      → IsPutRefusal image name kind content cut fault
   put-refused faults.FileExists c = record { disk = whole; but = (c.layout whole.layout sound).refuses.exists refl }
   put-refused faults.DiskFull c =
       let full = (c.layout whole.layout sound).refuses.full refl in

@@ -5,7 +5,7 @@ use Rattle.d64_image.specs.Images.{Image}
 use Rattle.d64_image.specs.Memory.{disk_image, memory, sectors_in}
 use Rattle.d64_image.specs.declared.mem_disk.MemDisk.{MemDisk}
 use Rattle.disk_changes.proofs.Judged.{never-fails}
-use Rattle.disk_changes.specs.Judged.{IsSoundWhole}
+use Rattle.disk_changes.specs.Judged.{IsSoundDisk}
 use Rattle.disk_changes.specs.Renames.{IsRenameRefusal, IsRenamed}
 use Rattle.disk_changes.specs.declared.changes.Changed.{Changed}
 use Rattle.command_faults.specs.declared.faults.CommandFault.TheVariants as faults
@@ -14,7 +14,7 @@ use Rattle.file_changes.specs.Renames.{HasNewName, Renames}
 use Rattle.command_faults.specs.declared.faults.CommandFault.{CommandFault}
 use Rattle.disk_changes.specs.ShopFiles.{HasShopFile}
 
-module _ (image from to : List ℕ) (a b : MemDisk) (whole : IsSoundWhole image) (is : disk_image a ≡ sectors_in image) where
+module _ (image from to : List ℕ) (a b : MemDisk) (whole : IsSoundDisk image) (is : disk_image a ≡ sectors_in image) where
   sound : IsLayout (disk_image a) whole.layout
   sound = subst (λ (i : Image). IsLayout i whole.layout) (sym is) whole.sound
 
@@ -30,7 +30,7 @@ module _ (image from to : List ℕ) (a b : MemDisk) (whole : IsSoundWhole image)
 
   pub rename-refused : (fault : CommandFault) → Renames memory a b from to (Err fault)
       → IsRenameRefusal image from to fault
-  rename-refused faults.NoFile c = record { whole = whole; but = inr ((c.layout whole.layout sound).not_found refl) }
-  rename-refused faults.FileExists c = record { whole = whole; but = (c.layout whole.layout sound).exists refl }
+  rename-refused faults.NoFile c = record { disk = whole; but = inr ((c.layout whole.layout sound).not_found refl) }
+  rename-refused faults.FileExists c = record { disk = whole; but = (c.layout whole.layout sound).exists refl }
   rename-refused faults.Device c = absurd (never-fails a b c.failures)
   rename-refused _ c = absurd (⊎_elim (λ e. cc) (⊎_elim (λ e. cc) (λ e. cc)) c.told)

@@ -6,7 +6,8 @@ use Rattle.command_faults.specs.declared.faults.CommandFault.{CommandFault}
 use Rattle.d64_image.specs.Images.{Image}
 use Rattle.d64_image.specs.Memory.{sectors_in}
 use Rattle.d64_image.specs.declared.place.Place.{Place}
-use Rattle.disk_changes.specs.Judged.{IsSoundWhole}
+use Rattle.damaged_files.specs.declared.sides.planning.Loss.{Loss}
+use Rattle.disk_changes.specs.Judged.{IsSoundDisk}
 use Rattle.disk_changes.specs.Undeletes.{IsNoUndeletion, IsRetyped, IsUndeletable, IsUnfound, with_type}
 use Rattle.disk_changes.proofs.Slots.{deleted-low}
 use Rattle.disk_changes.specs.declared.entry_types.EntryType.{EntryType}
@@ -58,17 +59,17 @@ module _ (img : Image) (name padded : List ℕ) (is : padded ≡ slot_name name)
   pub low : (s : Slot) → (n : ℕ) × IsFirstNamed deleted padded n s → s.number < 8
   low s (n, first) = deleted-low img ps s (subst (λ (xs : List Slot). Contains xs s) found (get-contains deleted n s first.there))
 
-module _ (image name : List ℕ) (img : Image) (whole : IsSoundWhole image) (is : img ≡ sectors_in image) where
+module _ (image name : List ℕ) (cut : Loss) (img : Image) (whole : IsSoundDisk image) (is : img ≡ sectors_in image) where
   sound : IsLayout img whole.layout
   sound = subst (λ (i : Image). IsLayout i whole.layout) (sym is) whole.sound
 
-  pub none-found : (e : CommandFault) → ((l : Layout) → IsLayout img l → IsUnfound img l name e) → IsNoUndeletion image name e
+  pub none-found : (e : CommandFault) → ((l : Layout) → IsLayout img l → IsUnfound img l name e) → IsNoUndeletion image name cut e
   none-found faults.FileExists un = record {
-    whole = whole;
+    disk = whole;
     but = subst (λ (i : Image). IsUnfound i whole.layout name faults.FileExists) is (un whole.layout sound);
   }
   none-found faults.NoFile un = record {
-    whole = whole;
+    disk = whole;
     but = inr (subst (λ (i : Image). IsUnfound i whole.layout name faults.NoFile) is (un whole.layout sound));
   }
   none-found _ un = absurd (un whole.layout sound)

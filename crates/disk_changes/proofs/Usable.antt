@@ -94,19 +94,19 @@ pub usable-image : (image : List ℕ) (cut : Loss) (img : Image) → img ≡ sec
 usable-image image cut img is disk = subst IsUsable (sym is) (disk.layout, (disk.strays, disk.usable.clean))
 
 -- why an image isn't taken is why it can't be used
-pub untaken-unusable : (image : List ℕ) (why : CommandFault) → IsUntaken image why → IsUnusable image why
-untaken-unusable image faults.ImageSize c = c
-untaken-unusable image faults.NoMemory c = c
-untaken-unusable image (faults.Short p) c = c
-untaken-unusable image faults.Geos c = c
-untaken-unusable image _ c = absurd c
+pub untaken-unusable : (image : List ℕ) (cut : Loss) (why : CommandFault) → IsUntaken image cut why → IsUnusable image cut why
+untaken-unusable image cut faults.ImageSize c = c
+untaken-unusable image cut faults.NoMemory c = c
+untaken-unusable image cut (faults.Short p) c = c
+untaken-unusable image cut faults.Geos c = c
+untaken-unusable image cut _ c = absurd c
 
 -- nor is one that isn't judged so
-pub usable-fault : (image : List ℕ) (why : CommandFault) → IsUsableFault image why → IsUnusable image why
-usable-fault image faults.ImageSize c = c
-usable-fault image faults.NoMemory c = c
-usable-fault image (faults.Layout fault) c = c
-usable-fault image _ c = absurd c
+pub usable-fault : (image : List ℕ) (cut : Loss) (why : CommandFault) → IsUsableFault image why → IsUnusable image cut why
+usable-fault image cut faults.ImageSize c = c
+usable-fault image cut faults.NoMemory c = c
+usable-fault image cut (faults.Layout fault) c = c
+usable-fault image cut _ c = absurd c
 
 pub load-unusable : (image : List ℕ) (why : CommandFault) → IsLoadFault image why → IsUsableFault image why
 load-unusable image faults.ImageSize c = c

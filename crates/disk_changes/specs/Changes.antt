@@ -1,6 +1,6 @@
 -- What comes of a change to an image, or why it isn't made. Our own.
 use Rattle.std.specs.Prelude.{◌≡◌, ◌≤◌, ◌⊎◌, Bool, List, false, length, true, ℕ}
-use Rattle.command_faults.specs.Faults.{IsLoadFault}
+use Rattle.command_faults.specs.Faults.{IsLoadFault, IsSoundFault}
 use Rattle.disk_changes.specs.Art.{HasNoArt, IsAside, IsBesideArt}
 use Rattle.disk_changes.specs.Copies.{IsCopied, IsCopyRefusal}
 use Rattle.disk_changes.specs.Deletes.{IsDeleteRefusal, IsDeleted}
@@ -10,7 +10,6 @@ use Rattle.disk_changes.specs.Puts.{IsPut, IsPutRefusal}
 use Rattle.disk_changes.specs.Rebuilds.{IsRebuildRefusal, IsRebuilt}
 use Rattle.disk_changes.specs.Renames.{IsRenameRefusal, IsRenamed}
 use Rattle.disk_changes.specs.Repairs.{IsRepairRefusal, IsRepaired}
-use Rattle.disk_changes.specs.Judged.{IsUnsoundOrShort}
 use Rattle.disk_changes.specs.Sorts.{IsSortRefusal, IsSorted}
 use Rattle.disk_changes.specs.Stores.{IsStoreRefusal, IsStored}
 use Rattle.disk_changes.specs.Titles.{IsTitled}
@@ -27,11 +26,11 @@ abbrev pub IsFit : Change → Type 0
 IsFit (changes.Rename from to) = length to.now ≤ 16
 IsFit (changes.Title id name) = length name.now ≤ 16
 IsFit (changes.Lock lock name) = Unit {0}
-IsFit (changes.Delete name) = Unit {0}
-IsFit (changes.Undelete kind name) = Unit {0}
+IsFit (changes.Delete name cut) = Unit {0}
+IsFit (changes.Undelete kind name cut) = Unit {0}
 IsFit changes.Sort = Unit {0}
-IsFit (changes.Put name kind content) = length name.now ≤ 16
-IsFit (changes.CopyFile source name to) = length to.now ≤ 16
+IsFit (changes.Put name kind content cut) = length name.now ≤ 16
+IsFit (changes.CopyFile source name to cut) = length to.now ≤ 16
 IsFit (changes.Make name L cut) = (length name.now ≤ 16) × IsLength L
 IsFit (changes.Store name text cut) = Unit {0}
 IsFit (changes.Repair free cut) = Unit {0}
@@ -42,11 +41,11 @@ abbrev pub IsDone : Change → (image : List ℕ) → Changed → Type 0
 IsDone (changes.Rename from to) image made = IsRenamed image from.now to.now made
 IsDone (changes.Title id name) image made = IsTitled image name.now id made
 IsDone (changes.Lock lock name) image made = IsLockSet image name.now lock made
-IsDone (changes.Delete name) image made = IsDeleted image name.now made
-IsDone (changes.Undelete kind name) image made = IsUndeleted image name.now kind made
+IsDone (changes.Delete name cut) image made = IsDeleted image name.now cut made
+IsDone (changes.Undelete kind name cut) image made = IsUndeleted image name.now kind cut made
 IsDone changes.Sort image made = IsSorted image made
-IsDone (changes.Put name kind content) image made = IsPut image name.now kind content.now made
-IsDone (changes.CopyFile source name to) image made = IsCopied source.now name.now to.now image made
+IsDone (changes.Put name kind content cut) image made = IsPut image name.now kind content.now cut made
+IsDone (changes.CopyFile source name to cut) image made = IsCopied source.now name.now to.now image cut made
 IsDone (changes.Make name L cut) image made = IsMade image name.now L cut made
 IsDone (changes.Store name text cut) image made = IsStored image name.now text.now cut made
 IsDone (changes.Repair free cut) image made = IsRepaired image free cut made
@@ -55,17 +54,17 @@ IsDone (changes.Rebuild free cut) image made = IsRebuilt image free cut made
 -- it wasn't, for this reason
 abbrev pub IsBarred : Change → (image : List ℕ) → CommandFault → Type 0
 IsBarred (changes.Rename from to) image why = IsRenameRefusal image from.now to.now why
-IsBarred (changes.Title id name) image why = IsUnsoundOrShort image why
+IsBarred (changes.Title id name) image why = IsSoundFault image why
 IsBarred (changes.Lock lock name) image why = IsLockRefusal image name.now why
-IsBarred (changes.Delete name) image why = IsDeleteRefusal image name.now why
-IsBarred (changes.Undelete kind name) image why = IsUndeleteRefusal image name.now kind why
+IsBarred (changes.Delete name cut) image why = IsDeleteRefusal image name.now cut why
+IsBarred (changes.Undelete kind name cut) image why = IsUndeleteRefusal image name.now kind cut why
 IsBarred changes.Sort image why = IsSortRefusal image why
-IsBarred (changes.Put name kind content) image why = IsPutRefusal image name.now kind content.now why
-IsBarred (changes.CopyFile source name to) image why = IsCopyRefusal source.now name.now to.now image why
+IsBarred (changes.Put name kind content cut) image why = IsPutRefusal image name.now kind content.now cut why
+IsBarred (changes.CopyFile source name to cut) image why = IsCopyRefusal source.now name.now to.now image cut why
 IsBarred (changes.Make name L cut) image why = IsMakeRefusal image name.now cut why
 IsBarred (changes.Store name text cut) image why = IsStoreRefusal image name.now text.now cut why
-IsBarred (changes.Repair free cut) image why = IsRepairRefusal image why
-IsBarred (changes.Rebuild free cut) image why = IsRebuildRefusal image why
+IsBarred (changes.Repair free cut) image why = IsRepairRefusal image free cut why
+IsBarred (changes.Rebuild free cut) image why = IsRebuildRefusal image free cut why
 
 -- it neither moves directory art nor says of a disk with art that it is in order
 abbrev pub leaves_art : Change → Bool

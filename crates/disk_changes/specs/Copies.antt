@@ -5,7 +5,7 @@ use Rattle.command_faults.specs.declared.faults.CommandFault.TheVariants as faul
 use Rattle.d64_image.specs.Memory.{disk_image, sectors_in}
 use Rattle.d64_image.specs.declared.mem_disk.MemDisk.{MemDisk}
 use Rattle.damaged_files.specs.cut.Told.{IsToldOfImage}
-use Rattle.damaged_files.specs.declared.sides.planning.Loss.TheVariants.{Refused}
+use Rattle.damaged_files.specs.declared.sides.planning.Loss.{Loss}
 use Rattle.disk_changes.specs.Locks.{IsLockRefusal, IsLockSet}
 use Rattle.disk_changes.specs.Makes.{IsMade, IsMakeRefusal}
 use Rattle.disk_changes.specs.Puts.{IsPut, IsPutRefusal}
@@ -41,11 +41,11 @@ HasLockOf entry name first disk = (¬ (IsLocked entry) × (disk ≡ first.disk))
 
 -- A file with these bytes and the entry's type is put on the disk that comes of it, and it is locked if the entry is; and what
 -- is printed.
-pub record IsCopyOf (entry : Slot) (content to image : List ℕ) (made : Changed) : Type 0 where
+pub record IsCopyOf (entry : Slot) (content to image : List ℕ) (cut : Loss) (made : Changed) : Type 0 where
   pub kind : FileType
   pub kind_is : plain_type entry ≡ Some kind
   pub first : Changed
-  pub put : IsPut image to kind content first
+  pub put : IsPut image to kind content cut first
   pub lock : HasLockOf entry to first made.disk
   pub text : made.text.items ≡ codes "COPIED\n"
 
@@ -56,28 +56,28 @@ IsTextOf source name text = (file : File) × (is : IsRecordFile source name file
 
 -- A relative file with the entry's record length is made on the disk that comes of it, these lines are stored in it, and it is
 -- locked if the entry is; and what is printed.
-pub record IsRecordCopyOf (entry : Slot) (given to image : List ℕ) (made : Changed) : Type 0 where
+pub record IsRecordCopyOf (entry : Slot) (given to image : List ℕ) (cut : Loss) (made : Changed) : Type 0 where
   pub length_is : IsLength (record_length entry)
   pub first : Changed
-  pub new : IsMade image to (record_length entry) Refused first
+  pub new : IsMade image to (record_length entry) cut first
   pub bytes : List ℕ
   pub held : sectors_in bytes ≡ disk_image first.disk
   pub second : Changed
-  pub filled : IsStored bytes to given Refused second
+  pub filled : IsStored bytes to given cut second
   pub lock : HasLockOf entry to second made.disk
   pub text : made.text.items ≡ codes "COPIED\n"
 
 -- the file with this entry is relative, and its records are copied so; or its bytes are
-abbrev pub IsCopyAs : Slot → (content source name to image : List ℕ) → Changed → Type 0
-IsCopyAs entry content source name to image made = (¬ (IsTrue (is_rel entry)) × IsCopyOf entry content to image made)
-    ⊎ (IsTrue (is_rel entry) × (given : List ℕ) × IsTextOf source name given × IsRecordCopyOf entry given to image made)
+abbrev pub IsCopyAs : Slot → (content source name to image : List ℕ) → Loss → Changed → Type 0
+IsCopyAs entry content source name to image cut made = (¬ (IsTrue (is_rel entry)) × IsCopyOf entry content to image cut made)
+    ⊎ (IsTrue (is_rel entry) × (given : List ℕ) × IsTextOf source name given × IsRecordCopyOf entry given to image cut made)
 
 -- The first closed file of that name of the other image is copied so.
-pub record IsCopied (source name to image : List ℕ) (made : Changed) : Type 0 where
+pub record IsCopied (source name to image : List ℕ) (cut : Loss) (made : Changed) : Type 0 where
   pub entry : Slot
   pub content : List ℕ
   pub file : IsWholeFile source name entry content
-  pub copy : IsCopyAs entry content source name to image made
+  pub copy : IsCopyAs entry content source name to image cut made
 
 -- the file that was put there isn't locked, for this reason
 abbrev pub IsUnlockedFor : Slot → (to : List ℕ) → Changed → CommandFault → Type 0
@@ -85,10 +85,10 @@ IsUnlockedFor entry to first why =
     IsLocked entry × (bytes : List ℕ) × (sectors_in bytes ≡ disk_image first.disk) × IsLockRefusal bytes to why
 
 -- why the file with this entry isn't copied by its bytes: it has no such type; or it isn't put on the disk, or not locked there
-abbrev pub IsNoCopyOf : Slot → (content to image : List ℕ) → CommandFault → Type 0
-IsNoCopyOf entry content to image why = ((why ≡ faults.NoFile) × (plain_type entry ≡ None))
-    ⊎ ((kind : FileType) × (plain_type entry ≡ Some kind) × (IsPutRefusal image to kind content why
-    ⊎ ((first : Changed) × IsPut image to kind content first × IsUnlockedFor entry to first why)))
+abbrev pub IsNoCopyOf : Slot → (content to image : List ℕ) → Loss → CommandFault → Type 0
+IsNoCopyOf entry content to image cut why = ((why ≡ faults.NoFile) × (plain_type entry ≡ None))
+    ⊎ ((kind : FileType) × (plain_type entry ≡ Some kind) × (IsPutRefusal image to kind content cut why
+    ⊎ ((first : Changed) × IsPut image to kind content cut first × IsUnlockedFor entry to first why)))
 
 -- why the records of a file aren't all there: as they aren't all printed
 abbrev pub IsNoTextOf : (source name : List ℕ) → CommandFault → Type 0
@@ -102,22 +102,22 @@ IsNoTextOf source name (faults.Short p) =
 IsNoTextOf source name _ = ⊥
 
 -- why these records aren't copied: the entry's record length is none; or the file isn't made, or not filled, or not locked
-abbrev pub IsNoRecordCopyOf : Slot → (given to image : List ℕ) → CommandFault → Type 0
-IsNoRecordCopyOf entry given to image why = ((why ≡ faults.NoFile) × ¬ (IsLength (record_length entry)))
-    ⊎ (IsMakeRefusal image to Refused why
-    ⊎ ((first : Changed) × IsMade image to (record_length entry) Refused first × (bytes : List ℕ)
-    × (sectors_in bytes ≡ disk_image first.disk) × (IsStoreRefusal bytes to given Refused why
-    ⊎ ((second : Changed) × IsStored bytes to given Refused second × IsUnlockedFor entry to second why))))
+abbrev pub IsNoRecordCopyOf : Slot → (given to image : List ℕ) → Loss → CommandFault → Type 0
+IsNoRecordCopyOf entry given to image cut why = ((why ≡ faults.NoFile) × ¬ (IsLength (record_length entry)))
+    ⊎ (IsMakeRefusal image to cut why
+    ⊎ ((first : Changed) × IsMade image to (record_length entry) cut first × (bytes : List ℕ)
+    × (sectors_in bytes ≡ disk_image first.disk) × (IsStoreRefusal bytes to given cut why
+    ⊎ ((second : Changed) × IsStored bytes to given cut second × IsUnlockedFor entry to second why))))
 
 -- why the file with this entry isn't copied
-abbrev pub IsNoCopyAs : Slot → (content source name to image : List ℕ) → CommandFault → Type 0
-IsNoCopyAs entry content source name to image why = (¬ (IsTrue (is_rel entry)) × IsNoCopyOf entry content to image why)
+abbrev pub IsNoCopyAs : Slot → (content source name to image : List ℕ) → Loss → CommandFault → Type 0
+IsNoCopyAs entry content source name to image cut why = (¬ (IsTrue (is_rel entry)) × IsNoCopyOf entry content to image cut why)
     ⊎ (IsTrue (is_rel entry) × (IsNoTextOf source name why
-    ⊎ ((given : List ℕ) × IsTextOf source name given × IsNoRecordCopyOf entry given to image why)))
+    ⊎ ((given : List ℕ) × IsTextOf source name given × IsNoRecordCopyOf entry given to image cut why)))
 
 -- why no file is copied: the other image has none of that name that is whole, or it isn't copied
-abbrev pub IsCopyRefusal : (source name to image : List ℕ) → CommandFault → Type 0
-IsCopyRefusal source name to image faults.NoMemory = (length source ≡ 174848) ⊎ (length image ≡ 174848)
-IsCopyRefusal source name to image why = IsNoWholeFile source name why
+abbrev pub IsCopyRefusal : (source name to image : List ℕ) → Loss → CommandFault → Type 0
+IsCopyRefusal source name to image cut faults.NoMemory = (length source ≡ 174848) ⊎ (length image ≡ 174848)
+IsCopyRefusal source name to image cut why = IsNoWholeFile source name why
     ⊎ ((entry : Slot) × (content : List ℕ) × IsWholeFile source name entry content
-    × IsNoCopyAs entry content source name to image why)
+    × IsNoCopyAs entry content source name to image cut why)

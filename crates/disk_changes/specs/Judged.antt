@@ -1,27 +1,26 @@
 -- An image that is judged before it is changed. Our own.
-use Rattle.std.specs.Prelude.{◌≡◌, ◌≢◌, ◌<◌, ◌⊎◌, List, None, length, ℕ}
+use Rattle.std.specs.Prelude.{◌≡◌, ◌≢◌, ◌<◌, ◌⊎◌, List, length, ℕ}
 use Rattle.command_faults.specs.Faults.{IsCleanFault, IsSoundFault}
 use Rattle.command_faults.specs.declared.faults.CommandFault.{CommandFault}
 use Rattle.command_faults.specs.declared.faults.CommandFault.TheVariants as faults
-use Rattle.d64_image.specs.Images.{Image, sector}
+use Rattle.d64_image.specs.Images.{Image}
 use Rattle.d64_image.specs.Memory.{sectors_in}
 use Rattle.d64_image.specs.declared.place.Place.{Place}
-use Rattle.damaged_files.specs.cut.Told.{HasNoCut, IsCutShort}
+use Rattle.damaged_files.specs.cut.OfName.{IsCutNamed}
+use Rattle.damaged_files.specs.cut.Told.{IsCutShort}
 use Rattle.damaged_files.specs.declared.sides.planning.Loss.{Loss}
-use Rattle.damaged_files.specs.declared.sides.planning.Loss.TheVariants.{Accepted}
-use Rattle.disk_changes.specs.mended.Kinds.{HasGeosSign}
-use Rattle.disk_layout.specs.Directory.{map_place}
+use Rattle.damaged_files.specs.declared.sides.planning.Loss.TheVariants.{Accepted, Refused}
+use Rattle.disk_changes.specs.mended.Kinds.{IsGeosDisk}
 use Rattle.disk_layout.specs.Layout.{IsLayout, Layout}
 use Rattle.disk_layout.specs.Rest.{slot_name}
 use Rattle.file_changes.specs.Entries.{IsFreeName, entries_of}
 use Rattle.layout_check.specs.Keeping as keeping
 
--- The image is that of a sound disk, and no file of it is cut short.
-pub record IsSoundWhole (image : List ℕ) : Type 0 where
+-- The image is that of a sound disk. A file of it may be cut short.
+pub record IsSoundDisk (image : List ℕ) : Type 0 where
   pub size : length image ≡ 174848
   pub layout : Layout
   pub sound : IsLayout (sectors_in image) layout
-  pub uncut : (l : Layout) → IsLayout (sectors_in image) l → HasNoCut (sectors_in image) l None
 
 -- no file of the image is cut short, or one may be
 abbrev pub IsTaken : (image : List ℕ) → Loss → Type 0
@@ -43,9 +42,9 @@ pub record IsUsableDisk (image : List ℕ) (cut : Loss) : Type 0 where
   pub strays : List Place
   pub usable : IsCleanWith strays (sectors_in image) layout
 
--- the image is that of a disk of GEOS
+-- the image is that of a disk of GEOS, or of one with a file of GEOS
 abbrev pub IsOfGeos : List ℕ → Type 0
-IsOfGeos image = HasGeosSign (sector (sectors_in image) map_place)
+IsOfGeos image = IsGeosDisk (sectors_in image)
 
 -- a file of it is cut short at p, and it isn't of GEOS
 abbrev pub IsPlainCut : List ℕ → Place → Type 0
@@ -55,18 +54,17 @@ IsPlainCut image p = IsCutShort image p × ¬ (IsOfGeos image)
 abbrev pub IsGeosCut : List ℕ → Type 0
 IsGeosCut image = IsOfGeos image × ((p : Place) × IsCutShort image p)
 
--- why the image isn't so
-abbrev pub IsUnsoundOrShort : List ℕ → CommandFault → Type 0
-IsUnsoundOrShort image (faults.Short p) = IsPlainCut image p
-IsUnsoundOrShort image faults.Geos = IsGeosCut image
-IsUnsoundOrShort image fault = IsSoundFault image fault
+-- why an image isn't taken: its size, no memory, or a file of it is cut short and that isn't accepted
+abbrev pub IsUntaken : (image : List ℕ) → Loss → CommandFault → Type 0
+IsUntaken image cut faults.ImageSize = length image ≢ 174848
+IsUntaken image cut faults.NoMemory = length image ≡ 174848
+IsUntaken image cut (faults.Short p) = (cut ≡ Refused) × IsPlainCut image p
+IsUntaken image cut faults.Geos = (cut ≡ Refused) × IsGeosCut image
+IsUntaken image cut why = ⊥
 
-abbrev pub IsUntaken : (image : List ℕ) → CommandFault → Type 0
-IsUntaken image faults.ImageSize = length image ≢ 174848
-IsUntaken image faults.NoMemory = length image ≡ 174848
-IsUntaken image (faults.Short p) = IsPlainCut image p
-IsUntaken image faults.Geos = IsGeosCut image
-IsUntaken image why = ⊥
+-- why it isn't that of a sound disk that is taken
+abbrev pub IsUnsoundOrShort : (image : List ℕ) → Loss → CommandFault → Type 0
+IsUnsoundOrShort image cut why = IsUntaken image cut why ⊎ IsSoundFault image why
 
 -- why its disk can't be used: more than such sectors is wrong
 abbrev pub IsUsableFault : List ℕ → CommandFault → Type 0
@@ -75,15 +73,15 @@ IsUsableFault image (faults.Layout fault) =
 IsUsableFault image why = IsCleanFault image why
 
 -- why the image isn't that of a disk that can be used
-abbrev pub IsUnusable : List ℕ → CommandFault → Type 0
-IsUnusable image (faults.Short p) = IsPlainCut image p
-IsUnusable image faults.Geos = IsGeosCut image
-IsUnusable image fault = IsUsableFault image fault
+abbrev pub IsUnusable : (image : List ℕ) → Loss → CommandFault → Type 0
+IsUnusable image cut (faults.Short p) = (cut ≡ Refused) × IsPlainCut image p
+IsUnusable image cut faults.Geos = (cut ≡ Refused) × IsGeosCut image
+IsUnusable image cut fault = IsUsableFault image fault
 
 -- it is so, and this holds of its layout
 pub record IsSoundBut (image : List ℕ) (Q : Layout → Type 0) : Type 0 where
-  pub whole : IsSoundWhole image
-  pub but : Q whole.layout
+  pub disk : IsSoundDisk image
+  pub but : Q disk.layout
 
 pub record IsUsableBut (image : List ℕ) (cut : Loss) (Q : Layout → Type 0) : Type 0 where
   pub disk : IsUsableDisk image cut
@@ -97,3 +95,12 @@ IsNoName l name = (16 < length name) ⊎ IsFreeName (entries_of l) (slot_name na
 abbrev pub in_memory : CommandFault → CommandFault
 in_memory faults.File = faults.NoMemory
 in_memory fault = fault
+
+-- the first file of this name on the image's disk, which is sound, is cut short
+abbrev pub IsNamedCut : (image name : List ℕ) → Type 0
+IsNamedCut image name = (length image ≡ 174848) × ((p : Place) × IsCutNamed (sectors_in image) name p)
+
+-- whether a change of the file of this name accepts the loss of a part of a file: if it does so of all, or if this very file is
+-- cut short
+abbrev pub IsAcceptedFor : (image name : List ℕ) → (asked used : Loss) → Type 0
+IsAcceptedFor image name asked used = ((used ≡ Accepted) × IsNamedCut image name) ⊎ ((used ≡ asked) × ¬ (IsNamedCut image name))

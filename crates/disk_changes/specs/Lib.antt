@@ -9,6 +9,7 @@ pub mod Locks
 pub mod Makes
 pub mod Puts
 pub mod Rebuilds
+pub mod Remedies
 pub mod Renames
 pub mod Repairs
 pub mod ShopFiles

@@ -3,7 +3,8 @@ use Rattle.std.specs.Prelude.{◌≡◌, ◌+◌, ◌*◌, ◌∷◌, [], List, 
 use Rattle.command_faults.specs.declared.faults.CommandFault.TheVariants as faults
 use Rattle.d64_image.specs.Images.{Image}
 use Rattle.d64_image.specs.Memory.{disk_image, sectors_in}
-use Rattle.disk_changes.specs.Judged.{IsNoName, IsSoundBut, IsSoundWhole, IsUnsoundOrShort}
+use Rattle.command_faults.specs.Faults.{IsSoundFault}
+use Rattle.disk_changes.specs.Judged.{IsNoName, IsSoundBut, IsSoundDisk}
 use Rattle.disk_changes.specs.declared.changes.Changed.{Changed}
 use Rattle.disk_changes.specs.declared.changes.Lock.{Lock}
 use Rattle.disk_changes.specs.declared.changes.Lock.TheVariants.{Cleared, Set}
@@ -31,7 +32,7 @@ locked_text Cleared = codes "UNLOCKED\n"
 
 -- The first entry of that name has its lock on the disk that comes of it; and what is printed.
 pub record IsLockSet (image name : List ℕ) (lock : Lock) (made : Changed) : Type 0 where
-  pub before : IsSoundWhole image
+  pub before : IsSoundDisk image
   pub other : ¬ (HasShopFile image name)
   pub number : ℕ
   pub entry : Slot
@@ -41,6 +42,6 @@ pub record IsLockSet (image name : List ℕ) (lock : Lock) (made : Changed) : Ty
 
 -- why it isn't
 abbrev pub IsLockRefusal : (image name : List ℕ) → CommandFault → Type 0
-IsLockRefusal image name faults.ShopFile = IsSoundWhole image × HasShopFile image name
+IsLockRefusal image name faults.ShopFile = IsSoundDisk image × HasShopFile image name
 IsLockRefusal image name faults.NoFile = IsSoundBut image (λ l. IsNoName l name)
-IsLockRefusal image name why = IsUnsoundOrShort image why
+IsLockRefusal image name why = IsSoundFault image why

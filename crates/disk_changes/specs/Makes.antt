@@ -22,4 +22,4 @@ abbrev pub IsMakeRefusal : (image name : List ℕ) → Loss → CommandFault →
 IsMakeRefusal image name cut faults.FileExists = IsUsableBut image cut (λ l. IsTakenName l name)
 IsMakeRefusal image name cut faults.DiskFull =
     IsUsableBut image cut (λ l. HasNoRoom (sectors_in image) l × ¬ (IsTakenName l name))
-IsMakeRefusal image name cut why = IsUnusable image why
+IsMakeRefusal image name cut why = IsUnusable image cut why

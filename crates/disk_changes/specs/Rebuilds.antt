@@ -63,6 +63,6 @@ abbrev pub IsRebuilt : (image : List ℕ) → Bool → Loss → Changed → Type
 IsRebuilt image free cut made = IsBuiltAnew image free cut made ⊎ IsNamedAndBuilt image free cut made
 
 -- why not both were done
-abbrev pub IsRebuildRefusal : (image : List ℕ) → CommandFault → Type 0
-IsRebuildRefusal image why = IsUnbuilt image why
-    ⊎ ((bytes : List ℕ) × IsRebuiltOf image (sectors_in bytes) × IsRepairRefusal bytes why)
+abbrev pub IsRebuildRefusal : (image : List ℕ) → (free : Bool) → Loss → CommandFault → Type 0
+IsRebuildRefusal image free cut why = IsUnbuilt image why
+    ⊎ ((bytes : List ℕ) × IsRebuiltOf image (sectors_in bytes) × IsRepairRefusal bytes free cut why)

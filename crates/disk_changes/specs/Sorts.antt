@@ -9,7 +9,8 @@ use Rattle.command_faults.specs.declared.faults.CommandFault.{CommandFault}
 use Rattle.d64_image.specs.Images.{Image, sector}
 use Rattle.d64_image.specs.Memory.{disk_image, sectors_in}
 use Rattle.d64_image.specs.declared.place.Place.{Place}
-use Rattle.disk_changes.specs.Judged.{IsSoundWhole, IsUnsoundOrShort}
+use Rattle.command_faults.specs.Faults.{IsSoundFault}
+use Rattle.disk_changes.specs.Judged.{IsSoundDisk}
 use Rattle.disk_changes.specs.declared.changes.Changed.{Changed}
 use Rattle.disk_layout.specs.Directory.{is_used, slots_in}
 use Rattle.disk_layout.specs.declared.slot.Slot.{Slot}
@@ -56,15 +57,15 @@ pub record IsReordered (img : Image) (directory : List Place) (after : Image) : 
 
 -- The disk that comes of it is that image's, and sound; and what is printed.
 pub record IsSorted (image : List ℕ) (made : Changed) : Type 0 where
-  pub before : IsSoundWhole image
+  pub before : IsSoundDisk image
   pub bytes : List ℕ
   pub reordered : IsReordered (sectors_in image) before.layout.directory (sectors_in bytes)
-  pub sound : IsSoundWhole bytes
+  pub sound : IsSoundDisk bytes
   pub after : disk_image made.disk ≡ sectors_in bytes
   pub text : made.text.items ≡ codes "SORTED\n"
 
 -- why it isn't sorted: it isn't sound before, or after
 abbrev pub IsSortRefusal : (image : List ℕ) → CommandFault → Type 0
-IsSortRefusal image why = IsUnsoundOrShort image why
-    ⊎ ((before : IsSoundWhole image) × (bytes : List ℕ)
-    × IsReordered (sectors_in image) before.layout.directory (sectors_in bytes) × IsUnsoundOrShort bytes why)
+IsSortRefusal image why = IsSoundFault image why
+    ⊎ ((before : IsSoundDisk image) × (bytes : List ℕ)
+    × IsReordered (sectors_in image) before.layout.directory (sectors_in bytes) × IsSoundFault bytes why)

@@ -46,4 +46,4 @@ IsStoreRefusal image name text cut faults.NoFile = IsUsableBut image cut
 IsStoreRefusal image name text cut (faults.RecordsLine k) = IsUsableBut image cut (HasBadLine name text k)
 IsStoreRefusal image name text cut faults.DiskFull =
     IsUsableBut image cut (HasNoStoreRoom (sectors_in image) name text)
-IsStoreRefusal image name text cut why = IsUnusable image why
+IsStoreRefusal image name text cut why = IsUnusable image cut why

@@ -3,7 +3,7 @@ use Rattle.std.specs.Prelude.{◌≡◌, List, codes, ℕ}
 use Rattle.d64_image.specs.Images.{Image, put, sector}
 use Rattle.d64_image.specs.Memory.{disk_image, sectors_in}
 use Rattle.d64_image.specs.Offsets.{overwritten}
-use Rattle.disk_changes.specs.Judged.{IsSoundWhole}
+use Rattle.disk_changes.specs.Judged.{IsSoundDisk}
 use Rattle.disk_changes.specs.declared.changes.Changed.{Changed}
 use Rattle.disk_layout.specs.Directory.{map_place}
 use Rattle.disk_layout.specs.Rest.{slot_name}
@@ -14,6 +14,6 @@ retitled img name id = put img map_place (overwritten (overwritten (sector img m
 
 -- The disk that comes of it has them, and is otherwise as before; and what is printed.
 pub record IsTitled (image name id : List ℕ) (made : Changed) : Type 0 where
-  pub before : IsSoundWhole image
+  pub before : IsSoundDisk image
   pub after : disk_image made.disk ≡ retitled (sectors_in image) name id
   pub text : made.text.items ≡ codes "TITLED\n"

@@ -5,8 +5,9 @@ use d64_image::MemDisk;
 use damaged_files::Loss;
 use file_changes::FileType;
 
-/// A change to the files of a disk. A name that a file gets has at most sixteen bytes. If a file of the disk is cut short,
-/// nothing is changed, unless `cut` accepts that.
+/// A change to the files of a disk. A name that a file gets has at most sixteen bytes. If a file of the disk is cut short, a
+/// change that takes or frees sectors is made only if `cut` accepts that, because sectors that no file owns may be the part that
+/// was lost. A repair that accepts a loss settles it.
 #[derive(Clone, Copy)]
 pub enum Change<'a> {
     /// The first entry with the one name gets the other.
@@ -27,11 +28,13 @@ pub enum Change<'a> {
     /// The first file with the name is deleted.
     Delete {
         name: &'a [u8],
+        cut: Loss,
     },
     /// The first deleted file with the name is there again with this type.
     Undelete {
         kind: EntryType,
         name: &'a [u8],
+        cut: Loss,
     },
     /// The entries of the directory stand in the order of their names.
     Sort,
@@ -40,12 +43,14 @@ pub enum Change<'a> {
         name: &'a [u8],
         kind: FileType,
         content: &'a [u8],
+        cut: Loss,
     },
     /// A copy of the first closed file with this name of another image, PRG, SEQ, USR or REL, which gets the name `to`.
     CopyFile {
         source: &'a [u8],
         name: &'a [u8],
         to: &'a [u8],
+        cut: Loss,
     },
     /// A new relative file of this name, whose records have `length` bytes, 1 to 254.
     Make {

@@ -78,15 +78,16 @@ fn copy_of(
     content: &[u8],
     to: &[u8],
     image: &[u8],
+    cut: Loss,
 ) -> Result<Changed, CommandFault>
     requires to { length to.now ≤ 16 }
-    ensures ok { IfOk result (IsCopyOf entry.now content.now to.now image.now) }
-    ensures err { IfErr result (IsNoCopyOf entry.now content.now to.now image.now) }
+    ensures ok { IfOk result (IsCopyOf entry.now content.now to.now image.now cut) }
+    ensures err { IfErr result (IsNoCopyOf entry.now content.now to.now image.now cut) }
 {
     let Some(kind) = plain_type(entry) else {
         return Err(CommandFault::NoFile);
     };
-    let first = put(alloc, image, to, kind, content)?;
+    let first = put(alloc, image, to, kind, content, cut)?;
     let disk = with_lock_of(alloc, entry, to, first)?;
     changed(alloc, disk, b"COPIED\n")
 }
@@ -124,16 +125,17 @@ fn record_copy(
     text: &[u8],
     to: &[u8],
     image: &[u8],
+    cut: Loss,
 ) -> Result<Changed, CommandFault>
     requires to { length to.now ≤ 16 }
-    ensures ok { IfOk result (IsRecordCopyOf entry.now text.now to.now image.now) }
-    ensures err { IfErr result (IsNoRecordCopyOf entry.now text.now to.now image.now) }
+    ensures ok { IfOk result (IsRecordCopyOf entry.now text.now to.now image.now cut) }
+    ensures err { IfErr result (IsNoRecordCopyOf entry.now text.now to.now image.now cut) }
 {
     let Some(size) = record_size(entry) else {
         return Err(CommandFault::NoFile);
     };
-    let first = made(alloc, image, to, size, Loss::Refused)?;
-    let second = stored(alloc, first.disk.bytes(), to, text, Loss::Refused)?;
+    let first = made(alloc, image, to, size, cut)?;
+    let second = stored(alloc, first.disk.bytes(), to, text, cut)?;
     let disk = with_lock_of(alloc, entry, to, second)?;
     changed(alloc, disk, b"COPIED\n")
 }
@@ -147,15 +149,16 @@ fn relative_copy(
     name: &[u8],
     to: &[u8],
     image: &[u8],
+    cut: Loss,
 ) -> Result<Changed, CommandFault>
     requires to { length to.now ≤ 16 }
     ensures ok { IfOk result (λ made. (given : List ℕ) × IsTextOf source.now name.now given
-        × IsRecordCopyOf entry.now given to.now image.now made) }
+        × IsRecordCopyOf entry.now given to.now image.now cut made) }
     ensures err { IfErr result (λ why. IsNoTextOf source.now name.now why
-        ⊎ ((given : List ℕ) × IsTextOf source.now name.now given × IsNoRecordCopyOf entry.now given to.now image.now why)) }
+        ⊎ ((given : List ℕ) × IsTextOf source.now name.now given × IsNoRecordCopyOf entry.now given to.now image.now cut why)) }
 {
     let text = records_text(alloc, source, name)?;
-    record_copy(alloc, entry, text.as_slice(), to, image)
+    record_copy(alloc, entry, text.as_slice(), to, image, cut)
 }
 
 /// The image with a copy of the first closed file of that name of another image, which gets the name `to`: of its records if it
@@ -166,14 +169,15 @@ pub(crate) fn copied(
     source: &[u8],
     name: &[u8],
     to: &[u8],
+    cut: Loss,
 ) -> Result<Changed, CommandFault>
     requires to { length to.now ≤ 16 }
-    ensures ok { IfOk result (IsCopied source.now name.now to.now image.now) }
-    ensures err { IfErr result (IsCopyRefusal source.now name.now to.now image.now) }
+    ensures ok { IfOk result (IsCopied source.now name.now to.now image.now cut) }
+    ensures err { IfErr result (IsCopyRefusal source.now name.now to.now image.now cut) }
 {
     let (entry, content) = whole_file(alloc, source, name)?;
     if is_relative(&entry) {
-        return relative_copy(alloc, &entry, source, name, to, image);
+        return relative_copy(alloc, &entry, source, name, to, image, cut);
     }
-    copy_of(alloc, &entry, content.as_slice(), to, image)
+    copy_of(alloc, &entry, content.as_slice(), to, image, cut)
 }

@@ -17,12 +17,13 @@ pub(crate) fn put(
     name: &[u8],
     kind: FileType,
     content: &[u8],
+    cut: Loss,
 ) -> Result<Changed, CommandFault>
     requires name { length name.now ≤ 16 }
-    ensures ok { IfOk result (IsPut image.now name.now kind content.now) }
-    ensures err { IfErr result (IsPutRefusal image.now name.now kind content.now) }
+    ensures ok { IfOk result (IsPut image.now name.now kind content.now cut) }
+    ensures err { IfErr result (IsPutRefusal image.now name.now kind content.now cut) }
 {
-    let mut disk = usable_disk(alloc, image, Loss::Refused)?;
+    let mut disk = usable_disk(alloc, image, cut)?;
     put_file(&mut disk, name, kind, content)?;
     changed(alloc, disk, b"PUT\n")
 }

@@ -58,7 +58,7 @@ fn after(mut text: Vec<u8>, then: Changed) -> Result<Changed, CommandFault>
 /// places of first side sectors are those that the entries name.
 fn built_anew(alloc: Global, image: &[u8], free: bool, cut: Loss) -> Result<Changed, CommandFault>
     ensures ok { IfOk result (IsBuiltAnew image.now free cut) }
-    ensures err { IfErr result (IsRebuildRefusal image.now) }
+    ensures err { IfErr result (IsRebuildRefusal image.now free cut) }
 {
     let mut text = Vec::new(alloc);
     let disk = built(alloc, image, cut, &mut text)?;
@@ -96,7 +96,7 @@ pub(crate) fn rebuilt(
     cut: Loss,
 ) -> Result<Changed, CommandFault>
     ensures ok { IfOk result (IsRebuilt image.now free cut) }
-    ensures err { IfErr result (IsRebuildRefusal image.now) }
+    ensures err { IfErr result (IsRebuildRefusal image.now free cut) }
 {
     match named_and_built(alloc, image, free, cut) {
         Ok(Some(made)) => Ok(made),

@@ -1,7 +1,7 @@
 //! The disk of an image with another name and ID.
 ghost use Rattle.std.specs.Prelude.{◌≡◌, ◌≤◌, IfErr, IfOk, length};
 ghost use Rattle.d64_image.specs.Memory.{disk_image};
-ghost use Rattle.disk_changes.specs.Judged.{IsUnsoundOrShort};
+ghost use Rattle.command_faults.specs.Faults.{IsSoundFault};
 ghost use Rattle.disk_changes.specs.Titles.{IsTitled, retitled};
 
 use crate::changes::Changed;
@@ -33,7 +33,7 @@ pub(crate) fn titled(
 ) -> Result<Changed, CommandFault>
     requires name { length name.now ≤ 16 }
     ensures ok { IfOk result (IsTitled image.now name.now id) }
-    ensures err { IfErr result (IsUnsoundOrShort image.now) }
+    ensures err { IfErr result (IsSoundFault image.now) }
 {
     let mut disk = sound_disk(alloc, image)?;
     set_title(&mut disk, name, id);

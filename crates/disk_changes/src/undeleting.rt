@@ -2,13 +2,13 @@
 ghost use Rattle.std.specs.Prelude.{◌≡◌, ◌≤◌, ◌<◌, ℕ, IfErr, IfOk, length};
 ghost use Rattle.d64_image.specs.Memory.{disk_image};
 ghost use Rattle.disk_layout.specs.Layout.{IsLayout, IsSound, Layout};
-ghost use Rattle.disk_changes.specs.Undeletes.{IsUndeletable, IsUndeleted, IsUndeleteRefusal, IsUnfound, with_type};
+ghost use Rattle.disk_changes.specs.Undeletes.{IsKeptRight, IsNotRight, IsUndeletable, IsUndeleted, IsUndeleteRefusal, IsUnfound, with_type};
 
 use crate::changes::Changed;
 use crate::entry_types::EntryType;
-use crate::judging::sound_disk;
+use crate::judging::sound_taken_disk;
 use crate::outcomes::changed;
-use crate::repairing::repaired;
+use crate::repairing::{mended_image, repaired};
 use arrayvec::ArrayVec;
 use command_faults::CommandFault;
 use d64_image::{MemDisk, Sectors};
@@ -58,6 +58,17 @@ fn put_type(disk: &mut MemDisk, entry: &Slot, kind: EntryType)
     let _ = disk.write(entry.sector, &bytes);
 }
 
+/// The image repaired so that no sector becomes free. If a loss is accepted, a file that is cut short stays so.
+fn kept_right(alloc: Global, image: &[u8], cut: Loss) -> Result<Changed, CommandFault>
+    ensures ok { IfOk result (IsKeptRight image.now cut) }
+    ensures err { IfErr result (IsNotRight image.now cut) }
+{
+    match cut {
+        Loss::Refused => repaired(alloc, image, false, Loss::Refused),
+        Loss::Accepted => mended_image(alloc, image, false),
+    }
+}
+
 /// The image in which the first deleted entry of this name has this type. Its disk is then repaired, so that the map calls
 /// its blocks taken, and no sector becomes free.
 pub(crate) fn undeleted(
@@ -65,16 +76,17 @@ pub(crate) fn undeleted(
     image: &[u8],
     name: &[u8],
     kind: EntryType,
+    cut: Loss,
 ) -> Result<Changed, CommandFault>
-    ensures ok { IfOk result (IsUndeleted image.now name.now kind) }
-    ensures err { IfErr result (IsUndeleteRefusal image.now name.now kind) }
+    ensures ok { IfOk result (IsUndeleted image.now name.now kind cut) }
+    ensures err { IfErr result (IsUndeleteRefusal image.now name.now kind cut) }
 {
-    let mut disk = sound_disk(alloc, image)?;
+    let mut disk = sound_taken_disk(alloc, image, cut)?;
     if name.len() > 16 {
         return Err(CommandFault::NoFile);
     }
     let entry = find_deleted(&disk, name)?;
     put_type(&mut disk, &entry, kind);
-    let mended = repaired(alloc, disk.bytes(), false, Loss::Refused)?;
+    let mended = kept_right(alloc, disk.bytes(), cut)?;
     changed(alloc, mended.disk, b"UNDELETED\n")
 }

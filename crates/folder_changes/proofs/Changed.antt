@@ -6,6 +6,7 @@ use Rattle.command_faults.specs.Outputs.{HandsPart}
 use Rattle.d64_image.specs.Images.{Image}
 use Rattle.d64_image.specs.Memory.{disk_image, sectors_in}
 use Rattle.disk_changes.proofs.Copied.{copied-in-memory}
+use Rattle.disk_changes.proofs.Repaired.{repaired-in-memory, repaired-size, undeleted-in-memory}
 use Rattle.disk_changes.specs.Changes.{IsBarred, IsChanged, IsDone, IsRefused}
 use Rattle.disk_changes.specs.declared.changes.Change.{Change}
 use Rattle.disk_changes.specs.declared.changes.Change.TheVariants as changes
@@ -56,11 +57,15 @@ printed contents Is Refuses before after made is (Err fault) all part output =
 
 -- what bars a change in memory is neither the output nor the device
 barred-in-memory : (what : Change) (image : List ℕ) → (IsBarred what image faults.File → ⊥) × (IsBarred what image faults.Device → ⊥)
-barred-in-memory (changes.Rebuild free cut) image =
+barred-in-memory (changes.Repair free cut) image = repaired-in-memory image free cut
+barred-in-memory (changes.Rebuild free cut) image = (
+  λ why. ⊎_elim (λ w. w) (λ w. (repaired-in-memory w.0 free cut).0 w.2) why,
+  λ why. ⊎_elim (λ w. w) (λ w. (repaired-in-memory w.0 free cut).1 w.2) why,
+)
+barred-in-memory (changes.Delete name cut) image =
     (λ why. ⊎_elim (λ w. w) (λ w. w.2) why, λ why. ⊎_elim (λ w. w) (λ w. w.2) why)
-barred-in-memory (changes.Undelete kind name) image =
-    (λ why. ⊎_elim (λ w. w) (λ w. w.2) why, λ why. ⊎_elim (λ w. w) (λ w. w.2) why)
-barred-in-memory (changes.CopyFile source name to) image = copied-in-memory source.now name.now to.now image
+barred-in-memory (changes.Undelete kind name cut) image = undeleted-in-memory image name.now kind cut
+barred-in-memory (changes.CopyFile source name to cut) image = copied-in-memory source.now name.now to.now image cut
 barred-in-memory changes.Sort image = (λ why. ⊎_elim (λ w. w) (λ w. w.3) why, λ why. ⊎_elim (λ w. w) (λ w. w.3) why)
 barred-in-memory _ image = (λ why. why, λ why. why)
 
@@ -76,15 +81,15 @@ sized-done : (what : Change) (image : List ℕ) (made : Changed) → IsDone what
 sized-done (changes.Rename from to) image made is = is.before.size
 sized-done (changes.Title id name) image made is = is.before.size
 sized-done (changes.Lock lock name) image made is = is.before.size
-sized-done (changes.Delete name) image made is = is.before.taken.0
-sized-done (changes.Undelete kind name) image made is = is.retyped.before.size
-sized-done (changes.CopyFile source name to) image made is =
+sized-done (changes.Delete name cut) image made is = is.before.taken.0
+sized-done (changes.Undelete kind name cut) image made is = is.retyped.before.size
+sized-done (changes.CopyFile source name to cut) image made is =
     ⊎_elim (λ plain. plain.1.put.before.taken.0) (λ records. records.3.new.before.taken.0) is.copy
 sized-done changes.Sort image made is = is.before.size
-sized-done (changes.Put name kind content) image made is = is.before.taken.0
+sized-done (changes.Put name kind content cut) image made is = is.before.taken.0
 sized-done (changes.Make name L cut) image made is = is.before.taken.0
 sized-done (changes.Store name text cut) image made is = is.before.taken.0
-sized-done (changes.Repair free cut) image made is = is.before.0
+sized-done (changes.Repair free cut) image made is = repaired-size image free cut made is
 sized-done (changes.Rebuild free cut) image made is = ⊎_elim (λ w. w.built.0) (λ w. w.size) is
 
 pub sized : (what : Change) (image : List ℕ) (made : Changed) → IsChanged what image made → length image ≡ 174848

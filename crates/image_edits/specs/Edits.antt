@@ -24,7 +24,7 @@ abbrev pub frees : Unowned → Bool
 frees Kept = false
 frees Freed = true
 
--- what is done if a disk has lost a part of a file, or the image its log
+-- what is done if a disk has lost a part of a file, or the image its log: one flag accepts both
 abbrev pub loss_of : Edit → Loss
 loss_of (edits.Repair loss unowned) = loss
 loss_of (edits.RepairSides loss unowned) = loss
@@ -66,13 +66,14 @@ Asks (edits.Make size loss name) text (changes.Make new L cut) = (new.now ≡ na
 Asks (edits.Rename loss from to) text (changes.Rename old new) = (old.now ≡ name_bytes from) × (new.now ≡ name_bytes to)
 Asks (edits.Title id loss name) text (changes.Title new_id new) = (new_id ≡ id) × (new.now ≡ name_bytes name)
 Asks (edits.Lock lock loss name) text (changes.Lock way of) = (way ≡ lock) × (of.now ≡ name_bytes name)
-Asks (edits.Delete loss name) text (changes.Delete of) = of.now ≡ name_bytes name
-Asks (edits.Undelete kind loss name) text (changes.Undelete new of) = (new ≡ kind) × (of.now ≡ name_bytes name)
+Asks (edits.Delete loss name) text (changes.Delete of cut) = (of.now ≡ name_bytes name) × (cut ≡ loss)
+Asks (edits.Undelete kind loss name) text (changes.Undelete new of cut) =
+    (new ≡ kind) × (of.now ≡ name_bytes name) × (cut ≡ loss)
 Asks (edits.Sort loss) text changes.Sort = ⊤
-Asks (edits.Put file kind loss name) text (changes.Put new type content) =
-    (new.now ≡ name_bytes name) × (type ≡ kind) × (content.now ≡ text)
-Asks (edits.CopyFile from loss name to) text (changes.CopyFile source of new) =
-    (source.now ≡ text) × (of.now ≡ name_bytes name) × (new.now ≡ name_bytes to)
+Asks (edits.Put file kind loss name) text (changes.Put new type content cut) =
+    (new.now ≡ name_bytes name) × (type ≡ kind) × (content.now ≡ text) × (cut ≡ loss)
+Asks (edits.CopyFile from loss name to) text (changes.CopyFile source of new cut) =
+    (source.now ≡ text) × (of.now ≡ name_bytes name) × (new.now ≡ name_bytes to) × (cut ≡ loss)
 Asks (edits.Store records columns loss name) text (changes.Store of lines cut) =
     (of.now ≡ name_bytes name) × (lines.now ≡ text) × (cut ≡ loss)
 Asks _ text _ = ⊥

@@ -75,7 +75,7 @@ pub enum Edit<'a> {
     },
     /// The first file of a name gets another name.
     Rename {
-        /// What is done if the image has lost its log.
+        /// What is done if the disk has lost a part of a file, or the image its log.
         loss: Loss,
         /// The name that the file has.
         from: Name,
@@ -86,7 +86,7 @@ pub enum Edit<'a> {
     Title {
         /// Its ID.
         id: [u8; 2],
-        /// What is done if the log of the image is away.
+        /// What is done if the disk has lost a part of a file, or the image its log.
         loss: Loss,
         /// Its name.
         name: Name,
@@ -95,14 +95,14 @@ pub enum Edit<'a> {
     Lock {
         /// Which of the two.
         lock: Lock,
-        /// What is done if the image has lost its log.
+        /// What is done if the disk has lost a part of a file, or the image its log.
         loss: Loss,
         /// The name of the file.
         name: Name,
     },
     /// The first file of a name is deleted.
     Delete {
-        /// What is done if the image has lost its log.
+        /// What is done if the disk has lost a part of a file, or the image its log.
         loss: Loss,
         /// The name of the file.
         name: Name,
@@ -111,14 +111,14 @@ pub enum Edit<'a> {
     Undelete {
         /// Its type.
         kind: EntryType,
-        /// What is done if the image has lost its log.
+        /// What is done if the disk has lost a part of a file, or the image its log.
         loss: Loss,
         /// The name of the file.
         name: Name,
     },
     /// The directory is sorted.
     Sort {
-        /// What is done if the image has lost its log.
+        /// What is done if the disk has lost a part of a file, or the image its log.
         loss: Loss,
     },
     /// A new file is made, with the bytes of a file of the host.
@@ -127,7 +127,7 @@ pub enum Edit<'a> {
         file: &'a str,
         /// The type of the new file.
         kind: FileType,
-        /// What is done if the image has lost its log.
+        /// What is done if the disk has lost a part of a file, or the image its log.
         loss: Loss,
         /// The name of the new file.
         name: Name,
@@ -136,7 +136,7 @@ pub enum Edit<'a> {
     CopyFile {
         /// The path of the other image.
         from: &'a str,
-        /// What is done if the image has lost its log.
+        /// What is done if the disk has lost a part of a file, or the image its log.
         loss: Loss,
         /// The name that the file has there.
         name: Name,

@@ -80,20 +80,33 @@ impl Edit<'_> {
                 lock,
                 name: name.as_bytes(),
             },
-            Edit::Delete { ref name, .. } => Change::Delete {
+            Edit::Delete { loss, ref name } => Change::Delete {
                 name: name.as_bytes(),
+                cut: loss,
             },
-            Edit::Undelete { kind, ref name, .. } => Change::Undelete {
+            Edit::Undelete {
+                kind,
+                loss,
+                ref name,
+            } => Change::Undelete {
                 kind,
                 name: name.as_bytes(),
+                cut: loss,
             },
             Edit::Sort { .. } => Change::Sort,
-            Edit::Put { kind, ref name, .. } => Change::Put {
+            Edit::Put {
+                kind,
+                loss,
+                ref name,
+                ..
+            } => Change::Put {
                 name: name.as_bytes(),
                 kind,
                 content: text,
+                cut: loss,
             },
             Edit::CopyFile {
+                loss,
                 ref name,
                 ref to,
                 ..
@@ -101,6 +114,7 @@ impl Edit<'_> {
                 source: text,
                 name: name.as_bytes(),
                 to: to.as_bytes(),
+                cut: loss,
             },
             Edit::Store { loss, ref name, .. } => Change::Store {
                 name: name.as_bytes(),

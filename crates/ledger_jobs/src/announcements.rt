@@ -4,11 +4,12 @@ ghost use Rattle.opened_files.specs.Rights.{MayReadImage};
 
 use crate::failure_lines::tell_of;
 use crate::jobs::Job;
-use crate::refusal_subjects::{CUT_SHORT, said_of_fault};
+use crate::cures::{cure_of, meaning_of_fault};
+use crate::refusal_subjects::{CUT_SHORT, FEWER};
 use crate::typed_names::warn_of_name;
 use command_faults::CommandFault;
 use damaged_files::Shortfall;
-use disk_changes::has_geos_sign;
+use disk_changes::{Remedy, find_remedy, has_geos_sign};
 use disk_layout::{Fault, map_place};
 use image_file::{HostFiles, Locks, ShownPath};
 use image_looks::Look;
@@ -57,6 +58,61 @@ fn print_lack<E: Write>(err: &mut E, lack: Lack) {
     let _ = writeln!(err, "{}", lack.shortfall);
 }
 
+/// What can be done about the image at a path. None also if another program has the image alone, if it can't be read, and of standard
+/// input.
+pub(crate) fn remedy_at<F, R>(rt: &R, path: &str) -> Option<Remedy>
+where
+    F: Read + Locks + OpenFile + Drop,
+    R: HostFiles<File = F> + AllocGlobal,
+    requires { MayReadImage R.rights rt.now path.now }
+{
+    if path == STANDARD_INPUT {
+        return None;
+    }
+    let image = image_of_file(rt, path).ok()?;
+    find_remedy(rt.alloc(), image.as_slice()).ok()
+}
+
+/// Prints what a fault of the image at a path means, and what can be done about this very image.
+pub(crate) fn tell_fault<F, R, E>(rt: &R, image: &str, fault: Fault, err: &mut E)
+where
+    F: Read + Locks + OpenFile + Drop,
+    R: HostFiles<File = F> + AllocGlobal,
+    E: Write,
+    requires { MayReadImage R.rights rt.now image.now }
+{
+    let meaning = meaning_of_fault(fault);
+    let cure = match remedy_at(rt, image) {
+        Some(remedy) => cure_of(remedy),
+        None => None,
+    };
+    let shown = ShownPath(image);
+    let _ = match cure {
+        Some(cure) => writeln!(err, "ledger: {shown}: {meaning}; {cure}"),
+        None => writeln!(err, "ledger: {shown}: {meaning}"),
+    };
+}
+
+/// Prints what can be done about what the files of a clean disk lack.
+fn tell_lack<F, R, E>(rt: &R, image: &str, lack: Lack, err: &mut E)
+where
+    F: Read + Locks + OpenFile + Drop,
+    R: HostFiles<File = F> + AllocGlobal,
+    E: Write,
+    requires { MayReadImage R.rights rt.now image.now }
+{
+    let said = match lack.shortfall {
+        Shortfall::Fewer(_) => Some(FEWER),
+        Shortfall::Short(_) => match remedy_at(rt, image) {
+            Some(remedy) => cure_of(remedy),
+            None => None,
+        },
+    };
+    if let Some(said) = said {
+        tell_of(err, image, said);
+    }
+}
+
 /// Prints for a person, after the verdict of a check, what the fault means that it found, and what to do. Then it prints
 /// what a file of the image lacks, if one lacks something: a line `SHORT t/s` or `FEWER t/s`. A line `GEOS` stands before
 /// `SHORT t/s` of a disk of GEOS, as changes refuse it. For that the image's file is opened, locked with others that read
@@ -76,15 +132,18 @@ where
         return;
     };
     if let Some(fault) = found {
-        tell_of(err, image, said_of_fault(fault));
+        tell_fault(rt, image, fault, err);
     }
     if let Some(lack) = shortfall_at(rt, image) {
         print_lack(err, lack);
+        if found.is_none() {
+            tell_lack(rt, image, lack, err);
+        }
     }
 }
 
 /// Prints for a person, before an image is played, where its first file is cut short.
-fn warn_of_cut<F, R, E>(rt: &R, image: &str, err: &mut E)
+pub(crate) fn warn_of_cut<F, R, E>(rt: &R, image: &str, err: &mut E)
 where
     F: Read + Locks + OpenFile + Drop,
     R: HostFiles<File = F> + AllocGlobal,

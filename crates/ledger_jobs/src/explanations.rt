@@ -3,13 +3,15 @@
 ghost use Rattle.ledger_jobs.specs.JobRights.{MayExplain};
 ghost use Rattle.opened_files.specs.Rights.{MayLook};
 
+use crate::announcements::{tell_fault, warn_of_cut};
 use crate::failure_lines::{tell_device, tell_files, tell_of, tell_of_either, tell_of_image};
 use crate::job_files::{first_file, image_of, text_of};
 use crate::jobs::Job;
 use crate::near_names::tell_name;
-use crate::refusal_subjects::{Advice, subject_of};
+use crate::refusal_subjects::{Advice, LOG_AWAY, said_of_fault, subject_of};
 use crate::size_lines::{missized_of, tell_size};
 use command_faults::CommandFault;
+use disk_layout::Fault;
 use image_file::{Failure, HostFiles, Locks};
 use opened_files::size_of;
 use std::fs::OpenFile;
@@ -54,6 +56,36 @@ fn tell_made<R: HostFiles, E: Write>(rt: &R, job: &Job<'_>, err: &mut E)
     }
 }
 
+/// Prints what a fault of a job's first image means, and what can be done about it. Of two images that are compared it isn't known
+/// which one has the fault.
+fn tell_fault_of<F, R, E>(rt: &R, job: &Job<'_>, fault: Fault, err: &mut E)
+where
+    F: Read + Locks + OpenFile + Drop,
+    R: HostFiles<File = F> + AllocGlobal,
+    E: Write,
+    requires { MayExplain R.rights rt.now job.now }
+{
+    match (job, first_file(job)) {
+        (Job::Compare { .. }, _) | (_, None) => tell_of_image(err, job, said_of_fault(fault)),
+        (_, Some(image)) => tell_fault(rt, image, fault, err),
+    }
+}
+
+/// Prints that the log of a job's image isn't there; and where a file of the image is cut short, because one flag accepts both
+/// losses.
+fn tell_away<F, R, E>(rt: &R, job: &Job<'_>, err: &mut E)
+where
+    F: Read + Locks + OpenFile + Drop,
+    R: HostFiles<File = F> + AllocGlobal,
+    E: Write,
+    requires { MayExplain R.rights rt.now job.now }
+{
+    tell_of_image(err, job, LOG_AWAY);
+    if let Some(image) = first_file(job) {
+        warn_of_cut(rt, image, err);
+    }
+}
+
 /// Prints for a person, in a line below the refusal's own, which file it is about, what the system said of it, or what to
 /// do. `cause` is why a call of the system failed, if one did. No file is opened for it, with two exceptions: if no file
 /// has the name, or the image has another size, it is locked with others that read it, and read again. If the line can't
@@ -81,6 +113,8 @@ where
         }
         Advice::Device => tell_device(job, cause, err),
         Advice::Image(said) => tell_of_image(err, job, said),
+        Advice::Fault(fault) => tell_fault_of(rt, job, fault, err),
+        Advice::Away => tell_away(rt, job, err),
         Advice::Name => {
             if let Some(image) = first_file(job) {
                 tell_name(rt, job, image, err);

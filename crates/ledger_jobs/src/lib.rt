@@ -2,6 +2,7 @@
 #![tactic(auto)]
 
 mod announcements;
+mod cures;
 mod dispatch;
 mod explanations;
 mod failure_lines;

@@ -1,10 +1,10 @@
 //! What a refusal is about, and what is said of it to a person.
 
+use crate::cures::{FORMAT, GEOS};
 use crate::jobs::Job;
 use crate::size_lines::SIZE;
 use command_faults::CommandFault;
-use d64_image::Place;
-use disk_layout::{Fault, map_place};
+use disk_layout::Fault;
 use image_edits::Edit;
 
 /// What a line for a person is about.
@@ -17,6 +17,10 @@ pub(crate) enum Advice {
     Device,
     /// The image, of which this is printed.
     Image(&'static str),
+    /// The image, whose disk has this fault.
+    Fault(Fault),
+    /// The image, whose log isn't there.
+    Away,
     /// A name that no file of the image has.
     Name,
     /// The script, the records or the other image, of which this is printed.
@@ -29,28 +33,10 @@ pub(crate) enum Advice {
     Nothing,
 }
 
-const JUDGED: &str =
-    "\"man ledger-1541\" or docs/KEEPERS.md says what the word means, and what to do";
+const JUDGED: &str = "\"man ledger-1541\" says what the word means, and what to do";
 
-/// What is said of a sector that two have: the BAM's own, or another one.
-fn said_of_shared(place: Place) -> &'static str {
-    if place == map_place() {
-        "an entry names the BAM's sector, as in drawn directories; `extract` takes the files out"
-    } else {
-        "two of the files, the directory and the BAM have it; `extract` takes out what can be read"
-    }
-}
-
-/// What is said of a wrong side sector, or of the directory sector of an entry that names none.
-fn said_of_side(place: Place) -> &'static str {
-    if place.track() == map_place().track() {
-        "a relative file's entry there names no side sector; `repair --sides` builds those anew"
-    } else {
-        "a side sector disagrees with its file; `repair --sides` builds those anew"
-    }
-}
-
-/// What a fault of a disk means, and what to do.
+/// What a fault of a disk means, and what helps against it. What helps one disk doesn't help each: a line about an image says what
+/// can be done about this one (`cures`).
 pub(crate) fn said_of_fault(fault: Fault) -> &'static str {
     match fault {
         Fault::BadLink(_) => {
@@ -58,18 +44,20 @@ pub(crate) fn said_of_fault(fault: Fault) -> &'static str {
         }
         Fault::Loop(_) =>
             "a chain of sectors comes back to it; `extract` takes out what can be read",
-        Fault::OwnedTwice(place) => said_of_shared(place),
+        Fault::OwnedTwice(_) => {
+            "two of the files, the directory and the BAM have it; `extract` takes out what can be read"
+        }
         Fault::BadType(_) =>
             "an entry there has a type that doesn't exist; `bytes` takes files out",
         Fault::Unclosed(_) => "a file there was never closed; `extract` takes it out",
-        Fault::BadSide(place) => said_of_side(place),
+        Fault::BadSide(_) => "a side sector disagrees with its file, or an entry names none; `repair --sides` builds it anew",
         Fault::BadLength(_) => {
             "a relative file there has a record length of 0 or 255; `bytes` takes files out"
         }
         Fault::CountWrong(_) => {
-            "a relative file's entry there has a wrong block count; `repair` corrects it"
+            "a relative file's entry there has a wrong block count; `repair` corrects it, unless more is wrong"
         }
-        Fault::MapWrong(_) => "the BAM is wrong; `repair` corrects it",
+        Fault::MapWrong(_) => "the BAM is wrong; `repair` corrects it, unless more is wrong",
         Fault::Device(_) => JUDGED,
     }
 }
@@ -81,22 +69,30 @@ pub(crate) const KEPT: &str =
     "no file owns what is kept, but it may hold data; if you know that it doesn't, `repair --free` frees it";
 
 pub(crate) const FOREIGN_LOG: &str =
-    "the log beside it is of another image, or not whole (docs/LOG.md); `copy --log IMAGE-log NEW` gets out what it has";
+    "the log beside it is of another image, or not whole; `copy --log IMAGE-log NEW` gets out what it has";
 
 const NO_BASE: &str = "its first commit isn't whole, so it gives no image";
 
 pub(crate) const LOG_AWAY: &str =
-    "the last requests are in its log, which isn't beside it; docs/LOG.md says what to do";
+    "the last requests are in its log, which isn't beside it: put it back there, or go on without them by --accept-loss";
 
 pub(crate) const SECOND_NAME: &str =
     "it has a second name (a hard link), and would have a log under each, or it is mounted by itself, \
      without its log; keep one name, mount its folder, or `copy` it";
 
 pub(crate) const CUT_SHORT: &str =
-    "a file ends there, too early (docs/KEEPERS.md); if `check` said OK before, use --accept-loss";
+    "a file ends there, too early: a sector of it was lost; read the disk again, or `repair --accept-loss` lets it end there";
+
+/// What is said if a change is refused for that: the sectors that no file owns may be what was lost.
+pub(crate) const CUT_CHANGE: &str =
+    "a file ends there, too early, and sectors that no file owns may be its end; read the disk again, or go on by --accept-loss";
+
+/// What is said if a file that was printed, or that was to be copied, ends so.
+pub(crate) const CUT_LOOK: &str =
+    "the file ends there, too early: a sector of it was lost; `bytes` and `extract` take out what is left";
 
 pub(crate) const FEWER: &str =
-    "a file ends there, and its entry counts more blocks; compare it with another copy of the disk";
+    "a file ends there, and its entry counts more blocks; compare it with another copy, or `repair --accept-loss` sets the count";
 
 pub(crate) const TAKEN: &str = "another program has it; end that one first";
 
@@ -115,16 +111,12 @@ pub(crate) const SHOP_FILE: &str =
 
 pub(crate) const BAD_LINE: &str = "nothing was done; mend the line, and run it again";
 
-pub(crate) const GEOS: &str = "it is a disk of GEOS, which keeps sectors that no file owns";
-
-pub(crate) const FORMAT: &str = "its format byte isn't $41; it may be no disk of the 1541";
-
 /// What a fault of a command is about.
 fn about_fault(fault: CommandFault) -> Advice {
     match fault {
         CommandFault::File => Advice::Files,
         CommandFault::ImageSize => Advice::Size,
-        CommandFault::Layout(fault) => Advice::Image(said_of_fault(fault)),
+        CommandFault::Layout(fault) => Advice::Fault(fault),
         CommandFault::NoFile => Advice::Name,
         CommandFault::FileExists => Advice::Image(NAMED),
         CommandFault::DiskFull => Advice::Image(NO_ROOM),
@@ -142,9 +134,9 @@ fn about_fault(fault: CommandFault) -> Advice {
         CommandFault::StraysLeft(_) => Advice::Image(KEPT),
         CommandFault::PathExists => Advice::Made,
         CommandFault::Log => Advice::Image(FOREIGN_LOG),
-        CommandFault::LogAway => Advice::Image(LOG_AWAY),
+        CommandFault::LogAway => Advice::Away,
         CommandFault::TwoNames => Advice::Image(SECOND_NAME),
-        CommandFault::Short(_) => Advice::Image(CUT_SHORT),
+        CommandFault::Short(_) => Advice::Image(CUT_CHANGE),
         CommandFault::ShopFile => Advice::Image(SHOP_FILE),
         CommandFault::Trimmed => Advice::Image(JUDGED),
         CommandFault::Several(_) => Advice::Nothing,
@@ -175,6 +167,7 @@ fn about_copy(from: &str, image: &str, fault: CommandFault) -> Advice {
 pub(crate) fn subject_of(job: &Job<'_>, refusal: CommandFault) -> Advice {
     match (job, refusal) {
         (Job::Salvage { .. }, CommandFault::Log) => Advice::Image(NO_BASE),
+        (Job::Look { .. }, CommandFault::Short(_)) => Advice::Image(CUT_LOOK),
         (
             Job::Change {
                 image,

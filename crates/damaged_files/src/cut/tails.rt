@@ -1,11 +1,13 @@
 //! The end of a file's chain, and whether it comes too early.
-ghost use Rattle.std.specs.Prelude.{◌≡◌, ◌↔◌, ◌≤◌, ◌-◌, ◌<◌, ⊤, IsTrue, MatchOption, Some, [], length, replicate, slice_get};
+ghost use Rattle.std.specs.Prelude.{◌≡◌, ◌↔◌, ◌≤◌, ◌+◌, ◌-◌, ◌<◌, ⊤, ℕ, IsTrue, MatchOption, Some, [], length, replicate, slice_get};
 ghost use Rattle.d64_image.specs.Images.{sector};
 ghost use Rattle.d64_image.specs.Memory.{disk_image};
 ghost use Rattle.d64_image.specs.declared.place.Place.{Place};
+ghost use Rattle.d64_image.specs.declared.place.Place as places;
 ghost use Rattle.disk_layout.specs.Layout.{File, IsFile};
 ghost use Rattle.disk_layout.specs.Chain.{named_at};
 ghost use Rattle.damaged_files.specs.cut.Cut.{CountsMore, HasFewer, IsCutIn, IsShort, IsVlir, info_blocks as info_of};
+ghost use Rattle.damaged_files.specs.cut.Settled.{IsLostEnd};
 
 use crate::cut::listed::is_listed_past;
 use crate::cut::names::{is_plain, never_grows};
@@ -127,6 +129,38 @@ pub(crate) fn fewer_of(disk: &mut MemDisk, slot: &Slot) -> Option<Place>
     };
     if counts_more(slot, blocks) {
         Some(place)
+    } else {
+        None
+    }
+}
+
+/// The sector of zeros in which the chain of an entry of a sound disk ends; None if it doesn't end so.
+pub(crate) fn lost_end(disk: &mut MemDisk, slot: &Slot) -> Option<Place>
+    ensures some { (f : File) → IsFile (disk_image disk.old) f → f.slot ≡ slot.now → (q : places.Place) → result ≡ Some q
+        → IsLostEnd (disk_image disk.old) f q }
+    ensures same { disk_image disk.new ≡ disk_image disk.old }
+{
+    let tail = tail_of(disk, slot)?;
+    let kind = EntryView::new(&slot.bytes).is_relative() || is_plain(slot);
+    if kind && is_blank(disk, tail.place) {
+        Some(tail.place)
+    } else {
+        None
+    }
+}
+
+/// The block count of the chain of an entry of a sound disk, if the entry counts more.
+pub(crate) fn count_to_set(disk: &mut MemDisk, slot: &Slot) -> Option<u16>
+    ensures some { (f : File) → IsFile (disk_image disk.old) f → f.slot ≡ slot.now → (n : ℕ) → result ≡ Some n
+        → CountsMore f.slot (length f.blocks) × (n ≡ length f.blocks + info_of (named_at f.slot.bytes 21)) }
+    ensures same { disk_image disk.new ≡ disk_image disk.old }
+{
+    let blocks = match tail_of(disk, slot) {
+        Some(tail) => tail.blocks,
+        None => 0,
+    };
+    if counts_more(slot, blocks) {
+        Some((blocks + info_blocks(slot)) as u16)
     } else {
         None
     }

@@ -16,7 +16,7 @@ use disk_layout::{EntryView, Slot};
 const SIDE_AT: usize = 21;
 
 /// Writes two bytes over those of a sector from byte `at` on.
-fn overwrite(bytes: &mut [u8; 256], at: usize, new: &[u8; 2])
+pub(crate) fn overwrite(bytes: &mut [u8; 256], at: usize, new: &[u8; 2])
     requires { at ≤ 254 }
     ensures { bytes.new ≡ overwritten bytes.old at new.now }
 {

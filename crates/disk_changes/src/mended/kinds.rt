@@ -3,10 +3,11 @@ ghost use Rattle.std.specs.Prelude.{◌≡◌, ◌↔◌, IfErr, IsTrue, OnOk};
 ghost use Rattle.d64_image.specs.Images.{sector};
 ghost use Rattle.d64_image.specs.Memory.{disk_image};
 ghost use Rattle.disk_layout.specs.Directory.{map_place};
-ghost use Rattle.disk_changes.specs.mended.Kinds.{HasFormatByte, HasGeosSign, IsKindFault, IsPlainDisk};
+ghost use Rattle.disk_changes.specs.mended.Kinds.{HasFormatByte, HasGeosSign, IsGeosDisk, IsKindFault, IsPlainDisk};
 
 use command_faults::CommandFault;
 use d64_image::MemDisk;
+use damaged_files::has_geos_entry;
 use disk_layout::map_place;
 
 /// GEOS's signature, from byte 173 of 18/0 on, up to the version's number.
@@ -32,4 +33,12 @@ pub(crate) fn judge_kind(disk: &MemDisk) -> Result<(), CommandFault>
         return Err(CommandFault::Format);
     }
     Ok(())
+}
+
+/// Whether the disk is one of GEOS by its signature, or has a file of GEOS.
+pub(crate) fn is_geos_disk(disk: &mut MemDisk) -> bool
+    ensures geos { IsTrue result ↔ IsGeosDisk (disk_image disk.old) }
+    ensures same { disk_image disk.new ≡ disk_image disk.old }
+{
+    has_geos_sign(disk.sector(map_place())) || has_geos_entry(disk)
 }

@@ -171,7 +171,7 @@ pub(crate) fn print_changed<D: Sectors, W: Write>(
 }
 
 /// Prints what was mended and what is left, and hands it over.
-fn print_mended<D: Sectors, W: Write>(
+pub(crate) fn print_mended<D: Sectors, W: Write>(
     out: &mut W,
     before: &MemDisk,
     after: &mut D,

@@ -16,7 +16,7 @@ returns-then-is_relative-clause-ok c = IfOk-weaker c.relative_copy.result _ _
 
 pub returns-then-is_relative-clause-err : goal.returns-then-is_relative-clause-err
 returns-then-is_relative-clause-err c = IfErr-weaker c.relative_copy.result _ _
-    (λ why no. not-copied c.args.source.now c.args.name.now c.args.to.now c.args.image.now c.in_ok-entry.entry
+    (λ why no. not-copied c.args.source.now c.args.name.now c.args.to.now c.args.image.now c.args.cut c.in_ok-entry.entry
     c.in_ok-entry.content.items c.in_ok-entry.ensures.ok why (inr (c.is_relative.ensures.0 c.if-is_relative.true, no)))
     c.relative_copy.ensures.err
 
@@ -28,14 +28,14 @@ returns-clause-ok c = IfOk-weaker c.copy_of.result _ _
       file = c.in_ok-entry.ensures.ok;
       copy = inl (
         λ relative. absurd (cc (c.is_relative.ensures.1 relative, c.if-is_relative.false)),
-        subst (λ (bytes : List ℕ). IsCopyOf c.in_ok-entry.entry bytes c.args.to.now c.args.image.now made)
+        subst (λ (bytes : List ℕ). IsCopyOf c.in_ok-entry.entry bytes c.args.to.now c.args.image.now c.args.cut made)
             c.as_slice.ensures.value is,
       );
     }) c.copy_of.ensures.ok
 
 pub returns-clause-err : goal.returns-clause-err
 returns-clause-err c = IfErr-weaker c.copy_of.result _ _
-    (λ why no. not-copied c.args.source.now c.args.name.now c.args.to.now c.args.image.now c.in_ok-entry.entry
+    (λ why no. not-copied c.args.source.now c.args.name.now c.args.to.now c.args.image.now c.args.cut c.in_ok-entry.entry
     c.in_ok-entry.content.items c.in_ok-entry.ensures.ok why
-    (inl (λ relative. absurd (cc (c.is_relative.ensures.1 relative, c.if-is_relative.false)), subst (λ (bytes : List ℕ). IsNoCopyOf c.in_ok-entry.entry bytes c.args.to.now c.args.image.now why) c.as_slice.ensures.value no)))
+    (inl (λ relative. absurd (cc (c.is_relative.ensures.1 relative, c.if-is_relative.false)), subst (λ (bytes : List ℕ). IsNoCopyOf c.in_ok-entry.entry bytes c.args.to.now c.args.image.now c.args.cut why) c.as_slice.ensures.value no)))
     c.copy_of.ensures.err

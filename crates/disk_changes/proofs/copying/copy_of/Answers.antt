@@ -29,7 +29,7 @@ returns-clause-ok c = IfOk-weaker c.changed.result _ _
 
 pub returns-clause-err : goal.returns-clause-err
 returns-clause-err c = IfErr-weaker c.changed.result _ _
-    (λ why is. subst (λ (w : CommandFault). IsNoCopyOf c.args.entry.now c.args.content.now c.args.to.now c.args.image.now w)
+    (λ why is. subst (λ (w : CommandFault). IsNoCopyOf c.args.entry.now c.args.content.now c.args.to.now c.args.image.now c.args.cut w)
     (sym is) (inr (
       c.in-Some.kind,
       sym c.plain_type.ensures ∙ c.in-Some.is,

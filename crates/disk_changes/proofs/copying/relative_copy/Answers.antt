@@ -14,7 +14,7 @@ returns-clause-ok c = IfOk-weaker c.record_copy.result _ _
     (λ made is. (
       c.in_ok-text.text.items,
       c.in_ok-text.ensures.ok,
-      subst (λ (bytes : List ℕ). IsRecordCopyOf c.args.entry.now bytes c.args.to.now c.args.image.now made)
+      subst (λ (bytes : List ℕ). IsRecordCopyOf c.args.entry.now bytes c.args.to.now c.args.image.now c.args.cut made)
           c.as_slice.ensures.value is,
     )) c.record_copy.ensures.ok
 
@@ -23,6 +23,6 @@ returns-clause-err c = IfErr-weaker c.record_copy.result _ _
     (λ why no. inr (
       c.in_ok-text.text.items,
       c.in_ok-text.ensures.ok,
-      subst (λ (bytes : List ℕ). IsNoRecordCopyOf c.args.entry.now bytes c.args.to.now c.args.image.now why)
+      subst (λ (bytes : List ℕ). IsNoRecordCopyOf c.args.entry.now bytes c.args.to.now c.args.image.now c.args.cut why)
           c.as_slice.ensures.value no,
     )) c.record_copy.ensures.err

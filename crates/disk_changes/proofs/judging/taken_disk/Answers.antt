@@ -14,7 +14,7 @@ returns-in-Ok-Some-clause-err c =
     (is-short c.args.image.now (disk_image c.in_ok-disk.disk) c.in_ok-disk.ensures.ok.1
     c.in_ok-disk.ensures.ok.0 (c.in-Ok-Some.ensures.sound.0 refl) c.in-Ok-Some.place
     (λ l layout. subst (IsToldOf (disk_image c.in_ok-disk.disk) l None) c.in-Ok-Some.field-0-is (c.in-Ok-Some.ensures.ok l layout)))
-    c.cut_refusal.result c.cut_refusal.ensures
+    c.args.cut c.in-Refused.is c.cut_refusal.result c.cut_refusal.ensures
 
 pub returns-in-Ok-None-clause-ok : goal.returns-in-Ok-None-clause-ok
 returns-in-Ok-None-clause-ok c = (

@@ -6,7 +6,7 @@ use Rattle.d64_image.specs.Images.{Image}
 use Rattle.d64_image.specs.Memory.{disk_image, memory, sectors_in}
 use Rattle.d64_image.specs.declared.mem_disk.MemDisk.{MemDisk}
 use Rattle.disk_changes.proofs.Judged.{never-fails}
-use Rattle.disk_changes.specs.Judged.{IsSoundWhole}
+use Rattle.disk_changes.specs.Judged.{IsSoundDisk}
 use Rattle.disk_changes.specs.Locks.{IsLockRefusal, IsLockSet, locked_text, with_lock}
 use Rattle.disk_changes.specs.declared.changes.Changed.{Changed}
 use Rattle.disk_changes.specs.declared.changes.Lock.{Lock}
@@ -20,7 +20,7 @@ use Rattle.disk_changes.specs.ShopFiles.{HasShopFile}
 use Rattle.rel_records.proofs.lemmas.reading.Found.{slot-file}
 use Rattle.disk_changes.proofs.locking.relocked.Goals as goal
 
-module _ (image name : List ℕ) (a b : MemDisk) (whole : IsSoundWhole image) (is : disk_image a ≡ sectors_in image) where
+module _ (image name : List ℕ) (a b : MemDisk) (whole : IsSoundDisk image) (is : disk_image a ≡ sectors_in image) where
   sound : IsLayout (disk_image a) whole.layout
   sound = subst (λ (i : Image). IsLayout i whole.layout) (sym is) whole.sound
 
@@ -47,7 +47,7 @@ module _ (image name : List ℕ) (a b : MemDisk) (whole : IsSoundWhole image) (i
       }
 
   refused : (fault : CommandFault) → FindsEntry memory a b name (Err fault) → IsLockRefusal image name fault
-  refused faults.NoFile c = record { whole = whole; but = inr (c.not_found whole.layout sound refl) }
+  refused faults.NoFile c = record { disk = whole; but = inr (c.not_found whole.layout sound refl) }
   refused faults.Device c = absurd (never-fails a b c.failures)
   refused _ c = absurd (⊎_elim (λ e. cc) (λ e. cc) c.told)
 

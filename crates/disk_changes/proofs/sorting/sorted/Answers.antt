@@ -4,12 +4,12 @@ use Rattle.std.proofs.lemmas.Result.{IfOk-weaker, err_from_is_err_and}
 use Rattle.d64_image.specs.Images.{Image}
 use Rattle.d64_image.specs.Memory.{disk_image, sectors_in}
 use Rattle.d64_image.specs.declared.mem_disk.MemDisk.{MemDisk}
-use Rattle.disk_changes.specs.Judged.{IsSoundWhole}
+use Rattle.disk_changes.specs.Judged.{IsSoundDisk}
 use Rattle.disk_changes.specs.Sorts.{IsReordered}
 use Rattle.disk_layout.specs.Layout.{IsLayout, Layout}
 use Rattle.disk_changes.proofs.sorting.sorted.Goals as goal
 
-reordered : (image bytes : List ℕ) (a b : MemDisk) (whole : IsSoundWhole image) → disk_image a ≡ sectors_in image
+reordered : (image bytes : List ℕ) (a b : MemDisk) (whole : IsSoundDisk image) → disk_image a ≡ sectors_in image
     → sectors_in bytes ≡ disk_image b
     → ((l : Layout) → IsLayout (disk_image a) l → IsReordered (disk_image a) l.directory (disk_image b))
     → IsReordered (sectors_in image) whole.layout.directory (sectors_in bytes)
