@@ -25,11 +25,7 @@ use damaged_files::{Loss, Shortfall, find_shortfall, has_geos_entry, settle};
 use std::alloc::Global;
 
 /// The image with its disk mended, whether or not a file is cut short, and a line for each sector that was mended or freed.
-pub(crate) fn mended_image(
-    alloc: Global,
-    image: &[u8],
-    free: bool,
-) -> Result<Changed, CommandFault>
+pub(crate) fn mended_image(alloc: Global, image: &[u8], free: bool) -> Result<Changed, CommandFault>
     ensures ok { IfOk result (IsMended image.now free) }
     ensures err { IfErr result (IsMendRefusal image.now) }
 {
@@ -67,11 +63,7 @@ fn judge_whole(disk: &mut MemDisk) -> Result<(), CommandFault>
 
 /// The image once what its files lost is settled, with its disk mended, and a line for each sector that was settled, mended or
 /// freed.
-fn settled_and_mended(
-    alloc: Global,
-    image: &[u8],
-    free: bool,
-) -> Result<Changed, CommandFault>
+fn settled_and_mended(alloc: Global, image: &[u8], free: bool) -> Result<Changed, CommandFault>
     ensures ok { IfOk result (IsSettledAndMended image.now free) }
     ensures err { IfErr result (IsRepairRefusal image.now free Accepted) }
 {

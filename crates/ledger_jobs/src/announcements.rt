@@ -2,9 +2,9 @@
 ghost use Rattle.ledger_jobs.specs.JobRights.{MayExplain};
 ghost use Rattle.opened_files.specs.Rights.{MayReadImage};
 
+use crate::cures::{cure_of, meaning_of_fault};
 use crate::failure_lines::tell_of;
 use crate::jobs::Job;
-use crate::cures::{cure_of, meaning_of_fault};
 use crate::refusal_subjects::{CUT_SHORT, FEWER};
 use crate::typed_names::warn_of_name;
 use command_faults::CommandFault;

@@ -6,11 +6,13 @@ use disk_changes::{Remedy, Way};
 use disk_layout::Fault;
 
 /// What is said of a disk of GEOS.
-pub(crate) const GEOS: &str = "it is a disk of GEOS, or has a file of GEOS, which keeps sectors that no entry counts; \
+pub(crate) const GEOS: &str =
+    "it is a disk of GEOS, or has a file of GEOS, which keeps sectors that no entry counts; \
      no repair here understands it, and `extract` takes out what can be read";
 
 /// What is said of a disk with another format byte.
-pub(crate) const FORMAT: &str = "its format byte isn't $41, so it may be no disk of the 1541, and no repair changes it; \
+pub(crate) const FORMAT: &str =
+    "its format byte isn't $41, so it may be no disk of the 1541, and no repair changes it; \
      `extract` takes out what can be read";
 
 /// What is said of any other disk that no repair changes.
@@ -18,22 +20,26 @@ const RESCUE: &str =
     "no repair mends it; `extract` takes out what can be read, and `put` brings it to a disk of `new`";
 
 /// What is said of sectors that no file owns, if they can be freed.
-pub(crate) const STRAYS: &str = "the BAM calls sectors taken that no file owns, which does no harm; they may hold data, \
+pub(crate) const STRAYS: &str =
+    "the BAM calls sectors taken that no file owns, which does no harm; they may hold data, \
      and if you know that they don't, `repair --free` frees them";
 
 /// What is said of such sectors if a file of GEOS may own them.
-const GEOS_STRAYS: &str = "the BAM calls sectors taken that no file owns, which does no harm; a file of GEOS may own them";
+const GEOS_STRAYS: &str =
+    "the BAM calls sectors taken that no file owns, which does no harm; a file of GEOS may own them";
 
 /// What is said after a repair that keeps such sectors.
 const CORRECTS_SOME: &str =
     "`repair` corrects it, but for sectors that no file owns and that may hold data: it keeps these (KEPT)";
 
 /// What is said of a disk of which a file is cut short.
-const SETTLES: &str = "a file is cut short: read the disk again, or keep a copy, and `repair --accept-loss` lets the file \
+const SETTLES: &str =
+    "a file is cut short: read the disk again, or keep a copy, and `repair --accept-loss` lets the file \
      end where it ends now";
 
 /// The same if side sectors have to be built, too.
-const SETTLES_SIDES: &str = "a file is cut short: read the disk again, or keep a copy, and `repair --sides --accept-loss` \
+const SETTLES_SIDES: &str =
+    "a file is cut short: read the disk again, or keep a copy, and `repair --sides --accept-loss` \
      lets the file end where it ends now, and builds side sectors anew";
 
 /// What a repair does that can be made, and leaves so many sectors.

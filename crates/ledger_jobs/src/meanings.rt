@@ -41,7 +41,10 @@ fn faults() -> [Fault; 9] {
 
 /// The other words, and what each means: refusals, then what commands print of what they did, then replies to a till.
 const MEANINGS: &[(&str, &str)] = &[
-    ("LAYOUT", "the disk has a fault, which the next word names: `ledger help` says more of that word"),
+    (
+        "LAYOUT",
+        "the disk has a fault, which the next word names: `ledger help` says more of that word",
+    ),
     ("SHORT", CUT_SHORT),
     ("FEWER", FEWER),
     ("KEPT", KEPT),
@@ -65,26 +68,68 @@ const MEANINGS: &[(&str, &str)] = &[
     ("TWO NAMES", SECOND_NAME),
     ("IN USE", TAKEN),
     ("NO MEMORY", NO_MEMORY),
-    ("FILE", "a file or the output can't be opened, read or written; with --explain the second line says which, and why"),
-    ("DEVICE", "writing or syncing the image failed: copy the image and its log to another disk, check the copy, and go on there"),
-    ("NOT READY", "standard input is set not to wait (O_NONBLOCK): hand over one that waits"),
-    ("NAME", "a name is too long, or has what no name can have; the second line says which one"),
+    (
+        "FILE",
+        "a file or the output can't be opened, read or written; with --explain the second line says which, and why",
+    ),
+    (
+        "DEVICE",
+        "writing or syncing the image failed: copy the image and its log to another disk, check the copy, and go on there",
+    ),
+    (
+        "NOT READY",
+        "standard input is set not to wait (O_NONBLOCK): hand over one that waits",
+    ),
+    (
+        "NAME",
+        "a name is too long, or has what no name can have; the second line says which one",
+    ),
     ("ID", "the ID isn't of two bytes"),
-    ("TYPE", "the type is none that a file can have; the second line names those that it can"),
+    (
+        "TYPE",
+        "the type is none that a file can have; the second line names those that it can",
+    ),
     ("TILLS", "a shop has 1 to 64 tills"),
     ("LENGTH", "a record has 1 to 254 bytes"),
-    ("POSITIONS", "positions begin with 1, ascend, and are 254 at most"),
-    ("SECTOR", "a sector is a track and a number there, such as 18/0"),
+    (
+        "POSITIONS",
+        "positions begin with 1, ascend, and are 254 at most",
+    ),
+    (
+        "SECTOR",
+        "a sector is a track and a number there, such as 18/0",
+    ),
     ("FLAGS", "these flags don't go together"),
-    ("IMAGES", "this command takes one image, or this flag wants several"),
+    (
+        "IMAGES",
+        "this command takes one image, or this flag wants several",
+    ),
     ("OK", "the disk is in order"),
     ("MENDED", "this sector was wrong, and is right now"),
-    ("FREED", "this sector was taken, no file owned it, and it is free now"),
-    ("OWNER", "the file, the directory or the BAM has this sector"),
-    ("LINK", "the next sector of the chain; END and a number: the chain ends here with this byte"),
-    ("ERROR", "the drive reported this error when the sector was read; the file that has it is named"),
-    ("BEYOND", "the file goes on past track 35, and what is there is left out"),
-    ("TRIMMED", "something was left out, which standard error names"),
+    (
+        "FREED",
+        "this sector was taken, no file owned it, and it is free now",
+    ),
+    (
+        "OWNER",
+        "the file, the directory or the BAM has this sector",
+    ),
+    (
+        "LINK",
+        "the next sector of the chain; END and a number: the chain ends here with this byte",
+    ),
+    (
+        "ERROR",
+        "the drive reported this error when the sector was read; the file that has it is named",
+    ),
+    (
+        "BEYOND",
+        "the file goes on past track 35, and what is there is left out",
+    ),
+    (
+        "TRIMMED",
+        "something was left out, which standard error names",
+    ),
     ("EXTRACTED", "all files were taken out whole"),
     ("COPIED", "the copy is on the disk"),
     ("COMMITS", "so many commits of the log were whole"),
@@ -101,16 +146,43 @@ const MEANINGS: &[(&str, &str)] = &[
     ("CARD", "an item and its quantity"),
     ("TILL", "a till's last request that counted, and its answer"),
     ("PRIOR", "the till's request before that one"),
-    ("DONE", "the request took effect; the quantities after it are those that are there now"),
-    ("OVER", "the quantity would be greater than 999999999, so no stock was changed; the quantity that is there follows"),
-    ("NO CARD", "the item has no card, so no stock was changed; a request of the kind S makes one"),
-    ("NO TILL", "the shop has no till of this number: nothing was done"),
-    ("STALE", "the till has asked with a higher number since: if this was a new request, it didn't count, and needs the next number"),
-    ("AHEAD", "the number skips one: nothing was done; the till's next number is its last plus 1"),
-    ("CLASH", "the till has asked with this number and other words: nothing was done"),
+    (
+        "DONE",
+        "the request took effect; the quantities after it are those that are there now",
+    ),
+    (
+        "OVER",
+        "the quantity would be greater than 999999999, so no stock was changed; the quantity that is there follows",
+    ),
+    (
+        "NO CARD",
+        "the item has no card, so no stock was changed; a request of the kind S makes one",
+    ),
+    (
+        "NO TILL",
+        "the shop has no till of this number: nothing was done",
+    ),
+    (
+        "STALE",
+        "the till has asked with a higher number since: if this was a new request, it didn't count, and needs the next number",
+    ),
+    (
+        "AHEAD",
+        "the number skips one: nothing was done; the till's next number is its last plus 1",
+    ),
+    (
+        "CLASH",
+        "the till has asked with this number and other words: nothing was done",
+    ),
     ("SYNTAX ERROR", "the line is no request: nothing was done"),
-    ("MEDIA", "the disk failed: the request has no answer yet; send it again once the shop is open again"),
-    ("CUT", "power went here, as the script asked; the request may have counted: it is answered when it is asked again"),
+    (
+        "MEDIA",
+        "the disk failed: the request has no answer yet; send it again once the shop is open again",
+    ),
+    (
+        "CUT",
+        "power went here, as the script asked; the request may have counted: it is answered when it is asked again",
+    ),
 ];
 
 /// Whether a byte can stand in the number or the sector after a word.

@@ -50,7 +50,8 @@ pub(crate) fn said_of_fault(fault: Fault) -> &'static str {
         Fault::BadType(_) =>
             "an entry there has a type that doesn't exist; `bytes` takes files out",
         Fault::Unclosed(_) => "a file there was never closed; `extract` takes it out",
-        Fault::BadSide(_) => "a side sector disagrees with its file, or an entry names none; `repair --sides` builds it anew",
+        Fault::BadSide(_) =>
+            "a side sector disagrees with its file, or an entry names none; `repair --sides` builds it anew",
         Fault::BadLength(_) => {
             "a relative file there has a record length of 0 or 255; `bytes` takes files out"
         }

@@ -51,7 +51,10 @@ fn first_cut(
 
 /// Reads the entries of a sound disk, and the facts of the whole disk. If it isn't sound, the error is a fault that holds
 /// of it, as `survey` returns it.
-pub(crate) fn read_facts(disk: &mut MemDisk, slots: &mut ArrayVec<Slot, 144>) -> Result<Facts, Fault>
+pub(crate) fn read_facts(
+    disk: &mut MemDisk,
+    slots: &mut ArrayVec<Slot, 144>,
+) -> Result<Facts, Fault>
     ensures ok { IfOk result (λ facts. (l : Layout) → IsLayout (disk_image disk.old) l
         → (slots.new.items ≡ map (λ f. f.slot) l.files)
         × (IsTrue facts.strays ↔ HasStray (disk_image disk.old) l) × (IsTrue facts.shop ↔ HasStock l)) }

@@ -8,8 +8,7 @@ use Rattle.disk_changes.proofs.judging.is_named_cut.Goals as goal
 pub returns-in-Some-clause-ok : goal.returns-in-Some-clause-ok
 returns-in-Some-clause-ok c =
     let p = c.in-Some.field-0 in
-    let C : Image → Type 0 = λ i. IsCutNamed i c.args.name.now p in
-    (
+    let C : Image → Type 0 = λ i. IsCutNamed i c.args.name.now p in (
       λ t. (c.in_ok-disk.ensures.ok.0, (p, subst C c.in_ok-disk.ensures.ok.1 c.in-Some.ensures.told)),
       λ named. refl,
     )

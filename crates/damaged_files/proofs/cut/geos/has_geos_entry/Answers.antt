@@ -26,8 +26,7 @@ returns-in-Ok-clause-found c =
     let img = disk_image c.args.disk.now in
     let (l, is) = c.in-Ok.ensures.sound.0 refl in
     let listed : (m : Layout) → IsLayout img m → c.as_slice.result.now ≡ map (λ (f : File). f.slot) m.files = λ m lay.
-    c.as_slice.ensures.value ∙ (c.in-Ok.ensures.ok m lay).0 in
-    (
+    c.as_slice.ensures.value ∙ (c.in-Ok.ensures.ok m lay).0 in (
       λ t. among img c.as_slice.result.now l is (listed l is) (c.has_such.ensures.0 t),
       λ has. c.has_such.ensures.1 (within img c.as_slice.result.now listed has),
     )
