@@ -58,10 +58,9 @@ It prints MADE. To fill the file, use store.
 
 Exit status:
   0  the file was made
-  1  the disk isn't clean (LAYOUT and a fault: repair mends MAPWRONG and
-     COUNTWRONG, repair --sides also BADSIDE, nothing else), SHORT, GEOS,
-     IMAGE SIZE, LOG, LOG AWAY, TWO NAMES, FILE EXISTS, DISK FULL: nothing was
-     done
+  1  nothing was done. The disk isn't clean (LAYOUT and a fault: repair mends
+     MAPWRONG and COUNTWRONG, repair --sides also BADSIDE, nothing else); or
+     SHORT, GEOS, IMAGE SIZE, LOG, LOG AWAY, TWO NAMES, FILE EXISTS, DISK FULL
   2  NAME, LENGTH
   3  FILE, NO MEMORY, IN USE, DEVICE
 
@@ -90,9 +89,9 @@ that goes beyond the next position is refused. Otherwise a line has one column.
 
 Exit status:
   0  the records were stored
-  1  the disk isn't clean (LAYOUT: repair mends MAPWRONG and COUNTWRONG,
-     repair --sides also BADSIDE, nothing else), SHORT, GEOS, IMAGE SIZE, LOG,
-     LOG AWAY, TWO NAMES, NO FILE, RECORDS LINE n, DISK FULL: nothing was done
+  1  nothing was done. The disk isn't clean (LAYOUT: repair mends MAPWRONG and
+     COUNTWRONG, repair --sides also BADSIDE, nothing else); or SHORT, GEOS,
+     IMAGE SIZE, LOG, LOG AWAY, TWO NAMES, NO FILE, RECORDS LINE n, DISK FULL
   2  NAME, POSITIONS, FLAGS
   3  FILE, NO MEMORY, IN USE, DEVICE
 
@@ -135,10 +134,9 @@ refused (FILE): cbmconvert takes them out.
 
 Exit status:
   0  the file is on the disk
-  1  the disk isn't clean (LAYOUT and a fault: repair mends MAPWRONG and
-     COUNTWRONG, repair --sides also BADSIDE, nothing else), SHORT, GEOS,
-     IMAGE SIZE, LOG, LOG AWAY, TWO NAMES, FILE EXISTS, DISK FULL: nothing was
-     done
+  1  nothing was done. The disk isn't clean (LAYOUT and a fault: repair mends
+     MAPWRONG and COUNTWRONG, repair --sides also BADSIDE, nothing else); or
+     SHORT, GEOS, IMAGE SIZE, LOG, LOG AWAY, TWO NAMES, FILE EXISTS, DISK FULL
   2  NAME, TYPE
   3  FILE, NO MEMORY, IN USE, DEVICE
 
@@ -209,9 +207,9 @@ It renames the first file that has the name OLD, and prints RENAMED.
 
 Exit status:
   0  the file was renamed
-  1  a file or the directory is damaged (LAYOUT and a fault: repair --sides
-     mends BADSIDE, nothing else), IMAGE SIZE, LOG, LOG AWAY, TWO NAMES, NO FILE,
-     FILE EXISTS (NEW), SHOP FILE: nothing was done
+  1  nothing was done. A file or the directory is damaged (LAYOUT and a fault:
+     repair --sides mends BADSIDE, nothing else); or IMAGE SIZE, LOG, LOG AWAY,
+     TWO NAMES, NO FILE, FILE EXISTS (NEW), SHOP FILE
   2  NAME
   3  FILE, NO MEMORY, IN USE, DEVICE
 
@@ -228,9 +226,9 @@ It changes the name and the ID that list shows first, and prints TITLED.
 
 Exit status:
   0  the disk has them
-  1  a file or the directory is damaged (LAYOUT and a fault: repair --sides
-     mends BADSIDE, nothing else), IMAGE SIZE, LOG, LOG AWAY, TWO NAMES: nothing
-     was done
+  1  nothing was done. A file or the directory is damaged (LAYOUT and a fault:
+     repair --sides mends BADSIDE, nothing else); or IMAGE SIZE, LOG, LOG AWAY,
+     TWO NAMES
   2  NAME: more than 16 bytes; ID: not two bytes
   3  FILE, NO MEMORY, IN USE, DEVICE
 

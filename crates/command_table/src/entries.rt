@@ -18,9 +18,9 @@ LOCKED. unlock takes the lock off.
 
 Exit status:
   0  the file is locked
-  1  a file or the directory is damaged (LAYOUT and a fault: repair --sides
-     mends BADSIDE, nothing else), IMAGE SIZE, LOG, LOG AWAY, TWO NAMES,
-     NO FILE, SHOP FILE: nothing was done
+  1  nothing was done. A file or the directory is damaged (LAYOUT and a fault:
+     repair --sides mends BADSIDE, nothing else); or IMAGE SIZE, LOG, LOG AWAY,
+     TWO NAMES, NO FILE, SHOP FILE
   2  NAME
   3  FILE, NO MEMORY, IN USE, DEVICE
 
@@ -37,9 +37,9 @@ It takes the lock off the first file that has this name, and prints UNLOCKED.
 
 Exit status:
   0  the file isn't locked
-  1  a file or the directory is damaged (LAYOUT and a fault: repair --sides
-     mends BADSIDE, nothing else), IMAGE SIZE, LOG, LOG AWAY, TWO NAMES,
-     NO FILE, SHOP FILE: nothing was done
+  1  nothing was done. A file or the directory is damaged (LAYOUT and a fault:
+     repair --sides mends BADSIDE, nothing else); or IMAGE SIZE, LOG, LOG AWAY,
+     TWO NAMES, NO FILE, SHOP FILE
   2  NAME
   3  FILE, NO MEMORY, IN USE, DEVICE
 
@@ -58,10 +58,10 @@ very file.
 
 Exit status:
   0  the file was deleted
-  1  the disk isn't clean (LAYOUT and a fault: repair mends MAPWRONG and
-     COUNTWRONG, repair --sides also BADSIDE, nothing else), SHORT, GEOS,
-     IMAGE SIZE, LOG, LOG AWAY, TWO NAMES, NO FILE, LOCKED, SHOP FILE: nothing
-     was done
+  1  nothing was done. The disk isn't clean (LAYOUT and a fault: repair mends
+     MAPWRONG and COUNTWRONG, repair --sides also BADSIDE, nothing else); or
+     SHORT, GEOS, IMAGE SIZE, LOG, LOG AWAY, TWO NAMES, NO FILE, LOCKED,
+     SHOP FILE
   2  NAME
   3  FILE, NO MEMORY, IN USE, DEVICE
 
@@ -89,9 +89,9 @@ sectors (BADSIDE); extract --deleted takes the bytes of any.
 
 Exit status:
   0  the file is there
-  1  a file or the directory is damaged or would be (LAYOUT: OWNEDTWICE if
-     another file has a block), SHORT, IMAGE SIZE, GEOS, FORMAT, LOG, LOG AWAY,
-     TWO NAMES, NO FILE, FILE EXISTS: nothing was done
+  1  nothing was done. A file or the directory is damaged or would be (LAYOUT:
+     OWNEDTWICE if another file has a block); or SHORT, IMAGE SIZE, GEOS,
+     FORMAT, LOG, LOG AWAY, TWO NAMES, NO FILE, FILE EXISTS
   2  NAME, TYPE
   3  FILE, NO MEMORY, IN USE, DEVICE
 
@@ -110,9 +110,9 @@ others. Files and blocks stay where they are.
 
 Exit status:
   0  the directory is sorted
-  1  a file or the directory is damaged (LAYOUT and a fault: repair --sides
-     mends BADSIDE, nothing else), IMAGE SIZE, LOG, LOG AWAY, TWO NAMES: nothing
-     was done
+  1  nothing was done. A file or the directory is damaged (LAYOUT and a fault:
+     repair --sides mends BADSIDE, nothing else); or IMAGE SIZE, LOG, LOG AWAY,
+     TWO NAMES
   3  FILE, NO MEMORY, IN USE, DEVICE
 
 Example: ledger sort old.d64",
