@@ -1,5 +1,5 @@
-//! What a person can do about a disk. Of each repair that a sentence names it is known that it can be made of this very image,
-//! because it was tried in memory.
+//! What a person can do about a disk. Each repair that a sentence names can be made of this very image, because it was tried in
+//! memory.
 
 use command_faults::CommandFault;
 use disk_changes::{Remedy, Way};

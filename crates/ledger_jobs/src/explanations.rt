@@ -56,8 +56,8 @@ fn tell_made<R: HostFiles, E: Write>(rt: &R, job: &Job<'_>, err: &mut E)
     }
 }
 
-/// Prints what a fault of a job's first image means, and what can be done about it. Of two images that are compared it isn't known
-/// which one has the fault.
+/// Prints what a fault of a job's first image means, and what can be done about it. If two images are
+/// compared, it isn't known which one has the fault.
 fn tell_fault_of<F, R, E>(rt: &R, job: &Job<'_>, fault: Fault, err: &mut E)
 where
     F: Read + Locks + OpenFile + Drop,
