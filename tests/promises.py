@@ -3,16 +3,14 @@
 
 Below each promise stand calls in backticks, and in brackets behind them their clauses. A call is a function, a type, whose methods
 it stands for, or a folder or file of tests. A clause is a label of a contract of one of these calls, a
-field of a record that the contract cites, a word of the contract itself, or a record of specs/ on which it rests. A promise has
-30 words at most. In PAGES each name in backticks is one of the sources, of specs/, or of OTHERS; and in the lines of docs/PROOF.md that
-number the theorem each clause is one of the calls before the colon. The status is 1 if something isn't found, or a promise is longer."""
+field of a record that the contract cites, a word of the contract itself, or a record of specs/ on which it rests. In PAGES each name in backticks is one of the sources, of specs/, or of OTHERS; and in the lines of docs/PROOF.md that
+number the theorem each clause is one of the calls before the colon. The status is 1 if something isn't found."""
 
 import re
 import sys
 from pathlib import Path
 
 TOP = Path(__file__).resolve().parent.parent
-LONGEST = 30
 WORD = r"[A-Za-z_]\w*"
 PAGES = ("README.md", "docs/PROOF.md", "docs/MAP.md", "docs/EMBED.md", "docs/LOG.md", "docs/POWER_CUTS.md", "crates/*/README.md")
 # names in backticks of the kit, of its verdict, or of other programs
@@ -67,14 +65,6 @@ def rows():
             yield number, line.strip("- ")
 
 
-def long_promises():
-    """A line for each promise of more words than LONGEST."""
-    for number, line in enumerate((TOP / "docs" / "PROMISES.md").read_text().split("\n"), 1):
-        words = sum(1 for it in line.split() if re.search(r"\w", it))
-        if line.startswith("- ") and line.endswith("\\") and words > LONGEST:
-            yield f"PROMISES.md:{number}: {words} words: {line[2:60]}"
-
-
 def unknown_names(everywhere):
     """A line for each name in backticks of PAGES that isn't there."""
     for file in (it for form in PAGES for it in sorted(TOP.glob(form))):
@@ -101,7 +91,7 @@ def main():
         everywhere |= {file.stem, file.parts[len(TOP.parts) + 1]}
         if file.suffix == ".antt" and "specs" in file.parts:
             everywhere |= set(re.findall(WORD, file.read_text()))
-    lines = list(long_promises())
+    lines = []
     for number, cell in rows():
         for named in re.findall(r"`([^`/]+)`", cell):
             unknown = [it for it in re.findall(WORD, named) if it not in everywhere and it != "HANDLES"]
