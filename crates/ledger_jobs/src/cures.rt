@@ -2,8 +2,9 @@
 //! memory.
 
 use command_faults::CommandFault;
+use d64_image::Place;
 use disk_changes::{Remedy, Way};
-use disk_layout::Fault;
+use disk_layout::{Fault, map_place};
 
 /// What is said of a disk of GEOS.
 pub(crate) const GEOS: &str =
@@ -77,12 +78,21 @@ pub(crate) fn cure_of(remedy: Remedy) -> Option<&'static str> {
     }
 }
 
+/// What a sector is that two have: the BAM's own, or another one.
+fn meaning_of_shared(place: Place) -> &'static str {
+    if place == map_place() {
+        "an entry names the BAM's sector, as in drawn directories"
+    } else {
+        "two of the files, the directory and the BAM have it"
+    }
+}
+
 /// What a fault of a disk is.
 pub(crate) fn meaning_of_fault(fault: Fault) -> &'static str {
     match fault {
         Fault::BadLink(_) => "its link names no sector of the disk",
         Fault::Loop(_) => "a chain of sectors comes back to it",
-        Fault::OwnedTwice(_) => "two of the files, the directory and the BAM have it",
+        Fault::OwnedTwice(place) => meaning_of_shared(place),
         Fault::BadType(_) => "an entry there has a type that doesn't exist",
         Fault::Unclosed(_) => "a file there was never closed",
         Fault::BadSide(_) => "a side sector disagrees with its file, or an entry there names none",

@@ -20,7 +20,7 @@ use std::io::{Read, Write};
 const THERE: &str = "it is there already; `format` without `--new` replaces it";
 
 const LOG_ALONE: &str =
-    "its log or a folder is there; a log may be all that is left of a shop (docs/LOG.md)";
+    "its log or a folder is there; a log may be all that is left of a shop (\"man ledger-1541\")";
 
 /// What is said of an image that can't be made at a path, since it or its log is there.
 fn said_of_made<R: HostFiles>(rt: &R, image: &str) -> &'static str
