@@ -2,6 +2,7 @@
 use Rattle.std.proofs.Common.{◌≡◌, Bool, Err, List, Option, false, refl, subst, sym, true, ℕ}
 use Rattle.std.specs.Prelude.{if◌then◌else◌}
 use Rattle.command_faults.specs.declared.faults.CommandFault.TheVariants as faults
+use Rattle.damaged_files.specs.declared.sides.planning.Loss.{Loss}
 use Rattle.host_session.specs.shop.Shop.{Shop}
 use Rattle.image_file.specs.declared.durability.WritesAt.{Ghosts}
 use Rattle.image_file.specs.paths.Standing.{Stands}
@@ -9,12 +10,19 @@ use Rattle.opened_files.specs.Ends.{JobEnd}
 use Rattle.opened_files.specs.HostFiles.{OfText}
 use Rattle.shop_jobs.specs.FilePlays.{HoldsShop}
 use Rattle.shop_jobs.specs.Replies.{AreReplyLines, IsPlainPlayed}
-use Rattle.shop_jobs.specs.ServiceEnds.{IsQuietEnd}
+use Rattle.shop_jobs.specs.ServiceEnds.{IsNearEnd, IsQuietEnd}
 
-pub watched : (P : JobEnd → Type 0) (gone : Bool) (ended end : JobEnd) → end ≡ (if gone then Err faults.Device else ended)
+watched : (P : JobEnd → Type 0) (gone : Bool) (ended end : JobEnd) → end ≡ (if gone then Err faults.Device else ended)
     → P ended → P (Err faults.Device) → P end
 watched P true ended end is played device = subst P (sym is) device
 watched P false ended end is played device = subst P (sym is) played
+
+-- why it isn't done
+pub watched_near : {H W : Type 0} (stands : H → List ℕ → Stands) (host : H) (path : List ℕ) (loss : Loss) (old new : W) (gone : Bool)
+    (ended end : JobEnd) → end ≡ (if gone then Err faults.Device else ended) → IsNearEnd stands host path loss old new ended
+    → IsNearEnd stands host path loss old new (Err faults.Device) → IsNearEnd stands host path loss old new end
+watched_near stands host path loss old new gone ended end is played device =
+    watched (IsNearEnd stands host path loss old new) gone ended end is played device
 
 -- what was printed
 pub watched_play : {H W : Type 0} (contents : W → Option (List ℕ)) (Is : Shop → Type 0) (stands : H → List ℕ → Stands) (host : H)
@@ -30,7 +38,8 @@ watched_play contents Is stands host script old new gone ended end is played = (
 )
 
 -- and what is left
-pub watched_holds : {F : Type 0} {G : Ghosts F} (s : Shop) (script : List ℕ) (file left : F) (gone : Bool) (ended end : JobEnd)
-    → end ≡ (if gone then Err faults.Device else ended) → HoldsShop G s script file left ended → HoldsShop G s script file left end
-watched_holds {G = G} s script file left gone ended end is holds =
-    watched (HoldsShop G s script file left) gone ended end is holds (record { each = holds.each; done = tt; stays = tt })
+module _ {F : Type 0} {G : Ghosts F} (s : Shop) (script : List ℕ) (file left : F) where
+  pub watched_holds : (gone : Bool) (ended end : JobEnd) → end ≡ (if gone then Err faults.Device else ended)
+      → HoldsShop G s script file left ended → HoldsShop G s script file left end
+  watched_holds gone ended end is holds =
+      watched (HoldsShop G s script file left) gone ended end is holds (record { each = holds.each; done = tt; stays = tt })

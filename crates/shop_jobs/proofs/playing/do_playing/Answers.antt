@@ -7,9 +7,8 @@ use Rattle.shop_jobs.proofs.Lasts.{holds_shop}
 use Rattle.shop_jobs.proofs.NearEnds.{near-begun, near-fault, near-unbegun}
 use Rattle.shop_jobs.proofs.PlayTold.{play-lines, play-other, play-plain, play-quiet, played-at, shop-at}
 use Rattle.command_faults.specs.declared.faults.CommandFault.TheVariants as faults
-use Rattle.shop_jobs.proofs.PlayWatched.{watched, watched_holds, watched_play}
+use Rattle.shop_jobs.proofs.PlayWatched.{watched_holds, watched_near, watched_play}
 use Rattle.shop_jobs.specs.Replies.{IsShopAt}
-use Rattle.shop_jobs.specs.ServiceEnds.{IsNearEnd}
 use Rattle.shop_jobs.specs.Replies.{IsShopOf, lines_to}
 use Rattle.shop_jobs.proofs.playing.do_playing.Goals as goal
 
@@ -40,7 +39,7 @@ returns-in_err-name-clause-left g c =
 pub returns-clause-near : goal.returns-clause-near
 returns-clause-near g c =
     let stands = g.R.HostFiles.stands in
-    watched (λ end. IsNearEnd stands c.args.rt.now c.args.path.now c.args.loss c.args.out.now _ end) _
+    watched_near stands c.args.rt.now c.args.path.now c.args.loss c.args.out.now _ _
     c.play_durably-ended.result.1 c.served_end.result c.served_end.ensures
     (near-begun stands c.args.rt.now c.args.path.now c.args.loss c.args.out.now _
     c.play_durably-ended.result.1 (vec_items c.in_ok-image.image) c.in_ok-image.ensures.read c.in_ok-image.ensures.near
