@@ -24,7 +24,7 @@ from served import sure, want
 from shop_paths import command
 from shop_rule import SYNTAX
 
-from ledger_shop import wishes
+from ledger_shop import journal, wishes
 
 TILLS = 8
 # seconds in which a reply has to come, and in which no second one may
@@ -166,8 +166,8 @@ class Trial(tills.Trial):
             self.until(lambda: replies.append(self.heard_from(link)) or replies[-1], f"a reply to till {till}")
             want(replies[-1] == f"{till},1,DONE,{till}", f"till {till} is told {replies[-1]}")
             link.close()
-        lines = self.kept.read_text().splitlines()
-        taken = [set(found[2].split()) for found in map(tills.journal.TAKES.fullmatch, lines) if found]
+        notes = (one.note for one in journal.lines_in(self.kept.read_bytes())[0])
+        taken = [set(one.requests) for one in notes if isinstance(one, journal.Takes) and len(one.requests) > 1]
         want(taken == [{f"{till},1,S,{till},{till}" for till in TOGETHER}], f"together were taken {taken}")
 
     def away(self, seconds=5):

@@ -220,7 +220,7 @@ def journals(path):
 
 def requests_in(path):
     """The requests of a journal's file with their replies."""
-    return journal.Entries(path.read_bytes(), path).requests if path.exists() else []
+    return [(one.request, one.reply) for one in journal.answers_in([path])] if path.exists() else []
 
 
 class Trial:
@@ -358,8 +358,9 @@ class Trial:
 
     def together(self):
         """How many requests a bridge handed over with others."""
-        lines = (line for path in journals(self.kept) for line in path.read_text().splitlines())
-        return sum(len(found[2].split()) for found in map(journal.TAKES.fullmatch, lines) if found)
+        notes = (line.note for path in journals(self.kept) for line in journal.lines_in(path.read_bytes())[0])
+        counts = (len(one.requests) for one in notes if isinstance(one, journal.Takes))
+        return sum(count for count in counts if count > 1)
 
     def report(self, seconds):
         counted = self.judge()

@@ -72,6 +72,8 @@ class Broker(wishes.Carrier):
             self.lost(fault)
 
     def reply(self, seconds):
+        if not (self.heard or self.connection):
+            raise wishes.Away
         try:
             if not self.heard:
                 self.connection.process_data_events(time_limit=seconds)
