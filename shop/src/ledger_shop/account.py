@@ -3,6 +3,10 @@
 An account is one line `USER:PASSWORD`. It comes from a file that nobody else may read, or from the environment. It never
 comes from the command line, which every user of the machine can read. To another machine it travels only over TLS."""
 
+from __future__ import annotations
+
+from collections.abc import Mapping
+import argparse
 import ipaddress
 import os
 import socket
@@ -16,11 +20,16 @@ SECURE = ("amqps", "mqtts")
 PORTS = {"amqp": 5672, "amqps": 5671, "mqtt": 1883, "mqtts": 8883}
 
 
+StrPath = str | os.PathLike[str]
+# user and password
+Account = tuple[str, str]
+
+
 class Unfit(Exception):
     """The arguments or the account can't be used; the text says why and what to do."""
 
 
-def words(parser):
+def words(parser: argparse.ArgumentParser) -> argparse.ArgumentParser:
     """The arguments that name an account and a broker's certificate."""
     parser.add_argument("--account", metavar="FILE", help="a file with USER:PASSWORD that only you can read (mode 600)")
     parser.add_argument("--ca", metavar="FILE", help="the certificates that sign the broker's; default: the system's")
@@ -28,7 +37,7 @@ def words(parser):
     return parser
 
 
-def account_of(path=None, environment=os.environ):
+def account_of(path: StrPath | None = None, environment: Mapping[str, str] = os.environ) -> Account | None:
     """User and password, or None. The first of these counts: the file of `--account`, systemd's credential, the variable
     LEDGER_ACCOUNT. Raises Unfit if a file can't be read, or if others may read it."""
     systemd = os.path.join(environment.get("CREDENTIALS_DIRECTORY", "/nowhere"), CREDENTIAL)
@@ -42,7 +51,7 @@ def account_of(path=None, environment=os.environ):
     return None
 
 
-def text_of(path, is_guarded=False):
+def text_of(path: StrPath, is_guarded: bool = False) -> str:
     """What the file has, which others may not read, unless its folder is guarded."""
     try:
         with open(path, encoding="utf-8") as file:
@@ -54,7 +63,7 @@ def text_of(path, is_guarded=False):
         raise Unfit(f"the account can't be read: {fault}") from fault
 
 
-def parted(text, whence):
+def parted(text: str, whence: StrPath) -> Account:
     user, colon, password = text.removesuffix("\n").partition(":")
     if not (user and colon and password) or "\n" in password:
         raise Unfit(f"{whence} isn't one line USER:PASSWORD")
@@ -65,7 +74,7 @@ class Place:
     """A broker's place: `amqps://HOST[:PORT][/VHOST][?heartbeat=..]`, `mqtts://HOST[:PORT]`, the same without the `s` for
     no TLS, or HOST[:PORT] alone. Raises Unfit for a password within, and for no TLS to another machine."""
 
-    def __init__(self, text, kind, plain=False):
+    def __init__(self, text: str, kind: str, plain: bool = False) -> None:
         self.text = text if "://" in text else f"{kind}://{text}"
         try:
             parts = urlsplit(self.text)
@@ -81,11 +90,11 @@ class Place:
         if not (self.is_secure or plain or is_here(self.host)):
             raise Unfit(f"{self.host} is another machine: use {kind}s://, or --plain if you trust the net between")
 
-    def __str__(self):
+    def __str__(self) -> str:
         return f"{self.host}:{self.port}"
 
 
-def is_here(host):
+def is_here(host: str) -> bool:
     """Whether this name or address is this machine's own."""
     try:
         return host == "localhost" or ipaddress.ip_address(host).is_loopback
@@ -93,7 +102,7 @@ def is_here(host):
         return False
 
 
-def context_of(ca=None):
+def context_of(ca: StrPath | None = None) -> ssl.SSLContext:
     """What TLS needs: the broker's certificate has to be signed by one of `ca`, or of the system's, and name its host."""
     try:
         context = ssl.create_default_context(cafile=ca)
@@ -103,7 +112,7 @@ def context_of(ca=None):
     return context
 
 
-def fault_at(place, context, seconds=3):
+def fault_at(place: Place, context: ssl.SSLContext, seconds: float = 3) -> str | None:
     """Why no connection to this place comes about, in words, or None if one does."""
     try:
         with socket.create_connection((place.host, place.port), seconds) as link:

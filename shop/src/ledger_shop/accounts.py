@@ -13,6 +13,10 @@ shop or more tills, and give the broker the new files. SECURITY.md says who gets
 --qr prints a code with which a tablet signs in as a till: it works once, within ten minutes, by a camera or typed (Debian's
 package qrencode, and the service `ledger-sign-in`). No address and no history has the password."""
 
+from __future__ import annotations
+
+from collections.abc import Mapping
+from typing import Any
 import argparse
 import base64
 import hashlib
@@ -35,7 +39,7 @@ TURNS = 101
 TILLS = "([1-9]|[1-5][0-9]|6[0-4])"
 
 
-def add_account(path):
+def add_account(path: Path) -> None:
     """Makes the file, readable by its owner alone, unless it is there."""
     try:
         file = os.open(path, os.O_WRONLY | os.O_CREAT | os.O_EXCL, 0o600)
@@ -45,7 +49,7 @@ def add_account(path):
         out.write(f"{path.name.removesuffix('.account')}:{secrets.token_urlsafe(24)}\n")
 
 
-def accounts_in(folder):
+def accounts_in(folder: Path) -> dict[str, str]:
     """User and password of each account in the folder, by user."""
     accounts = {}
     for path in sorted(folder.glob("*.account")):
@@ -56,20 +60,22 @@ def accounts_in(folder):
     return accounts
 
 
-def shop_and_till(user):
+def shop_and_till(user: str) -> tuple[str, str | None]:
     """The shop of an account, and its till, or None for a bridge and a screen."""
-    bridge, shop, till, screen = NAME.fullmatch(user).groups()
+    found = NAME.fullmatch(user)
+    assert found
+    bridge, shop, till, screen = found.groups()
     return bridge or shop or screen, till
 
 
-def mosquitto_line(user, password):
+def mosquitto_line(user: str, password: str) -> str:
     salt = os.urandom(12)
     hashed = hashlib.pbkdf2_hmac("sha512", password.encode(), salt, TURNS)
     parts = (base64.b64encode(part).decode() for part in (salt, hashed))
     return f"{user}:$7${TURNS}${'$'.join(parts)}\n"
 
 
-def mosquitto_rights(user):
+def mosquitto_rights(user: str) -> str:
     """A bridge reads what all tills of its shop ask, and writes replies and what the screen shows. A till writes its own
     asks, reads its own replies, its last request and the stock, and says which device takes its numbers. All see whether the
     bridge is there."""
@@ -87,7 +93,7 @@ def mosquitto_rights(user):
     return f"user {user}\n" + "".join(f"topic {right}\n" for right in rights) + "\n"
 
 
-def rabbit_user(user, password):
+def rabbit_user(user: str, password: str) -> dict[str, Any]:
     salt = os.urandom(4)
     hashed = base64.b64encode(salt + hashlib.sha256(salt + password.encode()).digest()).decode()
     limits = {"max-connections": 8 if user.startswith("bridge-") else 4, "max-channels": 8}
@@ -95,7 +101,7 @@ def rabbit_user(user, password):
     return {"name": user, "password_hash": hashed, "hashing_algorithm": how, "tags": [], "limits": limits}
 
 
-def rabbit_rights(user):
+def rabbit_rights(user: str) -> tuple[dict[str, str], list[dict[str, str]]]:
     """What the account may configure, write and read, and with which routing keys."""
     shop, till = shop_and_till(user)
     asks, replies, queue = (rf"shop\.{shop}\.{name}" for name in ("asks", "replies", "bridge"))
@@ -112,7 +118,7 @@ def rabbit_rights(user):
     return whole, by_key
 
 
-def definitions(accounts):
+def definitions(accounts: dict[str, str]) -> dict[str, Any]:
     """RabbitMQ's; a screen's account is mosquitto's alone."""
     accounts = {user: password for user, password in accounts.items() if not user.startswith("screen-")}
     rights = [rabbit_rights(user) for user in accounts]
@@ -124,7 +130,7 @@ def definitions(accounts):
     }
 
 
-def write(path, text):
+def write(path: Path, text: str) -> None:
     """Replaces a file of this script's own, which only its owner may read until it is installed."""
     new = path.with_name(path.name + ".new")
     with open(os.open(new, os.O_WRONLY | os.O_CREAT | os.O_TRUNC, 0o600), "w", encoding="ascii") as out:
@@ -132,7 +138,7 @@ def write(path, text):
     os.replace(new, path)
 
 
-def make(folder, shops, screens=1):
+def make(folder: Path, shops: Mapping[str, int], screens: int = 1) -> dict[str, str]:
     """Adds the accounts of each of these shops, by name, with so many tills and screens, and writes the brokers' files
     anew."""
     folder.mkdir(mode=0o700, parents=True, exist_ok=True)
@@ -148,19 +154,19 @@ def make(folder, shops, screens=1):
     return accounts
 
 
-def print_code(folder, user, page, codes):
+def print_code(folder: Path, user: str, page: str, codes: Path) -> None:
     """Prints a code with which a tablet signs in once as the till of this account."""
     shop, till = shop_and_till(user)
     try:
         password = (folder / f"{user}.account").read_text(encoding="ascii").strip().partition(":")[2]
-        sign_in.show(codes, user, shop, int(till), password, page)
+        sign_in.show(codes, user, shop, int(till or 0), password, page)
     except FileNotFoundError as fault:
         sys.exit(f"accounts: there is no {fault.filename}" + (" (Debian's qrencode)" if fault.filename == "qrencode" else ""))
     except (OSError, sign_in.NoCode, subprocess.CalledProcessError) as fault:
         sys.exit(f"accounts: {fault}")
 
 
-def main():
+def main() -> None:
     parser = argparse.ArgumentParser(description=__doc__.splitlines()[0])
     parser.add_argument("folder", type=Path)
     parser.add_argument("--shop", help="the shop's name: letters, digits and _")

@@ -7,6 +7,8 @@ and `show`, and no till may have asked less often than in the copy before. Then 
 with them the older files of the journal whose requests are all in the oldest copy that stays. Each name is printed before
 it goes. Status 1: there is no new copy, and nothing went."""
 
+from __future__ import annotations
+
 import argparse
 import os
 import sys
@@ -16,7 +18,7 @@ from ledger_shop import PROGRAM, copies
 from ledger_shop.copies import Stopped
 
 
-def kept(given, new, older):
+def kept(given: argparse.Namespace, new: Path, older: list[Path]) -> Path:
     """Gives the new copy its name, once it is as good as the one before."""
     numbers = copies.numbers_in(given.program, new)
     if older and not copies.has(numbers, copies.numbers_in(given.program, older[-1])):
@@ -29,7 +31,7 @@ def kept(given, new, older):
     return path
 
 
-def rotate(given, all_copies):
+def rotate(given: argparse.Namespace, all_copies: list[Path]) -> tuple[int, int]:
     """Removes what isn't needed any more, after its name is printed; returns how many copies and files of the journal."""
     old, stay = all_copies[: -given.keep], all_copies[-given.keep :]
     numbers = copies.numbers_in(given.program, stay[0])
@@ -40,7 +42,7 @@ def rotate(given, all_copies):
     return len(old), len(lines)
 
 
-def words():
+def words() -> argparse.Namespace:
     parser = argparse.ArgumentParser(description=__doc__.splitlines()[0])
     parser.add_argument("image", type=Path)
     parser.add_argument("folder", type=Path)
@@ -53,7 +55,7 @@ def words():
     return given
 
 
-def main():
+def main() -> None:
     given = words()
     new = given.folder / f".{given.image.stem}.new"
     try:

@@ -9,8 +9,12 @@
 
 Each fits into the 1,000 bytes that mosquitto.conf allows. TIME is `-` for what was before the journal."""
 
+from __future__ import annotations
+
+from collections.abc import Iterable
 from collections import deque
 
+from ledger_shop.movements import Movement
 from ledger_shop import journal, movements
 
 # items in a message of the stock, answers that are shown, movements of an item that are kept
@@ -19,16 +23,20 @@ PAGES, TILLS = 10160 // PAGE + 1, 64
 UNKNOWN = "-"
 
 
-def line_of(time, request, answer):
+def line_of(time: str, request: str, answer: str) -> str:
     return f"{time} {request},{answer}"
 
 
 class Board:
     """The shop as a screen shows it. `show` is what `show` prints of it, `before` the journal's movements so far."""
 
-    def __init__(self, show, before=()):
-        self.top, self.stock, self.tills, self.last = 0, {}, {}, deque(maxlen=LAST)
-        self.history, self.numbers = {}, {}
+    def __init__(self, show: list[str], before: Iterable[Movement] = ()) -> None:
+        self.top = 0
+        self.stock: dict[int, int] = {}
+        self.tills: dict[int, str] = {}
+        self.numbers: dict[int, int] = {}
+        self.last: deque[str] = deque(maxlen=LAST)
+        self.history: dict[int, deque[str]] = {}
         for one in before:
             self.note(one)
         times = {(one.till, one.number): one.time for one in before}
@@ -41,7 +49,7 @@ class Board:
         self.dirty = {f"stock/{page}" for page in range(PAGES)} | {f"tills/{till}" for till in range(1, TILLS + 1)}
         self.dirty |= {"last", "top"}
 
-    def read(self, show):
+    def read(self, show: list[str]) -> None:
         """Takes top and cards of what `show` prints."""
         for line in show:
             word, _, rest = line.partition(" ")
@@ -51,7 +59,7 @@ class Board:
                 item, quantity = map(int, rest.split(","))
                 self.stock[item] = quantity
 
-    def note(self, movement):
+    def note(self, movement: Movement) -> None:
         """Keeps a movement for its items' history and the last answers."""
         one = movement
         wish = f"{one.kind},{one.item},{one.quantity}" + (f",{one.to}" if one.to else "")
@@ -60,10 +68,10 @@ class Board:
         for item in filter(None, (one.item, one.to)):
             self.history.setdefault(item, deque(maxlen=HISTORY)).append(line)
 
-    def is_new(self, till, number):
+    def is_new(self, till: int, number: int) -> bool:
         return number == self.numbers.get(till, 0) + 1
 
-    def took(self, time, request, reply):
+    def took(self, time: str, request: str, reply: str) -> bool:
         """Takes a request that counts, once; returns whether it made a new card."""
         till, number = journal.key_of(request)
         movement = movements.movement_of(time, request, reply)
@@ -76,7 +84,7 @@ class Board:
         self.dirty |= {"last", f"tills/{till}"} | {f"stock/{item // PAGE}" for item in changed}
         return made
 
-    def text(self, topic):
+    def text(self, topic: str) -> str:
         """What a topic's message says now; an empty one takes it away from the broker."""
         kind, _, place = topic.partition("/")
         if kind == "stock":
@@ -86,12 +94,12 @@ class Board:
             return self.tills.get(int(place), "")
         return "\n".join(self.last) if kind == "last" else f"{self.top},{len(self.stock)}"
 
-    def changed(self):
+    def changed(self) -> list[tuple[str, str]]:
         """Topics and texts that have changed since they were asked for."""
         topics, self.dirty = sorted(self.dirty), set()
         return [(topic, self.text(topic)) for topic in topics]
 
-    def history_of(self, payload):
+    def history_of(self, payload: bytes) -> tuple[str, str] | None:
         """Topic and text of an item's history, or None if no item is asked for."""
         if not (payload.isdigit() and len(payload) <= 5):
             return None

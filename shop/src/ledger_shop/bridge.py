@@ -19,6 +19,10 @@ With --pipes it takes messages as lines of standard input and prints their repli
 Exit status: 74 if the image or the journal couldn't be written (a keeper has to look), 75 if it is to be started again,
 78 if the image is no shop, or isn't the journal's, or an argument is unfit."""
 
+from __future__ import annotations
+
+from collections.abc import Callable
+from typing import Any
 import argparse
 import sys
 import time
@@ -35,7 +39,7 @@ QUEUE = {
 }
 
 
-def declare(channel, name):
+def declare(channel: Any, name: str) -> tuple[str, str]:
     """A shop's queue, of which one consumer is served at a time, how asks come to it, and how replies go out. Returns
     the names of the queue and of the replies' exchange."""
     asks, replies, queue = (f"shop.{name}.{what}" for what in ("asks", "replies", "bridge"))
@@ -53,11 +57,11 @@ class Bridge:
     # until it lets the image go
     TOGETHER, AHEAD, IDLE = 64, 256, 10
 
-    def __init__(self, parameters, name, serve):
+    def __init__(self, parameters: list[Any], name: str, serve: service.Serve) -> None:
         self.parameters, self.name, self.serve = parameters, name, serve
         self.title = f"shop {name}"
 
-    def run(self):
+    def run(self) -> None:
         """Serves over one connection after another."""
         from pika.adapters.utils.connection_workflow import AMQPConnectorException
         from pika.exceptions import AMQPError
@@ -70,18 +74,18 @@ class Bridge:
             self.let_go()
             time.sleep(1)
 
-    def idle(self):
+    def idle(self) -> None:
         if self.serve.is_open():
             self.let_go()
             service.say(f"{self.title}: stands by")
 
-    def let_go(self):
+    def let_go(self) -> None:
         """Ends `serve`, so that another bridge may have the image."""
         gone = self.serve.end()
         if gone.status != 0:
             raise gone
 
-    def replies_to(self, asks, wait):
+    def replies_to(self, asks: list[tuple[Any, bytes]], wait: Callable[[float], None]) -> list[bytes]:
         """The replies to messages. Only a request opens the image."""
         lines = [self.serve.request(message, service.till_of(method.routing_key)) for method, message in asks]
         if any(lines) and not self.serve.is_open():
@@ -89,7 +93,7 @@ class Bridge:
             service.say(f"{self.title}: serving")
         return self.serve.answers(lines)
 
-    def delivered(self, channel, messages, first):
+    def delivered(self, channel: Any, messages: Any, first: tuple[Any, bytes]) -> list[tuple[Any, bytes]]:
         """A message, and those that the broker has delivered after it."""
         asks = [first]
         channel.connection.process_data_events(0)
@@ -98,7 +102,7 @@ class Bridge:
             asks.append((method, message))
         return asks
 
-    def connected(self):
+    def connected(self) -> None:
         """Serves over one connection, until it breaks."""
         import pika
 
@@ -117,7 +121,7 @@ class Bridge:
                 asks = self.delivered(channel, messages, (method, message))
                 # a reply goes out once, however often it was asked for meanwhile: a flood of one message costs one reply
                 for reply in dict.fromkeys(self.replies_to(asks, connection.sleep)):
-                    out.basic_publish(replies, service.key_of(reply), reply)
+                    out.basic_publish(replies, service.place_of(reply), reply)
                 # the broker has all these replies, before it forgets any of the messages
                 out.tx_commit()
                 channel.basic_ack(asks[-1][0].delivery_tag, multiple=True)
@@ -126,7 +130,7 @@ class Bridge:
                 connection.close()
 
 
-def over_pipes(serve):
+def over_pipes(serve: service.Serve) -> None:
     """Messages are lines of standard input."""
     serve.start()
     for message in sys.stdin.buffer:
@@ -135,7 +139,7 @@ def over_pipes(serve):
     serve.end()
 
 
-def over_broker(given, serve):
+def over_broker(given: argparse.Namespace, serve: service.Serve) -> None:
     """Over RabbitMQ, with the account and at the places that are given."""
     from ledger_shop import till
 
@@ -144,13 +148,13 @@ def over_broker(given, serve):
     Bridge(parameters, given.shop, serve).run()
 
 
-def main():
+def main() -> None:
     parser = service.words(argparse.ArgumentParser(description=__doc__.splitlines()[0]))
     several = "amqps://HOST:PORT; more than once for the nodes of a cluster"
     parser.add_argument("--broker", action="append", help=several)
     parser.add_argument("--pipes", action="store_true", help="take messages from standard input, without a broker")
     given = parser.parse_args()
-    service.served(given, over_pipes if given.pipes else lambda serve: over_broker(given, serve))
+    service.served(given, over_pipes if given.pipes else lambda serve: over_broker(given, serve), service.Serve)
 
 
 if __name__ == "__main__":

@@ -14,6 +14,10 @@ the last answers too (`board.py`), with --metrics figures for a monitor (`metric
 Exit status: 74 if the image or the journal couldn't be written (a keeper has to look), 75 if it is to be started again,
 78 if the image is no shop, or isn't the journal's, or an argument is unfit."""
 
+from __future__ import annotations
+
+import ssl
+from typing import Any, NoReturn
 import argparse
 import os
 import select
@@ -30,14 +34,14 @@ AWAY = b"away"
 class Client(mqtt.Client):
     """A client that acknowledges a message when it is told to. Debian's paho 1.6 does that as soon as on_message returns."""
 
-    def _send_puback(self, mid):
+    def _send_puback(self, mid: int) -> Any:
         return mqtt.MQTT_ERR_SUCCESS
 
-    def acknowledge(self, message):
+    def acknowledge(self, message: Any) -> None:
         if message.qos == 1:
             super()._send_puback(message.mid)
 
-    def has_more(self):
+    def has_more(self) -> bool:
         """Whether something was received that isn't read yet."""
         socket = self.socket()
         has_pending = getattr(socket, "pending", lambda: 0)
@@ -47,7 +51,9 @@ class Client(mqtt.Client):
 class Bridge:
     """A subscriber to one shop's asks, which publishes the replies."""
 
-    def __init__(self, place, user, context, name, serve, silence):
+    def __init__(
+        self, place: account.Place, user: account.Account | None, context: ssl.SSLContext, name: str, serve: Any, silence: int
+    ) -> None:
         self.place, self.context, self.name, self.serve, self.silence = place, context, name, serve, silence
         self.topic, self.title = f"shops/{name}", f"shop {name}"
         self.client = client_of(f"bridge-{name}", place, user, context, clean=False, kind=Client)
@@ -57,20 +63,20 @@ class Bridge:
         self.client.on_disconnect = lambda *_: self.ended("the connection is lost")
         self.client.on_connect = self.on_connect
         self.client.on_message = lambda _client, _data, message: self.held.append(message)
-        self.held = []
+        self.held: list[Any] = []
 
     # seconds after which the figures and the screen are tended, if no message comes; how many are handed over together
     TURN, TOGETHER = 0.25, 64
 
-    def publish(self, topic, text, is_retained):
+    def publish(self, topic: str, text: str, is_retained: bool) -> None:
         self.client.publish(f"{self.topic}/{topic}", text, qos=1, retain=is_retained)
 
-    def ended(self, why, status=service.AGAIN):
+    def ended(self, why: object, status: int = service.AGAIN) -> NoReturn:
         """Ends this process at once, whatever it is doing; `serve` ends with its input."""
         service.say(f"{self.title}: {why}")
         os._exit(status)
 
-    def on_connect(self, client, _data, _flags, refused):
+    def on_connect(self, client: Any, _data: object, _flags: object, refused: int) -> None:
         if refused:
             self.ended(f"the broker at {self.place} refuses the account ({mqtt.connack_string(refused)})")
         client.subscribe(f"{self.topic}/asks/+", qos=1)
@@ -80,14 +86,14 @@ class Bridge:
         for topic in self.serve.topics(self.topic):
             client.subscribe(topic, qos=1)
 
-    def listen(self):
+    def listen(self) -> bool:
         """Waits for messages, and takes all that were received; whether the connection stands."""
         code = self.client.loop(self.TURN)
         while code == mqtt.MQTT_ERR_SUCCESS and 0 < len(self.held) < self.TOGETHER and self.client.has_more():
             code = self.client.loop(0)
         return code == mqtt.MQTT_ERR_SUCCESS
 
-    def answer(self):
+    def answer(self) -> None:
         """Answers the messages that are held. What isn't acknowledged when this ends the broker keeps."""
         held, self.held = self.held, []
         asks = [one for one in held if one.topic.startswith(f"{self.topic}/asks/")]
@@ -98,12 +104,12 @@ class Bridge:
         for one in held:
             if asks and one is asks[0]:
                 asks, reply = asks[1:], replies.pop(0)
-                self.client.publish(f"{self.topic}/replies/{service.key_of(reply)}", reply, qos=1)
+                self.client.publish(f"{self.topic}/replies/{service.place_of(reply)}", reply, qos=1)
             else:
                 self.serve.hear(one.topic.removeprefix(f"{self.topic}/"), one.payload)
             self.client.acknowledge(one)
 
-    def reach(self):
+    def reach(self) -> None:
         """Waits until the broker can be reached."""
         told = None
         while fault := account.fault_at(self.place, self.context):
@@ -113,7 +119,7 @@ class Bridge:
             told = fault
             time.sleep(1)
 
-    def run(self):
+    def run(self) -> None:
         self.reach()
         service.say(f"{self.title}: stands by")
         self.serve.start(self.serve.wait)
@@ -129,13 +135,13 @@ class Bridge:
             self.ended(f"the broker is away ({type(fault).__name__})")
 
 
-def over_broker(given, serve):
+def over_broker(given: argparse.Namespace, serve: Any) -> None:
     place = account.Place(given.broker, "mqtt", given.plain)
     user, context = account.account_of(given.account), account.context_of(given.ca)
     Bridge(place, user, context, given.shop, serve, given.silence).run()
 
 
-def main():
+def main() -> None:
     parser = service.words(argparse.ArgumentParser(description=__doc__.splitlines()[0]))
     parser.add_argument("--broker", default="127.0.0.1:1883", help="mqtts://HOST:PORT of the MQTT broker")
     parser.add_argument("--silence", type=int, default=10, help="seconds without a word from the broker (default 10)")

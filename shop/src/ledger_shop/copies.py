@@ -2,12 +2,16 @@
 
 What a copy has, and which file of the journal is still needed, goes by the tills' numbers, never by the clock."""
 
+from __future__ import annotations
+
 import os
 import re
 import subprocess
 import time
 from pathlib import Path
 
+from ledger_shop.journal import Numbers
+from ledger_shop.account import StrPath
 from ledger_shop import journal
 
 
@@ -19,7 +23,7 @@ class Stopped(Exception):
 PATIENCE = 10.0
 
 
-def run(*words):
+def run(*words: object) -> str:
     """What a command prints. Raises Stopped if it ends with another status than 0."""
     end = time.monotonic() + PATIENCE
     while True:
@@ -32,17 +36,17 @@ def run(*words):
     return done.stdout
 
 
-def copies_in(folder, name):
+def copies_in(folder: StrPath, name: str) -> list[Path]:
     """The copies of the shop of this name, oldest first."""
     form = re.compile(rf"{re.escape(name)}-\d{{6}}\.d64", re.ASCII)
     return sorted(path for path in Path(folder).iterdir() if form.fullmatch(path.name))
 
 
-def number_of(copy):
+def number_of(copy: Path) -> int:
     return int(copy.stem[-6:])
 
 
-def numbers_in(program, image):
+def numbers_in(program: str, image: StrPath) -> Numbers:
     """Each till's last number in an image, which has to be sound."""
     verdict = run(program, "check", image).strip()
     if verdict != "OK":
@@ -51,12 +55,12 @@ def numbers_in(program, image):
     return {int(till): int(number) for till, number in (line.split(",")[:2] for line in lines)}
 
 
-def has(numbers, others):
+def has(numbers: Numbers, others: Numbers) -> bool:
     """Whether each till has asked at least as often as in the others."""
     return all(numbers.get(till, 0) >= number for till, number in others.items())
 
 
-def not_needed(path, numbers):
+def not_needed(path: StrPath, numbers: Numbers) -> list[Path]:
     """The journal's older files of which each request is in a copy with these numbers: the oldest ones, up to the first
     that is needed."""
     gone = []
@@ -68,7 +72,7 @@ def not_needed(path, numbers):
     return gone
 
 
-def sync(path):
+def sync(path: StrPath) -> None:
     """Brings a file, or the names in a folder, to the disk."""
     file = os.open(path, os.O_RDONLY)
     os.fsync(file)
@@ -78,9 +82,9 @@ def sync(path):
 class Unit:
     """A bridge's unit of systemd, or none."""
 
-    def __init__(self, name):
+    def __init__(self, name: str | None) -> None:
         self.name = name
 
-    def control(self, word):
+    def control(self, word: str) -> None:
         if self.name:
             run("systemctl", word, self.name)

@@ -6,6 +6,9 @@ The day is this machine's, today if none is named. It prints a table for people,
 spreadsheet into a new file. A journal is read in its order: if the clock went back, a line counts on the day that it
 names, and the report says how often that was. Status 1: the journal or the goods can't be read, or the file is there."""
 
+from __future__ import annotations
+
+from collections.abc import Iterator
 import argparse
 import csv
 import sys
@@ -21,28 +24,31 @@ HEAD = ["item", "name", "received", "sold", "moved in", "moved out", "counted", 
 class Row:
     """An item's day. `counted` is what setting it changed, as far as the journal says what was there before."""
 
-    def __init__(self):
+    def __init__(self) -> None:
         self.received = self.sold = self.moved_in = self.moved_out = self.counted = 0
-        self.left = None
+        self.left: int | None = None
 
-    def fields(self):
+    def fields(self) -> list[int | None]:
         return [self.received, self.sold, self.moved_in, self.moved_out, self.counted, self.left]
 
 
 class Report:
     """The requests of a day, item by item and till by till."""
 
-    def __init__(self, all_movements, day):
-        self.rows, self.tills, self.refused, self.count = {}, Counter(), Counter(), 0
+    def __init__(self, all_movements: list[movements.Movement], day: date) -> None:
+        self.rows: dict[int, Row] = {}
+        self.tills: Counter[int] = Counter()
+        self.refused: Counter[str] = Counter()
+        self.count = 0
         self.turns = movements.turns_back(all_movements)
-        known = {}
+        known: dict[int, int] = {}
         for one in all_movements:
             left = movements.left(one)
             if movements.local(one.time).date() == day:
                 self.take(one, left, known)
             known.update(left)
 
-    def take(self, one, left, known):
+    def take(self, one: movements.Movement, left: dict[int, int], known: dict[int, int]) -> None:
         self.count += 1
         self.tills[one.till] += 1
         if not left:
@@ -59,9 +65,9 @@ class Report:
             row.counted += one.quantity - known.get(one.item, 0)
         else:
             row.moved_out += one.quantity
-            self.rows[one.to].moved_in += one.quantity
+            self.rows[one.to or one.item].moved_in += one.quantity
 
-    def table(self, goods):
+    def table(self, goods: dict[int, shop_goods.Goods]) -> Iterator[str]:
         """Lines of columns, the names cut to 32 characters."""
         rows = [
             [str(item), goods[item].name[:32] if item in goods else "", *map(str, row.fields())]
@@ -73,7 +79,7 @@ class Report:
             cells = [cell.ljust(width) if n in left else cell.rjust(width) for n, (cell, width) in enumerate(zip(row, widths))]
             yield "  ".join(cells).rstrip()
 
-    def write(self, path, goods):
+    def write(self, path: str, goods: dict[int, shop_goods.Goods]) -> None:
         with open(path, "x", encoding="utf-8", newline="") as file:
             out = csv.writer(file)
             out.writerow(HEAD)
@@ -81,7 +87,7 @@ class Report:
                 out.writerow([item, shop_goods.safe(goods[item].name) if item in goods else "", *row.fields()])
 
 
-def main():
+def main() -> None:
     parser = argparse.ArgumentParser(description=__doc__.splitlines()[0])
     parser.add_argument("journal")
     parser.add_argument("--day", type=date.fromisoformat, default=datetime.now().date(), help="YYYY-MM-DD, default today")

@@ -7,12 +7,16 @@ goods.csv is UTF-8 text. Its first line is `item,name,unit,least`, and each othe
 65535; its name, 1 to 80 characters; its unit, or nothing; and its least stock, below which it is low. A field with a comma
 or a quote is in quotes, as spreadsheets write it. Status 1: there are faults, or what `show` prints can't be read."""
 
+from __future__ import annotations
+
+from collections.abc import Iterable, Mapping
 import argparse
-import collections
 import csv
 import re
 import sys
 from pathlib import Path
+from typing import NamedTuple
+from ledger_shop.account import StrPath
 
 HEAD = ["item", "name", "unit", "least"]
 MOST_ITEM, MOST, LONGEST = 65535, 999_999_999, 80
@@ -22,18 +26,25 @@ BAD = re.compile("[\x00-\x1f\x7f-\x9f\u2028-\u202e\u2066-\u2069]")
 # what a spreadsheet takes for the begin of a formula
 FORMULA = ("=", "+", "-", "@")
 
-Goods = collections.namedtuple("Goods", "item name unit least")
+
+class Goods(NamedTuple):
+    """One of the goods, as goods.csv has it."""
+
+    item: int
+    name: str
+    unit: str
+    least: int
 
 
 class Faults(Exception):
     """What is wrong with a list, by its lines."""
 
 
-def number_of(text, least, most):
+def number_of(text: str, least: int, most: int) -> int | None:
     return int(text) if NUMBER.fullmatch(text) and least <= int(text) <= most else None
 
 
-def fault_in(row, known):
+def fault_in(row: list[str], known: Mapping[int, Goods]) -> str | None:
     """What is wrong with a row of goods.csv, or None."""
     if len(row) != len(HEAD):
         return f"{len(row)} fields, not {len(HEAD)}"
@@ -49,7 +60,7 @@ def fault_in(row, known):
     return None
 
 
-def rows_of(path, delimiter=","):
+def rows_of(path: StrPath, delimiter: str = ",") -> list[tuple[int, list[str]]]:
     """The rows of a CSV file with their line numbers. Raises Faults if it isn't UTF-8 or no CSV."""
     try:
         with open(path, encoding="utf-8-sig", newline="") as file:
@@ -61,9 +72,10 @@ def rows_of(path, delimiter=","):
         raise Faults(f"{path}: {fault}") from fault
 
 
-def goods_of(path):
+def goods_of(path: StrPath) -> dict[int, Goods]:
     """The goods by their item. Raises Faults, a line for each."""
-    rows, goods, faults = rows_of(path), {}, []
+    rows, faults = rows_of(path), []
+    goods: dict[int, Goods] = {}
     if not rows or rows[0][1] != HEAD:
         raise Faults(f"{path}, line 1: the first line isn't {','.join(HEAD)}")
     for line, row in rows[1:]:
@@ -77,17 +89,17 @@ def goods_of(path):
     return goods
 
 
-def named(goods, item):
+def named(goods: Mapping[int, Goods], item: int) -> str:
     """An item's name with its number, as the pages have it."""
     return f"{goods[item].name} ({item})" if item in goods else f"item {item}"
 
 
-def safe(text):
+def safe(text: str) -> str:
     """Text that a spreadsheet doesn't take for a formula."""
     return f"'{text}" if text.startswith(FORMULA) else text
 
 
-def put_names(goods, lines):
+def put_names(goods: Mapping[int, Goods], lines: Iterable[str]) -> None:
     """Prints the lines of `show` with names, and what is low."""
     for line in lines:
         word, _, rest = line.rstrip("\n").partition(" ")
@@ -103,7 +115,7 @@ def put_names(goods, lines):
         print(f"CARD {item},{quantity}{more}{low}")
 
 
-def main():
+def main() -> None:
     parser = argparse.ArgumentParser(description=__doc__.splitlines()[0])
     parser.add_argument("goods", type=Path)
     parser.add_argument("--show", action="store_true", help="put names to what `ledger show` prints, from standard input")

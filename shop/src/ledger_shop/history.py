@@ -5,6 +5,8 @@
 A line for each request that names the item: time, till, what was asked, and what was left, or why nothing was done. It
 reads the journal's older files too. Status 1: the journal or the goods can't be read."""
 
+from __future__ import annotations
+
 import argparse
 import sys
 from functools import partial
@@ -13,7 +15,7 @@ from ledger_shop import goods as shop_goods, movements
 from ledger_shop.account import Unfit
 
 
-def main():
+def main() -> None:
     parser = argparse.ArgumentParser(description=__doc__.splitlines()[0])
     parser.add_argument("journal")
     parser.add_argument("item", type=int)

@@ -22,6 +22,8 @@ does each once, however often it is started or killed:
 A list that was added already is refused; --again adds it once more. Status 1: a line is unfit, the list was added already,
 or the file of --stock is there. 3: goods have no card in the shop."""
 
+from __future__ import annotations
+
 import argparse
 import fcntl
 import hashlib
@@ -34,19 +36,21 @@ from ledger_shop.goods import Faults
 
 # the exit status if goods have no card
 NO_CARD = 3
+# the line of a list, the item and the quantity
+Wish = tuple[int, int, int]
 
 
-def column_of(head, name, path):
+def column_of(head: list[str], name: str, path: str) -> int:
     if head.count(name) != 1:
         raise Faults(f"{path}: {head.count(name)} columns {name!r}; it has {', '.join(head)}")
     return head.index(name)
 
 
-def item_of(text, goods, is_name):
+def item_of(text: str, goods: dict[int, shop_goods.Goods] | None, is_name: bool) -> int | str:
     """The item that a field names, or what is wrong with it."""
     text = text.strip()
     if is_name:
-        items = [one.item for one in goods.values() if one.name == text]
+        items = [one.item for one in (goods or {}).values() if one.name == text]
         return items[0] if len(items) == 1 else f"{len(items)} goods have the name {text[:40]!r}"
     number = shop_goods.number_of(text, 1, shop_goods.MOST_ITEM)
     if number is None:
@@ -57,8 +61,10 @@ def item_of(text, goods, is_name):
 class List:
     """A list: its wishes, and what is unfit in it."""
 
-    def __init__(self, given, goods):
-        self.kind, self.goods, self.wishes, self.faults = "S" if given.set or given.stock else "R", goods, [], []
+    def __init__(self, given: argparse.Namespace, goods: dict[int, shop_goods.Goods] | None) -> None:
+        self.kind, self.goods = "S" if given.set or given.stock else "R", goods
+        self.wishes: list[Wish] = []
+        self.faults: list[str] = []
         self.cards, self.is_new = cards_of(given), given.new
         rows = shop_goods.rows_of(given.list, given.delimiter)
         if not rows:
@@ -74,7 +80,7 @@ class List:
         for line, row in rows[1:]:
             self.take(line, row, what, count, bool(given.name))
 
-    def take(self, line, row, what, count, is_name):
+    def take(self, line: int, row: list[str], what: int, count: int, is_name: bool) -> None:
         if len(row) <= max(what, count):
             self.faults.append(f"line {line}: only {len(row)} fields; another --delimiter?")
             return
@@ -89,34 +95,34 @@ class List:
         else:
             self.wishes.append((line, item, quantity))
 
-    def without_card(self):
+    def without_card(self) -> list[Wish]:
         """The lines of goods that can't come in, since the shop has no card of them: one that an earlier line makes is there."""
         if self.kind == "S" or self.cards is None:
             return []
         return [one for one in self.wishes if one[1] not in self.cards]
 
-    def first_of(self, item):
+    def first_of(self, item: int) -> int:
         """The line that makes a card, if cards may be made."""
         return next(line for line, other, _ in self.wishes if other == item)
 
-    def kind_of(self, line, item):
+    def kind_of(self, line: int, item: int) -> str:
         makes = self.is_new and self.cards is not None and item not in self.cards and line == self.first_of(item)
         return "S" if makes else self.kind
 
-    def lines(self):
+    def lines(self) -> list[str]:
         return [f"{self.kind_of(line, item)},{item},{quantity}" for line, item, quantity in self.wishes]
 
-    def preview(self):
+    def preview(self) -> None:
         for line, item, quantity in self.wishes:
             does = "there are" if self.kind == "S" else "come in"
             if self.kind_of(line, item) != self.kind:
                 does = "come in, and the card is new"
             elif (line, item, quantity) in self.without_card() and not self.is_new:
                 does = "CAN'T come in: the shop has no card of it"
-            print(f"line {line}: {quantity} of {shop_goods.named(self.goods, item)} {does}")
+            print(f"line {line}: {quantity} of {shop_goods.named(self.goods or {}, item)} {does}")
 
 
-def cards_of(given):
+def cards_of(given: argparse.Namespace) -> set[int] | None:
     """The items of which the shop has a card, or None if no image is named."""
     if not given.image:
         return None
@@ -124,7 +130,7 @@ def cards_of(given):
     return {int(line.removeprefix("CARD ").split(",")[0]) for line in lines if line.startswith("CARD ")}
 
 
-def add(path, lines, digest, is_again):
+def add(path: str, lines: list[str], digest: str, is_again: bool) -> int:
     """Adds lines to a till's wishes, and before that notes the list's digest in a file beside them. Returns the number of
     the first."""
     with open(path, "a+b", opener=lambda name, flags: os.open(name, flags, 0o600)) as file:
@@ -148,13 +154,13 @@ def add(path, lines, digest, is_again):
         return text.count(b"\n") + 1
 
 
-def put_stock(path, lines):
+def put_stock(path: str, lines: list[str]) -> None:
     """Writes requests of till 1 into a new file."""
     with open(path, "x", encoding="ascii") as file:
         file.write("".join(f"1,{number},{line}\n" for number, line in enumerate(lines, 1)))
 
 
-def words():
+def words() -> argparse.Namespace:
     parser = argparse.ArgumentParser(description=__doc__.splitlines()[0])
     parser.add_argument("list", help="the list, a CSV file")
     parser.add_argument("--stock", metavar="FILE", help="the first stock: write till 1's requests into this new file")
@@ -178,7 +184,7 @@ def words():
     return given
 
 
-def main():
+def main() -> None:
     given = words()
     try:
         found = List(given, shop_goods.goods_of(given.goods) if given.goods else None)

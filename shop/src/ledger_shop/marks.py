@@ -7,10 +7,13 @@ devices had the last two numbers:
 A device takes a number there before it asks with it. So the next device sees each number that may have been asked with,
 also while the shop is away. `shops/1/tills/7` has the shop's own number (`board.py`)."""
 
+from __future__ import annotations
+
 import os
 import re
 import secrets
 
+from ledger_shop.account import StrPath
 from ledger_shop.account import Unfit
 from ledger_shop.wishes import COUNT, Taken, sync_folder
 
@@ -19,7 +22,7 @@ MARKS = re.compile(f"({MARK})((?: {COUNT}:{MARK}){{0,2}})", re.ASCII)
 SHOWN = re.compile(rf"\S+ ({COUNT}),.*", re.ASCII)
 
 
-def mark_of(book):
+def mark_of(book: StrPath) -> str:
     """The mark of the device that has this book: made once, in a file beside it. Raises Unfit if that file is none."""
     path = f"{book}.mark"
     try:
@@ -40,28 +43,30 @@ def mark_of(book):
 class Numbers:
     """What the broker has of a till's numbers, on one connection after another."""
 
-    def __init__(self, mark):
+    def __init__(self, mark: str) -> None:
         self.mark, self.was_here = mark, False
+        self.at: str | None = None
+        self.taken: dict[int, str] = {}
         self.forget()
 
-    def forget(self):
+    def forget(self) -> None:
         """A new connection: everything is learnt anew."""
         self.shop, self.at, self.taken, self.is_here = 0, None, {}, False
 
-    def shows(self, text):
+    def shows(self, text: str) -> None:
         """Takes what the bridge shows of the till."""
         found = SHOWN.fullmatch(text)
         self.shop = int(found[1]) if found else 0
 
-    def notes(self, text, is_retained):
+    def notes(self, text: str, is_retained: bool) -> None:
         """Takes who is signed in, and who has the last numbers. One's own come back: then the broker has them."""
         found = MARKS.fullmatch(text)
-        self.was_here |= bool(found) and found[1] == self.mark
+        self.was_here |= found is not None and found[1] == self.mark
         if found and (is_retained or found[1] != self.mark):
             pairs = (pair.split(":") for pair in found[2].split())
             self.at, self.taken = found[1], {int(number): mark for number, mark in pairs}
 
-    def compare(self, till, last, ask):
+    def compare(self, till: int, last: int, ask: str | None) -> None:
         """Raises Taken if another device has used the number after `last`, or has this till since this device had it. An
         open `ask` keeps its number, unless another device has taken that."""
         if self.at not in (None, self.mark) and self.was_here:
@@ -70,11 +75,11 @@ class Numbers:
         if used > last and (ask is None or self.taken.get(last + 1, self.mark) != self.mark):
             raise Taken(f"till {till} was used on another device (request {used})", used)
 
-    def below(self, last):
+    def below(self, last: int) -> int | None:
         """The shop's number, if it is known and below this one. A shop for which 2 is ahead has none."""
         return self.shop if 0 < self.shop < last else 0 if last == 1 else None
 
-    def take(self, number):
+    def take(self, number: int) -> str | None:
         """Takes a number for this device; returns what to publish for that, or None if it is so already. If others have taken
         later numbers, this one was taken before them, and theirs stay: they mustn't be forgotten."""
         is_late = max(self.taken, default=0) > number

@@ -3,14 +3,18 @@
 `/metrics` has them in Prometheus' form. `/health` answers 200 with `serving` or `stands by: WHY`, and 503 if the bridge
 hasn't stirred for 30 s. Whoever holds a connection open keeps nobody else waiting, and loses it after 5 s. docs/OPERATIONS.md says which figure means what."""
 
+from __future__ import annotations
+
+from typing import Any
 import glob
 import socket
 import sys
 import threading
 import time
 from pathlib import Path
-from wsgiref.simple_server import WSGIRequestHandler, make_server
+from wsgiref.simple_server import WSGIRequestHandler, WSGIServer, make_server
 
+from ledger_shop.board import Board
 from ledger_shop import service
 
 
@@ -28,33 +32,33 @@ class Nothing:
 
     topics: tuple[str, ...] = ()
 
-    def stands_by(self, why):
+    def stands_by(self, why: str) -> None:
         pass
 
-    def serves(self, board):
+    def serves(self, board: Board) -> None:
         pass
 
-    def answered(self, reply):
+    def answered(self, reply: bytes) -> None:
         pass
 
-    def turned(self, seconds):
+    def turned(self, seconds: float) -> None:
         pass
 
-    def hear(self, topic, payload):
+    def hear(self, topic: str, payload: bytes) -> None:
         pass
 
-    def ticks(self):
+    def ticks(self) -> None:
         pass
 
 
-def word_of(reply):
+def word_of(reply: bytes) -> str:
     """The word by which a reply is counted."""
     text = reply.decode("latin-1")
     word = "30" if text.startswith("30,") else text.split(",", 2)[2].split(",")[0]
     return word if word in WORDS else "other"
 
 
-def last_backup(folder, name):
+def last_backup(folder: str | None, name: str) -> float | None:
     """When the last copy of the shop of this name in a folder of ledger-shop backup was made, by its number and not by its time;
     None if there is none."""
     form = f"{glob.escape(name)}-[0-9][0-9][0-9][0-9][0-9][0-9].d64"
@@ -67,7 +71,7 @@ class Figures(Nothing):
 
     topics = (STORED, RETAINED)
 
-    def __init__(self, client, backups, name):
+    def __init__(self, client: Any, backups: str | None, name: str) -> None:
         self.registry = client.CollectorRegistry()
         here = {"registry": self.registry}
         self.backups, self.name, self.state, self.ticked = backups, name, "starts", time.monotonic()
@@ -85,14 +89,14 @@ class Figures(Nothing):
         self.backup = client.Gauge("ledger_backup_timestamp_seconds", text, **here)
         text = "Seconds since the last backup; negative if the clock went back; NaN if there is none"
         self.age = client.Gauge("ledger_backup_age_seconds", text, **here)
-        self.counts = {}
+        self.counts: dict[str, int] = {}
 
-    def stands_by(self, why):
+    def stands_by(self, why: str) -> None:
         self.state = f"stands by: {why}"
         self.serving.set(0)
         self.ticks()
 
-    def serves(self, board):
+    def serves(self, board: Board) -> None:
         self.state = "serving"
         self.serving.set(1)
         self.cards.set(len(board.stock))
@@ -100,22 +104,22 @@ class Figures(Nothing):
         self.free.set(sum(item not in board.stock for item in range(1, board.top + 1)))
         self.ticks()
 
-    def answered(self, reply):
+    def answered(self, reply: bytes) -> None:
         self.lines.inc()
         self.replies.labels(word_of(reply)).inc()
 
-    def turned(self, seconds):
+    def turned(self, seconds: float) -> None:
         self.turns.observe(seconds)
 
-    def hear(self, topic, payload):
+    def hear(self, topic: str, payload: bytes) -> None:
         if topic in self.topics and payload.isdigit():
             self.counts[topic] = int(payload)
             self.waiting.set(max(self.counts.get(STORED, 0) - self.counts.get(RETAINED, 0), 0))
 
-    def ticks(self):
+    def ticks(self) -> None:
         self.ticked = time.monotonic()
 
-    def refresh(self):
+    def refresh(self) -> None:
         """Looks for the last backup, whenever the figures are asked for."""
         try:
             made = last_backup(self.backups, self.name)
@@ -124,7 +128,7 @@ class Figures(Nothing):
         self.backup.set(made or 0)
         self.age.set(float("nan") if made is None else time.time() - made)
 
-    def health(self):
+    def health(self) -> tuple[str, str]:
         """Status and text of /health."""
         silent = time.monotonic() - self.ticked
         if silent > HUNG:
@@ -133,11 +137,11 @@ class Figures(Nothing):
 
 
 class Silent(WSGIRequestHandler):
-    def log_message(self, *_words):
+    def log_message(self, *_words: object) -> None:
         pass
 
 
-def server_of(port, answer):
+def server_of(port: int, answer: Any) -> WSGIServer:
     """A server for `answer` on the loopback, which whoever holds a connection open doesn't stop. Each connection has a thread of
     its own and so many seconds, and if there are too many the oldest gives way."""
     from prometheus_client.exposition import ThreadingWSGIServer
@@ -145,11 +149,12 @@ def server_of(port, answer):
     class Server(ThreadingWSGIServer):
         request_queue_size = 64
 
-        def __init__(self, *words):
-            self.held, self.lock = {}, threading.Lock()
+        def __init__(self, *words: Any) -> None:
+            self.held: dict[Any, float] = {}
+            self.lock = threading.Lock()
             super().__init__(*words)
 
-        def process_request(self, request, client_address):
+        def process_request(self, request: Any, client_address: Any) -> None:
             with self.lock:
                 for old in list(self.held)[: max(len(self.held) - MOST + 1, 0)]:
                     cut(old)
@@ -157,25 +162,25 @@ def server_of(port, answer):
                 self.held[request] = time.monotonic()
             super().process_request(request, client_address)
 
-        def service_actions(self):
+        def service_actions(self) -> None:
             """Called twice a second."""
             with self.lock:
                 for request, began in self.held.items():
                     if time.monotonic() > began + PATIENCE:
                         cut(request)
 
-        def shutdown_request(self, request):
+        def shutdown_request(self, request: Any) -> None:
             with self.lock:
                 self.held.pop(request, None)
             super().shutdown_request(request)
 
-        def handle_error(self, request, client_address):
+        def handle_error(self, request: Any, client_address: Any) -> None:
             """A connection that was cut is no news."""
 
     return make_server(LOOPBACK, port, answer, Server, Silent)
 
 
-def cut(request):
+def cut(request: socket.socket) -> None:
     """Ends a connection: the thread that waits for it goes on."""
     try:
         request.shutdown(socket.SHUT_RDWR)
@@ -183,7 +188,7 @@ def cut(request):
         pass
 
 
-def figures_of(port, backups, image):
+def figures_of(port: int | None, backups: str | None, image: str) -> Nothing:
     """The figures of the shop of an image, which are served on the loopback if a port is given. Ends the bridge if that can't be."""
     if not port:
         return Nothing()
@@ -195,7 +200,7 @@ def figures_of(port, backups, image):
     figures = Figures(prometheus_client, backups, Path(image).stem)
     whole = prometheus_client.make_wsgi_app(figures.registry)
 
-    def answer(environment, start):
+    def answer(environment: Any, start: Any) -> Any:
         if environment["PATH_INFO"] == "/health":
             status, text = figures.health()
             start(status, [("Content-Type", "text/plain; charset=utf-8")])

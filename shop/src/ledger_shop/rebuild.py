@@ -10,18 +10,22 @@ reply that the journal has; a file of that name is never overwritten. With --ima
 equal: top, cards, and each till's last two requests with their answers. IMAGE may be served, but if tills ask meanwhile it
 is ahead of what was read of JOURNAL: stop the bridge, or name a copy. Prints one line. Status 1: a reply differs, lines are missing, or the images differ."""
 
+from __future__ import annotations
+
+from collections.abc import Iterable
 import argparse
 import os
 import sys
 import tempfile
 from pathlib import Path
 
+from ledger_shop.account import StrPath
 from ledger_shop import PROGRAM, journal, wishes
 from ledger_shop.account import Unfit
 from ledger_shop.copies import Stopped, run
 
 
-def play(program, image, lines):
+def play(program: str, image: StrPath, lines: Iterable[str]) -> list[str]:
     """The replies to these requests."""
     with tempfile.NamedTemporaryFile("w", encoding="ascii") as script:
         script.writelines(line + "\n" for line in lines)
@@ -29,7 +33,7 @@ def play(program, image, lines):
         return run(program, "play", image, script.name).splitlines()
 
 
-def judge(answers, replies):
+def judge(answers: Iterable[journal.Answer], replies: Iterable[str]) -> None:
     """Each reply is the journal's, if that has it. A request that the backup had, and two later ones of its till, is STALE
     now."""
     for one, reply in zip(answers, replies):
@@ -39,7 +43,7 @@ def judge(answers, replies):
             raise Stopped(f"{one.request} gets {reply}, and the journal has {one.reply}: the backup is of another shop")
 
 
-def begin(program, image, backup, tills):
+def begin(program: str, image: StrPath, backup: StrPath | None, tills: int | None) -> None:
     """Makes the image as it is before the journal: a copy of the backup, or a fresh one."""
     if backup:
         run(program, "copy", backup, image)
@@ -47,7 +51,7 @@ def begin(program, image, backup, tills):
         run(program, "format", "--new", image, "--tills", tills)
 
 
-def finish(image, new):
+def finish(image: StrPath, new: StrPath) -> None:
     """Gives the image its name, which nothing has yet."""
     with open(image, "rb") as file:
         os.fsync(file.fileno())
@@ -58,7 +62,7 @@ def finish(image, new):
     wishes.sync_folder(new)
 
 
-def words():
+def words() -> argparse.Namespace:
     parser = argparse.ArgumentParser(description=__doc__.splitlines()[0])
     parser.add_argument("new")
     parser.add_argument("journal")
@@ -70,7 +74,14 @@ def words():
     return parser.parse_args()
 
 
-def make(program, new, kept, backup=None, tills=None, other=None):
+def make(
+    program: str,
+    new: StrPath,
+    kept: StrPath,
+    backup: StrPath | None = None,
+    tills: int | None = None,
+    other: StrPath | None = None,
+) -> str:
     """Makes the image `new` of the journal `kept`, and compares it with another one; what is to be said of it."""
     if os.path.lexists(new):
         raise Stopped(f"{new} is there already: name a new file")
@@ -82,7 +93,7 @@ def make(program, new, kept, backup=None, tills=None, other=None):
         begin(program, image, backup, tills)
         judge(entries.answers, play(program, image, [one.request for one in entries.answers]))
 
-        def is_same():
+        def is_same() -> bool:
             return other is None or run(program, "show", image) == run(program, "show", other)
 
         for request in entries.open if other else []:
@@ -97,7 +108,7 @@ def make(program, new, kept, backup=None, tills=None, other=None):
     return f"{new}: {len(entries.answers)} requests played{compared}, {verdict}"
 
 
-def main():
+def main() -> None:
     given = words()
     try:
         print(make(given.program, given.new, given.journal, given.backup, given.tills, given.image))

@@ -8,6 +8,8 @@ and never removed. Give `--copy N` for another copy than the newest sound one. I
 goes on with the copy alone: that loses what was asked since, and the tills that asked have to begin again. Status 1: a
 step failed; the last line says what stands."""
 
+from __future__ import annotations
+
 import argparse
 import os
 import shutil
@@ -19,21 +21,21 @@ from ledger_shop.account import Unfit
 from ledger_shop.copies import Stopped
 
 
-def log_of(image):
+def log_of(image: Path) -> Path:
     """The log that `serve` keeps beside an image, and that alone has what it answered last."""
     return image.with_name(f"{image.name}-log")
 
 
 class Restore:
-    def __init__(self, given):
+    def __init__(self, given: argparse.Namespace) -> None:
         self.given, self.unit, self.step = given, copies.Unit(given.unit), 0
         self.new = given.image.with_name(f"{given.image.stem}.restored.d64")
 
-    def say(self, text):
+    def say(self, text: str) -> None:
         self.step += 1
         print(f"{self.step}. {text}", flush=True)
 
-    def find(self):
+    def find(self) -> Path:
         """The newest copy that is sound, or the one that is named."""
         self.say(f"Looks for a sound copy in {self.given.folder}")
         faults = []
@@ -47,7 +49,7 @@ class Restore:
                 faults.append(str(fault))
         raise Stopped("; ".join(["there is no sound copy", *faults]))
 
-    def make(self, copy):
+    def make(self, copy: Path) -> None:
         """Makes the new image beside the old one."""
         if self.new.exists():
             raise Stopped(f"{self.new} is there already, of an earlier restore: look at it, and move it away")
@@ -63,7 +65,7 @@ class Restore:
             if os.geteuid() == 0:
                 os.chown(self.new, owner.st_uid, owner.st_gid)
 
-    def aside(self, path):
+    def aside(self, path: Path) -> None:
         """Renames a file, and an image's log with it, to what nothing has yet. An image goes first: alone it would be an
         older shop."""
         number, log = 1, log_of(path)
@@ -74,7 +76,7 @@ class Restore:
                 old.rename(new)
                 print(f"{old} is {new} now")
 
-    def put(self):
+    def put(self) -> None:
         """Puts the new image in the old one's place."""
         self.say("Sets the old image aside, and puts the new one in its place")
         self.aside(self.given.image)
@@ -85,7 +87,7 @@ class Restore:
         self.new.rename(self.given.image)
         copies.sync(self.given.image.parent)
 
-    def run(self):
+    def run(self) -> None:
         copy = self.find()
         self.say(f"Stops the bridge {self.given.unit or '(none is named: it has to be stopped)'}")
         self.unit.control("stop")
@@ -99,7 +101,7 @@ class Restore:
         print(f"{self.given.image}: restored of {copy.name} in {self.step} steps; the tills' last numbers are {asked or 'none'}")
 
 
-def words():
+def words() -> argparse.Namespace:
     parser = argparse.ArgumentParser(description=__doc__.splitlines()[0])
     parser.add_argument("image", type=Path)
     parser.add_argument("folder", type=Path)
@@ -111,7 +113,7 @@ def words():
     return parser.parse_args()
 
 
-def main():
+def main() -> None:
     given = words()
     restore = Restore(given)
     try:

@@ -1,6 +1,11 @@
 """A shop behind a bridge, whatever carries its messages: one `serve`, and the journal of what it took. `serve` keeps a log
 beside the image; `show` reads it."""
 
+from __future__ import annotations
+
+import argparse
+from collections.abc import Callable, Iterable, Iterator
+from typing import Any, TypeVar
 import os
 import subprocess
 import sys
@@ -8,7 +13,8 @@ import time
 from contextlib import contextmanager
 
 from ledger_shop import PROGRAM, account, journal
-from ledger_shop.account import Unfit
+from ledger_shop.account import StrPath, Unfit
+from ledger_shop.journal import Entries, Numbers, key_of
 from ledger_shop.wishes import request_of, say
 
 # exit statuses of a bridge, after sysexits.h
@@ -25,14 +31,14 @@ REFUSED, NOBODY, REPORT = "refused", -1, 60
 class Gone(Exception):
     """`serve` has ended: with this status, and this text on standard error."""
 
-    def __init__(self, status, text):
+    def __init__(self, status: int, text: str) -> None:
         super().__init__(f"serve has ended with status {status} {text}".rstrip())
         self.status, self.text = status, text
 
-    def in_use(self):
+    def in_use(self) -> bool:
         return (self.status, self.text) == (3, "IN USE")
 
-    def exit_status(self):
+    def exit_status(self) -> int:
         """Whether a supervisor is to start the bridge again (AGAIN), or a keeper has to look first."""
         if self.status == 1:
             return NO_SHOP
@@ -42,35 +48,35 @@ class Gone(Exception):
 class Unkept(Gone):
     """The journal failed, and `serve` doesn't get the request in hand."""
 
-    def __init__(self, fault):
+    def __init__(self, fault: OSError) -> None:
         Exception.__init__(self, f"the journal can't be written: {fault}")
 
-    def exit_status(self):
+    def exit_status(self) -> int:
         return DEVICE
 
 
 class Stale(Gone):
     """The image isn't the one that the journal tells of, and isn't served. Or the journal is none."""
 
-    def __init__(self, text):
+    def __init__(self, text: str) -> None:
         Exception.__init__(self, text)
 
-    def exit_status(self):
+    def exit_status(self) -> int:
         return NO_SHOP
 
 
-def line_of(message):
+def line_of(message: bytes) -> str:
     """A message without the end of its line, as text; what isn't ASCII, or is too long, can't be a request."""
     line = message.removesuffix(b"\n").removesuffix(b"\r")
     return line.decode("ascii", "replace") if len(line) <= MOST else ""
 
 
-def key_of(reply):
+def place_of(reply: bytes) -> str:
     """Where a reply goes: to its till by number, or if it names none to `refused`."""
     return REFUSED if reply == SYNTAX else reply.partition(b",")[0].decode()
 
 
-def till_of(key):
+def till_of(key: str) -> int:
     """The till whose routing key or topic this is; NOBODY if it is none's."""
     return int(key) if key.isascii() and key.isdigit() and len(key) < 3 else NOBODY
 
@@ -78,10 +84,11 @@ def till_of(key):
 class Refusals:
     """Counts the messages that are refused, by the till whose account sent them, and reports them now and then."""
 
-    def __init__(self):
-        self.counts, self.reported = {}, 0.0
+    def __init__(self) -> None:
+        self.counts: dict[int | None, int] = {}
+        self.reported = 0.0
 
-    def add(self, till):
+    def add(self, till: int | None) -> None:
         self.counts[till] = self.counts.get(till, 0) + 1
         if time.monotonic() < self.reported + REPORT:
             return
@@ -95,14 +102,17 @@ class Refusals:
 class Serve:
     """The one `serve` of an image, whose lock keeps every other away."""
 
-    def __init__(self, program, image, kept=None):
-        self.command, self.journal, self.process = [program, "serve", image], kept, None
-        self.numbers, self.strangers, self.refusals = {}, set(), Refusals()
+    def __init__(self, program: str, image: StrPath, kept: journal.Journal | None = None) -> None:
+        self.command, self.journal, self.refusals = [program, "serve", os.fspath(image)], kept, Refusals()
+        # the process, with pipes to its streams, while it is open
+        self.process: Any = None
+        self.numbers: Numbers = {}
+        self.strangers: set[int] = set()
 
-    def is_open(self):
+    def is_open(self) -> bool:
         return self.process is not None
 
-    def start(self, wait=time.sleep):
+    def start(self, wait: Callable[[float], None] = time.sleep) -> None:
         """Starts it, and waits while another holds the image. A first empty line has its reply once the shop is open;
         then the image is compared with the journal. Raises Stale if the image is another or an older one."""
         waits = False
@@ -119,17 +129,17 @@ class Serve:
                 wait(0.2)
         if self.journal:
             with self.keeping():
-                self.agree(self.journal.open(wait))
+                self.agree(self.journal, self.journal.open(wait))
 
-    def run(self):
-        pipes = {"stdin": subprocess.PIPE, "stdout": subprocess.PIPE, "stderr": subprocess.PIPE}
+    def run(self) -> None:
+        pipe = subprocess.PIPE
         try:
-            self.process = subprocess.Popen(self.command, **pipes)
+            self.process = subprocess.Popen(self.command, stdin=pipe, stdout=pipe, stderr=pipe)
         except OSError as fault:
             raise Unfit(f"{self.command[0]} can't be run: {fault.strerror}") from fault
 
     @contextmanager
-    def keeping(self):
+    def keeping(self) -> Iterator[None]:
         """Work on the journal, which ends `serve` if it fails."""
         try:
             yield
@@ -143,7 +153,7 @@ class Serve:
             self.end()
             raise
 
-    def agree(self, entries):
+    def agree(self, kept: journal.Journal, entries: Entries) -> None:
         """Compares the image with what the journal has. The requests that the journal ends with are handed over once more:
         the bridge before may have died before it did that."""
         shown = self.shown()
@@ -153,7 +163,7 @@ class Serve:
         for till, number in entries.answered.items():
             self.compare(till, number, shown.get(till), None)
         expected = dict(entries.numbers)
-        for till, number in map(journal.key_of, entries.open):
+        for till, number in map(key_of, entries.open):
             self.compare(till, number - 1, shown.get(till), None)
             expected[till] = number
         is_ahead = any(number > expected.get(till, 0) for till, number in self.numbers.items())
@@ -161,23 +171,23 @@ class Serve:
             say(f"{self.command[2]}: served without its journal meanwhile: make a backup now, older ones don't lead on")
         taken = entries.open
         if entries.is_there and not entries.is_whole:
-            taken = self.go_on(entries)
+            taken = self.go_on(kept, entries)
         if taken:
             self.note(taken, self.turns(taken))
         if not entries.is_there or (is_ahead and entries.is_whole):
-            self.journal.begin(self.numbers)
+            kept.begin(self.numbers)
 
-    def go_on(self, entries):
+    def go_on(self, kept: journal.Journal, entries: Entries) -> list[str]:
         """Begins a new file of the journal, since something stands in this one that doesn't count; returns the requests that
         were taken and are handed over again. The image has what was answered."""
-        taken = [line for line in entries.open if self.numbers.get(request_of(line)[0], 0) <= request_of(line)[1]]
-        before = {till: number - 1 for till, number in map(request_of, taken)}
-        old = self.journal.turn({**self.numbers, **before}, taken)
+        taken = [line for line in entries.open if self.numbers.get(key_of(line)[0], 0) <= key_of(line)[1]]
+        before = {till: number - 1 for till, number in map(key_of, taken)}
+        old = kept.turn({**self.numbers, **before}, taken)
         why = "is damaged" if entries.is_damaged else "is of an earlier version" if entries.is_old else "broke off"
-        say(f"the journal {self.journal.path} {why}: it is {old} now, and a new one begins. The shop has all that was answered")
+        say(f"the journal {kept.path} {why}: it is {old} now, and a new one begins. The shop has all that was answered")
         return taken
 
-    def compare(self, till, number, image, kept):
+    def compare(self, till: int, number: int, image: str | None, kept: str | None) -> None:
         """Raises Stale if the image's last request of a till is older than the journal's, or another one."""
         has = int(image.split(",")[1]) if image else 0
         cure = "Make the image anew of a backup and the journal: ledger-shop rebuild"
@@ -186,7 +196,7 @@ class Serve:
         if has == number and kept and image != kept:
             raise Stale(f"the image isn't its journal's (till {till}: {image}, journal {kept}). {cure}")
 
-    def show(self):
+    def show(self) -> list[str]:
         """The lines that `show` prints beside `serve`: the shop with all that it has answered."""
         end = time.monotonic() + PATIENCE
         while True:
@@ -198,16 +208,16 @@ class Serve:
                 raise gone
             time.sleep(0.05)
 
-    def shown(self):
+    def shown(self) -> dict[int, str]:
         """Each till's last request and its answer, as `show` prints them."""
         lines = (line.removeprefix("TILL ") for line in self.show() if line.startswith("TILL "))
         return {int(line.partition(",")[0]): line for line in lines}
 
-    def turn(self, line):
+    def turn(self, line: bytes) -> bytes:
         """The reply to a line, which `serve` gives as soon as the shop is on the disk."""
         return self.turns([line.decode()])[0]
 
-    def turns(self, lines):
+    def turns(self, lines: list[str]) -> list[bytes]:
         """The replies to lines that `serve` has at hand together, one after the other."""
         try:
             self.process.stdin.write("".join(f"{line}\n" for line in lines).encode())
@@ -216,13 +226,13 @@ class Serve:
             raise self.end() from None
         return [self.reply() for _ in lines]
 
-    def reply(self):
+    def reply(self) -> bytes:
         reply = self.process.stdout.readline()
         if not reply.endswith(b"\n") or reply.endswith(b",MEDIA\n"):
             raise self.end()
         return reply[:-1]
 
-    def request(self, message, till=None):
+    def request(self, message: bytes, till: int | None = None) -> str | None:
         """The request that a message is, or None. A message that came by a till's key has to be that till's."""
         line = line_of(message)
         found = request_of(line)
@@ -231,34 +241,35 @@ class Serve:
         self.refusals.add(till)
         return None
 
-    def hand(self, message, till=None):
+    def hand(self, message: bytes, till: int | None = None) -> bytes:
         """The reply to a message. One that is no request isn't handed over."""
         return self.hand_all([(message, till)])[0]
 
-    def hand_all(self, messages):
+    def hand_all(self, messages: Iterable[tuple[bytes, int | None]]) -> list[bytes]:
         """The replies to messages, each with its till, in their order."""
         return self.answers([self.request(message, till) for message, till in messages])
 
-    def answers(self, lines):
+    def answers(self, lines: list[str | None]) -> list[bytes]:
         """The replies to requests, and to what is none, in their order."""
         replies = iter(self.take([line for line in lines if line]))
         return [next(replies) if line else SYNTAX for line in lines]
 
-    def take(self, lines):
+    def take(self, lines: list[str]) -> list[bytes]:
         """Hands over requests, as many together as may be, and returns their replies."""
-        replies = []
+        replies: list[bytes] = []
         while len(replies) < len(lines):
             together, kept = self.together(lines[len(replies) :])
             replies += self.taken(together, kept) if kept else self.turns(together)
         return replies
 
-    def together(self, lines):
+    def together(self, lines: list[str]) -> tuple[list[str], list[str]]:
         """The first lines that go together, and those of them that have their till's next number: the journal has them
         before. All others change nothing, and aren't kept. Of those that are kept at most one is a till's: the shop has
         each till's last two answers, so whatever was done can be asked again."""
-        kept, tills = [], set()
+        kept: list[str] = []
+        tills: set[int] = set()
         for at, line in enumerate(lines if self.journal else []):
-            till, number = request_of(line)
+            till, number = key_of(line)
             ahead = number - self.numbers.get(till, 0)
             if ahead == 2 and till in tills:
                 return lines[:at], kept
@@ -267,8 +278,9 @@ class Serve:
                 tills.add(till)
         return lines, kept
 
-    def taken(self, lines, kept):
+    def taken(self, lines: list[str], kept: list[str]) -> list[bytes]:
         """The replies to lines, of which some are kept."""
+        assert self.journal
         with self.keeping():
             self.journal.requests(kept)
             replies = self.turns(lines)
@@ -278,17 +290,18 @@ class Serve:
                 say(f"{self.journal.path}: goes on in a new file, the one before is {self.journal.turn(self.numbers)}")
         return replies
 
-    def note(self, lines, replies):
+    def note(self, lines: list[str], replies: list[bytes]) -> None:
         """Keeps the replies to requests that the journal has, and counts these."""
-        self.journal.replies(lines, replies)
+        if self.journal:
+            self.journal.replies(lines, replies)
         for line, reply in zip(lines, replies):
-            till, number = request_of(line)
+            till, number = key_of(line)
             if journal.counts(line, reply.decode("latin-1")):
                 self.numbers[till] = number
             elif reply.endswith(b",NO TILL"):
                 self.strangers.add(till)
 
-    def end(self):
+    def end(self) -> Gone:
         """Ends its input and waits for it, and returns how it ended."""
         process, self.process = self.process, None
         if process is None:
@@ -307,7 +320,7 @@ class Serve:
         return gone
 
 
-def words(parser):
+def words(parser: argparse.ArgumentParser) -> argparse.ArgumentParser:
     """The arguments that each bridge takes."""
     parser.add_argument("image", help="the shop's image; of several bridges that have it one serves at a time")
     parser.add_argument("--shop", default="1", help="the shop's name at the broker")
@@ -318,12 +331,15 @@ def words(parser):
     return account.words(parser)
 
 
-def serve_of(given, kind=Serve):
+S = TypeVar("S", bound=Serve)
+
+
+def serve_of(given: argparse.Namespace, kind: Callable[..., S]) -> S:
     kept = journal.Journal(given.keep, given.keep_size) if given.keep else None
     return kind(given.program, given.image, kept)
 
 
-def served(given, work, kind=Serve):
+def served(given: argparse.Namespace, work: Callable[[S], object], kind: Callable[..., S]) -> None:
     """Starts `serve` for a bridge and does its work with it, until the service is gone: then says so, and ends with the
     status that a supervisor goes by."""
     serve = serve_of(given, kind)

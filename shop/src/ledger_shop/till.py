@@ -5,6 +5,11 @@
 It asks through the exchange `shop.1.asks`, and the replies to it come through the exchange `shop.1.replies`, both with
 its number as key. Its own queue falls with its connection: a reply that finds none is lost, and the till asks again."""
 
+from __future__ import annotations
+
+import argparse
+import ssl
+from typing import Any, NoReturn
 import secrets
 from collections import deque
 
@@ -27,7 +32,7 @@ DENIED, ABSENT = 403, 404
 MOST = 100
 
 
-def parameters(places, user, context):
+def parameters(places: list[account.Place], user: account.Account | None, context: ssl.SSLContext) -> list[Any]:
     """What pika connects with, for each of these places."""
     each = [pika.URLParameters(place.text) for place in places]
     for one, place in zip(each, places):
@@ -40,14 +45,23 @@ def parameters(places, user, context):
 class Broker(wishes.Carrier):
     """Carries messages over whichever of the brokers is there."""
 
-    def __init__(self, places, shop, till, user=None, ca=None):
+    def __init__(
+        self,
+        places: list[account.Place],
+        shop: str,
+        till: int | str,
+        user: account.Account | None = None,
+        ca: account.StrPath | None = None,
+    ) -> None:
         self.places, self.context = places, account.context_of(ca)
         self.parameters = parameters(places, user, self.context)
         self.shop, self.key = shop, str(till)
         self.asks, self.replies, self.queue = (f"shop.{shop}.{name}" for name in ("asks", "replies", "bridge"))
-        self.heard, self.connection, self.fault = deque(), None, None
+        self.heard: deque[str] = deque()
+        self.connection: Any = None
+        self.fault: Exception | None = None
 
-    def connect(self):
+    def connect(self) -> None:
         self.connection = pika.BlockingConnection(self.parameters)
         self.channel = self.connection.channel()
         self.channel.exchange_declare(self.replies, passive=True)
@@ -58,10 +72,10 @@ class Broker(wishes.Carrier):
         # a full queue says so, and the ask is sent again at once
         self.channel.confirm_delivery()
 
-    def on_reply(self, _channel, _method, _properties, reply):
+    def on_reply(self, _channel: object, _method: object, _properties: object, reply: bytes) -> None:
         self.heard.append(reply.decode("ascii", "replace"))
 
-    def send(self, text):
+    def send(self, text: str) -> None:
         try:
             if not self.connection:
                 self.connect()
@@ -71,7 +85,7 @@ class Broker(wishes.Carrier):
         except FAULTS as fault:
             self.lost(fault)
 
-    def reply(self, seconds):
+    def reply(self, seconds: float) -> str | None:
         if not (self.heard or self.connection):
             raise wishes.Away
         try:
@@ -81,12 +95,12 @@ class Broker(wishes.Carrier):
             self.lost(fault)
         return self.heard.popleft() if self.heard else None
 
-    def lost(self, fault):
+    def lost(self, fault: Exception) -> NoReturn:
         self.close()
         self.fault = fault
         raise wishes.Away from fault
 
-    def trouble(self):
+    def trouble(self) -> str:
         """What a till waits for, in words."""
         if self.connection:
             return self.without_answer()
@@ -99,7 +113,7 @@ class Broker(wishes.Carrier):
         faults = [account.fault_at(place, self.context) for place in self.places]
         return next((fault for fault in faults if fault), f"the connection to {self.places[0]} is lost")
 
-    def without_answer(self):
+    def without_answer(self) -> str:
         """Whether a bridge is at the broker."""
         try:
             channel = self.connection.channel()
@@ -109,7 +123,7 @@ class Broker(wishes.Carrier):
             return "no answer yet"
         return "no answer yet from the bridge" if bridges else f"no bridge of shop {self.shop} is at the broker"
 
-    def close(self):
+    def close(self) -> None:
         try:
             if self.connection and self.connection.is_open:
                 self.connection.close()
@@ -118,14 +132,14 @@ class Broker(wishes.Carrier):
         self.connection = None
 
 
-def connected(given):
+def connected(given: argparse.Namespace) -> Broker:
     if not pika:
         raise account.Unfit("without --pipe it wants Debian's python3-pika, which isn't there")
     places = [account.Place(text, "amqp", given.plain) for text in given.broker or ["amqp://127.0.0.1/"]]
     return Broker(places, given.shop, given.till, account.account_of(given.account), given.ca)
 
 
-def main():
+def main() -> None:
     parser = wishes.words(__doc__.splitlines()[0])
     several = "amqps://HOST:PORT; more than once for the nodes of a cluster"
     parser.add_argument("--broker", action="append", help=several)

@@ -6,6 +6,11 @@ It asks on the topic `shops/1/asks/7`, the replies to it come on `shops/1/replie
 `shops/1/bridge` says whether a bridge serves. Before each new wish it compares its book with the numbers that the shop and
 other devices have (`marks.py`)."""
 
+from __future__ import annotations
+
+import argparse
+import ssl
+from typing import Any
 import queue
 import socket
 import threading
@@ -20,7 +25,7 @@ DENIED = (4, 5)
 SERVING = b"serving"
 
 
-def at_once(_client, _data, link):
+def at_once(_client: object, _data: object, link: Any) -> None:
     """Each message goes out at once, and doesn't wait for the acknowledgement of the one before."""
     link.setsockopt(socket.IPPROTO_TCP, socket.TCP_NODELAY, 1)
 
@@ -30,7 +35,7 @@ class Client(mqtt.Client):
 
     is_closed = False
 
-    def loop_forever(self, *words, **more):
+    def loop_forever(self, *words: Any, **more: Any) -> Any:
         while not self.is_closed:
             try:
                 return super().loop_forever(*words, **more)
@@ -38,7 +43,7 @@ class Client(mqtt.Client):
                 self.return_to_broker()
         return mqtt.MQTT_ERR_SUCCESS
 
-    def return_to_broker(self):
+    def return_to_broker(self) -> None:
         while not self.is_closed:
             time.sleep(1)
             try:
@@ -47,18 +52,25 @@ class Client(mqtt.Client):
             except OSError:
                 pass
 
-    def reconnect(self):
+    def reconnect(self) -> Any:
         """Connects again; what was on its way over the connection before never goes out over this one."""
         with self._out_message_mutex:
             self._out_messages.clear()
         return super().reconnect()
 
-    def disconnect(self, *words, **more):
+    def disconnect(self, *words: Any, **more: Any) -> Any:
         self.is_closed = True
         return super().disconnect(*words, **more)
 
 
-def client_of(name, place, user, context, clean=True, kind=Client):
+def client_of(
+    name: str,
+    place: account.Place,
+    user: account.Account | None,
+    context: ssl.SSLContext,
+    clean: bool = True,
+    kind: type[mqtt.Client] = Client,
+) -> Any:
     """A client with this account. If a broker lets clients choose their identifier, it is the account's name too."""
     client = kind(user[0] if user else name, clean_session=clean)
     client.on_socket_open = at_once
@@ -73,12 +85,21 @@ class Broker(wishes.Carrier):
     """Carries messages over a broker, to which it connects again by itself. With a mark it compares numbers; without one it
     is a till that doesn't know marks."""
 
-    def __init__(self, place, shop, till, user=None, ca=None, mark=None):
+    def __init__(
+        self,
+        place: account.Place,
+        shop: str,
+        till: int,
+        user: account.Account | None = None,
+        ca: account.StrPath | None = None,
+        mark: str | None = None,
+    ) -> None:
         self.place, self.context, self.shop, self.till = place, account.context_of(ca), shop, till
         topics = ("asks", "replies", "tills", "marks")
         self.asks, self.replies, self.tills, self.marks = (f"shops/{shop}/{topic}/{till}" for topic in topics)
         self.bridge, self.serving = f"shops/{shop}/bridge", None
-        self.heard, self.refused = queue.Queue(), 0
+        self.heard: queue.Queue[str] = queue.Queue()
+        self.refused = 0
         self.numbers, self.known = marks.Numbers(mark) if mark else None, threading.Event()
         self.client = client_of(f"till-{shop}-{till}", place, user, self.context)
         self.client.reconnect_delay_set(1, 4)
@@ -87,7 +108,7 @@ class Broker(wishes.Carrier):
         self.client.connect_async(place.host, place.port)
         self.client.loop_start()
 
-    def on_connect(self, client, _data, _flags, refused):
+    def on_connect(self, client: Any, _data: object, _flags: object, refused: int) -> None:
         """Subscribes. The bridge's word comes last: a broker hands over what it keeps in the order in which it is asked."""
         self.refused, self.serving = refused, None
         self.known.clear()
@@ -97,20 +118,20 @@ class Broker(wishes.Carrier):
             topics = (self.tills, self.marks, self.replies, self.bridge)
             client.subscribe([(topic, 1) for topic in topics if self.numbers or topic not in (self.tills, self.marks)])
 
-    def on_message(self, _client, _data, message):
+    def on_message(self, _client: object, _data: object, message: Any) -> None:
         """A reply is never retained: one that is may be old, or nobody's."""
         text = message.payload.decode("ascii", "replace")
         if message.topic == self.bridge:
             self.serving = message.payload
             self.known.set()
-        elif message.topic == self.tills:
+        elif self.numbers and message.topic == self.tills:
             self.numbers.shows(text)
-        elif message.topic == self.marks:
+        elif self.numbers and message.topic == self.marks:
             self.numbers.notes(text, message.retain)
         elif not message.retain:
             self.heard.put(text)
 
-    def is_ready(self, last):
+    def is_ready(self, last: int) -> bool:
         """Whether a till may take a new wish after this number; raises Taken if another device has used the next one. It
         isn't while the numbers aren't known."""
         if not (self.numbers and self.client.is_connected() and self.known.is_set()):
@@ -118,7 +139,7 @@ class Broker(wishes.Carrier):
         self.numbers.compare(self.till, last, None)
         return True
 
-    def send(self, text):
+    def send(self, text: str) -> None:
         if not self.client.is_connected():
             raise wishes.Away
         if self.numbers:
@@ -127,28 +148,29 @@ class Broker(wishes.Carrier):
             self.take(text)
         self.client.publish(self.asks, text, qos=1)
 
-    def free(self):
+    def free(self) -> None:
         if self.numbers and self.numbers.is_here:
             self.client.publish(self.marks, self.numbers.mark, qos=1, retain=True).wait_for_publish(1)
             self.numbers.taken = {}
 
-    def shop_number(self, last):
+    def shop_number(self, last: int) -> int | None:
         return self.numbers.below(last) if self.numbers else None
 
-    def take(self, text):
+    def take(self, text: str) -> None:
         """Takes the number of this ask for this device, before it is asked."""
+        assert self.numbers
         number = int(text.split(",")[1])
         self.numbers.compare(self.till, number - 1, text)
         if told := self.numbers.take(number):
             self.client.publish(self.marks, told, qos=1, retain=True)
 
-    def reply(self, seconds):
+    def reply(self, seconds: float) -> str | None:
         try:
             return self.heard.get(timeout=seconds)
         except queue.Empty:
             return None
 
-    def trouble(self):
+    def trouble(self) -> str:
         """What a till waits for, in words."""
         if self.refused in DENIED:
             return f"the broker at {self.place} refuses the account"
@@ -160,7 +182,7 @@ class Broker(wishes.Carrier):
             return f"no bridge of shop {self.shop} is at the broker"
         return "no answer yet from the bridge"
 
-    def close(self):
+    def close(self) -> None:
         try:
             self.client.disconnect()
         except OSError:
@@ -168,13 +190,13 @@ class Broker(wishes.Carrier):
         self.client.loop_stop()
 
 
-def connected(given):
+def connected(given: argparse.Namespace) -> Broker:
     place = account.Place(given.broker, "mqtt", given.plain)
     user = account.account_of(given.account)
     return Broker(place, given.shop, given.till, user, given.ca, marks.mark_of(given.book))
 
 
-def main():
+def main() -> None:
     parser = wishes.words(__doc__.splitlines()[0])
     parser.add_argument("--broker", default="127.0.0.1:1883", help="mqtts://HOST:PORT of the MQTT broker")
     parser.add_argument("--go-on", action="store_true", help="if another device used this till, go on after its number")

@@ -1,5 +1,10 @@
 """A `serve` that is watched: a bridge's screen (--screen), its figures (--metrics), and what systemd is told."""
 
+from __future__ import annotations
+
+import argparse
+from collections.abc import Callable
+from typing import Any
 import os
 import sys
 import time
@@ -7,10 +12,13 @@ import time
 from ledger_shop import journal, movements, service
 from ledger_shop.account import Unfit
 from ledger_shop.board import Board
-from ledger_shop.wishes import request_of
 
 # seconds between two messages of one kind to the screen, to systemd's watchdog, and of two looks at the disk's room
 SCREEN, WATCH, ROOM = 0.3, 10.0, 30.0
+
+
+# publishes a topic's text, retained or not
+Publish = Callable[[str, str, bool], None]
 
 
 class Unwatched(service.Serve):
@@ -18,23 +26,23 @@ class Unwatched(service.Serve):
 
     wait = staticmethod(time.sleep)
 
-    def topics(self, _topic):
+    def topics(self, _topic: str) -> list[str]:
         return []
 
-    def stand_by(self, _why):
+    def stand_by(self, _why: str) -> None:
         pass
 
-    def hear(self, _topic, _payload):
+    def hear(self, _topic: str, _payload: bytes) -> None:
         pass
 
-    def tick(self, _publish):
+    def tick(self, _publish: Publish) -> None:
         pass
 
 
 class Systemd:
     """What systemd is told of a unit with Type=notify (Debian's python3-sdnotify)."""
 
-    def __init__(self):
+    def __init__(self) -> None:
         self.notifier, self.told = None, 0.0
         if "NOTIFY_SOCKET" in os.environ:
             try:
@@ -45,11 +53,11 @@ class Systemd:
             self.notifier = sdnotify.SystemdNotifier()
             self.notifier.notify("READY=1")
 
-    def say(self, text):
+    def say(self, text: str) -> None:
         if self.notifier:
             self.notifier.notify(f"STATUS={text}")
 
-    def live(self):
+    def live(self) -> None:
         if self.notifier and time.monotonic() >= self.told + WATCH:
             self.told = time.monotonic()
             self.notifier.notify("WATCHDOG=1")
@@ -58,30 +66,31 @@ class Systemd:
 class Watched(service.Serve):
     """A `serve` whose requests are counted and shown."""
 
-    def __init__(self, figures, screen, *words):
+    def __init__(self, figures: Any, screen: bool, *words: Any) -> None:
         super().__init__(*words)
-        self.figures, self.has_screen, self.board = figures, screen, None
-        self.systemd, self.asked = Systemd(), []
+        self.figures, self.has_screen, self.systemd = figures, screen, Systemd()
+        self.board: Board | None = None
+        self.asked: list[bytes] = []
         self.shown_at = self.looked_at = 0.0
         self.is_short = False
         self.stand_by("starts")
 
-    def stand_by(self, why):
+    def stand_by(self, why: str) -> None:
         self.figures.stands_by(why)
         self.systemd.say(f"stands by: {why}")
         self.systemd.live()
 
-    def wait(self, seconds):
+    def wait(self, seconds: float) -> None:
         self.stand_by("another bridge has the image")
         time.sleep(seconds)
 
-    def start(self, wait=time.sleep):
+    def start(self, wait: Callable[[float], None] = time.sleep) -> None:
         super().start(wait)
         self.board = Board(self.show(), self.before())
         self.figures.serves(self.board)
         self.systemd.say("serving")
 
-    def before(self):
+    def before(self) -> list[movements.Movement]:
         """The journal's last movements, for the screen. Without them it shows less; the shop is served all the same."""
         try:
             return list(movements.in_journal(self.journal.path, last=2)) if self.journal else []
@@ -89,39 +98,41 @@ class Watched(service.Serve):
             service.say(f"the screen has no history: {fault}")
             return []
 
-    def topics(self, topic):
+    def topics(self, topic: str) -> list[str]:
         asks = [f"{topic}/history/asks"] if self.has_screen else []
         return [*asks, *self.figures.topics]
 
-    def hear(self, topic, payload):
+    def hear(self, topic: str, payload: bytes) -> None:
         """Takes a message that is no ask."""
         if topic == "history/asks":
             self.asked.append(payload)
         else:
             self.figures.hear(topic, payload)
 
-    def answers(self, lines):
+    def answers(self, lines: list[str | None]) -> list[bytes]:
         replies = super().answers(lines)
         for reply in replies:
             self.figures.answered(reply)
         return replies
 
-    def take(self, lines):
+    def take(self, lines: list[str]) -> list[bytes]:
         began = time.monotonic()
         replies = super().take(lines)
         seconds = time.monotonic() - began
         for line, reply in zip(lines, replies):
             self.figures.turned(seconds)
             text = reply.decode("latin-1")
-            if self.board and self.board.is_new(*request_of(line)) and journal.counts(line, text):
+            if self.board and self.board.is_new(*journal.key_of(line)) and journal.counts(line, text):
                 self.is_short |= self.board.took(journal.now(), line, text)
         return replies
 
-    def tick(self, publish):
+    def tick(self, publish: Publish) -> None:
         """Between two messages: feeds the screen, the figures and the watchdog."""
         now = time.monotonic()
         self.systemd.live()
         self.figures.ticks()
+        if not self.board:
+            return
         if self.is_short and now >= self.looked_at + ROOM:
             self.looked_at, self.is_short = now, False
             self.board.read(self.show())
@@ -138,7 +149,7 @@ class Watched(service.Serve):
                 publish(topic, text, True)
 
 
-def words(parser):
+def words(parser: argparse.ArgumentParser) -> argparse.ArgumentParser:
     """The arguments for what watches a bridge."""
     parser.add_argument("--screen", action="store_true", help="publish stock, tills and last answers for the stock page")
     parser.add_argument("--metrics", type=int, metavar="PORT", help="serve /metrics and /health on this port of the loopback")
@@ -146,7 +157,7 @@ def words(parser):
     return parser
 
 
-def kind_of(given):
+def kind_of(given: argparse.Namespace) -> Callable[..., Any]:
     """What makes the `serve` of these arguments."""
     if not (given.screen or given.metrics or "NOTIFY_SOCKET" in os.environ):
         return Unwatched

@@ -4,6 +4,10 @@ book through its own death, asks the same until it hears the answer, and hears e
 The rules are those of `Till` in crates/request_cards/src/till.rt (`wish`, `ask`, `hear`), of which it is proved that
 they do each wish once and hear each answer once, whatever is lost, late, doubled or out of order (`both_ends`)."""
 
+from __future__ import annotations
+
+from collections.abc import Callable, Iterator
+from typing import IO, Any
 import argparse
 import fcntl
 import os
@@ -13,6 +17,7 @@ import subprocess
 import sys
 import time
 
+from ledger_shop.account import StrPath
 from ledger_shop import account
 from ledger_shop.account import Unfit
 
@@ -45,7 +50,7 @@ class Refused(Exception):
 class Taken(Exception):
     """Another device has this till, or has used its numbers: why, and the last number that was used, or None."""
 
-    def __init__(self, why, number):
+    def __init__(self, why: str, number: int | None) -> None:
         super().__init__(why)
         self.number = number
 
@@ -58,18 +63,18 @@ class Full(Exception):
     """The broker has no room for the message now: others ask too much."""
 
 
-def say(text):
+def say(text: object) -> None:
     print(text, file=sys.stderr, flush=True)
 
 
-def is_wish(text):
+def is_wish(text: str) -> bool:
     """Whether this is kind, item and quantity of a request, and for a move the item to go to."""
     found = WISH.fullmatch(text)
     items = [int(item) for item in found.groups() if item] if found else []
     return bool(items) and max(items) <= MOST_ITEM and len(set(items)) == len(items)
 
 
-def request_of(text):
+def request_of(text: str) -> tuple[int, int] | None:
     """The till and the number of a request, or None if this is none."""
     found = REQUEST.fullmatch(text)
     if not found or int(found[1]) > MOST_TILL or not is_wish(found[3]):
@@ -77,19 +82,19 @@ def request_of(text):
     return int(found[1]), int(found[2])
 
 
-def is_answer(wish, text):
+def is_answer(wish: str, text: str) -> bool:
     """Whether this is an answer that the trade rule has for the wish."""
     return bool(ANSWER[wish[0]].fullmatch(text))
 
 
-def opened(path):
+def opened(path: StrPath) -> IO[bytes]:
     """A file to add lines to. If it is made, only its owner can read it, and its name is on the disk when this returns."""
     file = open(path, "a+b", opener=lambda name, flags: os.open(name, flags, 0o600))
     sync_folder(path)
     return file
 
 
-def sync_folder(path):
+def sync_folder(path: StrPath) -> None:
     """Brings the names in a file's folder to the disk."""
     folder = os.open(os.path.dirname(os.path.abspath(path)), os.O_RDONLY)
     os.fsync(folder)
@@ -106,7 +111,7 @@ class Book:
     # what a line can have that broke off: no line is longer, or has other characters
     LONGEST, BROKEN = 80, re.compile(rb"(?:[?=] ?[0-9A-Z, ]*)?\0*")
 
-    def __init__(self, path):
+    def __init__(self, path: StrPath) -> None:
         self.path, self.file = path, opened(path)
         try:
             fcntl.flock(self.file, fcntl.LOCK_EX | fcntl.LOCK_NB)
@@ -122,7 +127,7 @@ class Book:
             raise Unfit(f"{path} isn't a till's book: {rest[:40]!r}")
         self.file.truncate(len(whole))
 
-    def read(self, lines):
+    def read(self, lines: list[str]) -> tuple[int, str | None]:
         """The number of the last wish that was answered, and the open wish or None, by the last two lines."""
         entries = [self.entry(line) for line in lines]
         damaged = [number for number, entry in enumerate(entries, 1) if entry is None]
@@ -132,13 +137,14 @@ class Book:
             raise Unfit(self.damaged(len(lines), lines[-1]))
         if damaged:
             say(f"{self.path}: line {damaged[-1]} is damaged; the lines after it are good, so the till goes on")
-        mark, number, text = entries[-1]
-        before = entries[-2] if len(entries) > 1 else ("=", 0, "")
+        last, before = entries[-1], entries[-2] if len(entries) > 1 else ("=", 0, "")
+        assert last
+        mark, number, text = last
         if before and text != "lost" and before[:2] != (("=", number - 1) if mark == "?" else ("?", number)):
             raise Unfit(self.damaged(len(lines), lines[-1]))
         return (number, None) if mark == "=" else (number - 1, text)
 
-    def entry(self, line):
+    def entry(self, line: str) -> tuple[str, int, str] | None:
         """Mark, number and text of a line, or None."""
         found = self.LINE.fullmatch(line)
         if not found:
@@ -149,12 +155,12 @@ class Book:
         is_right = any(form.fullmatch(text) for form in ANSWER.values()) if mark == "=" else is_wish(text)
         return (mark, number, text) if number and is_right else None
 
-    def damaged(self, number, line):
+    def damaged(self, number: int, line: str) -> str:
         told = f"{self.path}, line {number}, is damaged or doesn't follow the line before: {line[:60]!r}."
         cure = "Look for this till's last number at the shop (`show` prints TILL 7,17,..),"
         return f"{told} {cure} and add it to the book as a line `= 17,lost`."
 
-    def add(self, line):
+    def add(self, line: str) -> None:
         self.file.write(line.encode() + b"\n")
         self.file.flush()
         os.fdatasync(self.file.fileno())
@@ -163,15 +169,15 @@ class Book:
 class Till:
     """The till of this number, 1 to 64, with what its book says, or without a book from its first request on."""
 
-    def __init__(self, till, book=None):
+    def __init__(self, till: int, book: Book | None = None) -> None:
         self.till, self.book, self.refused = till, book, 0
         self.last, self.open = (book.last, book.open) if book else (0, None)
 
-    def note(self, line):
+    def note(self, line: str) -> None:
         if self.book:
             self.book.add(line)
 
-    def wish(self, text):
+    def wish(self, text: str) -> bool:
         """Opens this wish, if none is open and a number is left; returns whether it did."""
         if self.open or self.last >= MOST:
             return False
@@ -179,16 +185,16 @@ class Till:
         self.open = text
         return True
 
-    def go_on(self, number):
+    def go_on(self, number: int) -> None:
         """Drops the open wish, and goes on after this number."""
         self.note(f"= {number},lost")
         self.last, self.open = number, None
 
-    def ask(self):
+    def ask(self) -> str:
         """The message of the open wish, the same each time."""
         return f"{self.till},{self.last + 1},{self.open}"
 
-    def hear(self, reply):
+    def hear(self, reply: str) -> str | None:
         """The answer that this reply brings to the open wish, which it closes, or None. A reply counts only if all of it
         is this till, this number and an answer to this wish: nothing more, and no control bytes."""
         begin = f"{self.till},{self.last + 1},"
@@ -204,7 +210,7 @@ class Till:
         return word
 
 
-def answer_to(till, link):
+def answer_to(till: Till, link: Carrier) -> str:
     """Asks for the open wish until its answer is heard. After some seconds it says what it waits for."""
     wait, began, told = FIRST, time.monotonic(), None
     while True:
@@ -227,7 +233,7 @@ def answer_to(till, link):
         wait = min(2 * wait, LONGEST)
 
 
-def wait_for(till, link):
+def wait_for(till: Till, link: Carrier) -> None:
     """Waits until a new wish may be taken."""
     began, told = time.monotonic(), None
     while not link.is_ready(till.last):
@@ -235,7 +241,7 @@ def wait_for(till, link):
         time.sleep(0.02)
 
 
-def complain(till, link, began, told):
+def complain(till: Till, link: Carrier, began: float, told: str | None) -> str | None:
     """Says what a till waits for, if it has waited for long and this is another trouble than the last that was said."""
     if time.monotonic() - began < PATIENCE:
         return told
@@ -248,14 +254,29 @@ def complain(till, link, began, told):
 class Carrier:
     """What carries a till's messages, where nobody else has its number."""
 
-    def is_ready(self, _last):
+    def send(self, text: str) -> None:
+        """Sends a message. Raises Away if that can't be, and Full if there is no room."""
+        raise NotImplementedError
+
+    def reply(self, seconds: float) -> str | None:
+        """The next reply, or None after so many seconds. Raises Away."""
+        raise NotImplementedError
+
+    def trouble(self) -> str:
+        """What a till waits for, in words."""
+        raise NotImplementedError
+
+    def close(self) -> None:
+        raise NotImplementedError
+
+    def is_ready(self, _last: int) -> bool:
         """Whether a new wish may be taken after this number; raises Taken if another device has used the next one."""
         return True
 
-    def free(self):
+    def free(self) -> None:
         """Forgets the numbers that devices took: the shop never had them."""
 
-    def shop_number(self, last):
+    def shop_number(self, last: int) -> int | None:
         """The shop's last number of this till, after it has said that the one after `last` is ahead; None if it isn't known."""
         return None
 
@@ -263,20 +284,21 @@ class Carrier:
 class Pipe(Carrier):
     """Carries messages to a command that answers a line with a line, and is started again if it has ended."""
 
-    def __init__(self, command):
-        self.command, self.process, self.heard = command, None, b""
+    def __init__(self, command: str) -> None:
+        self.command, self.heard = command, b""
+        self.process: Any = None
 
-    def send(self, text):
+    def send(self, text: str) -> None:
         try:
             if not self.process:
-                pipes = {"stdin": subprocess.PIPE, "stdout": subprocess.PIPE}
-                self.process = subprocess.Popen(self.command, shell=True, bufsize=0, **pipes)
+                pipe = subprocess.PIPE
+                self.process = subprocess.Popen(self.command, shell=True, bufsize=0, stdin=pipe, stdout=pipe)
             self.process.stdin.write(text.encode() + b"\n")
         except OSError as fault:
             self.close()
             raise Away from fault
 
-    def reply(self, seconds):
+    def reply(self, seconds: float) -> str | None:
         """The next line, or None after so many seconds."""
         until = time.monotonic() + seconds
         while b"\n" not in self.heard:
@@ -290,10 +312,10 @@ class Pipe(Carrier):
         line, _, self.heard = self.heard.partition(b"\n")
         return line.decode("ascii", "replace")
 
-    def trouble(self):
+    def trouble(self) -> str:
         return "the command gives no answer" if self.process else "the command ends"
 
-    def close(self):
+    def close(self) -> None:
         if self.process:
             self.process.kill()
             self.process.wait()
@@ -304,11 +326,11 @@ class Wishes:
     """The wishes to come: of a file, whose line n is the wish of number n; or, as they come, of standard input, where a
     line that is no wish is asked for again."""
 
-    def __init__(self, path, till):
+    def __init__(self, path: str, till: Till) -> None:
         self.path, self.till, self.wrong = path, till, 0
         self.is_asked = path == "-" and sys.stdin.isatty()
 
-    def lines(self):
+    def lines(self) -> Iterator[str]:
         if self.path == "-":
             while line := self.typed():
                 yield line
@@ -318,12 +340,12 @@ class Wishes:
                 if number > self.till.last:
                     yield line
 
-    def typed(self):
+    def typed(self) -> str:
         if self.is_asked:
             print(f"till {self.till.till}, wish {self.till.last + 1}: ", end="", file=sys.stderr, flush=True)
         return sys.stdin.readline()
 
-    def __iter__(self):
+    def __iter__(self) -> Iterator[str]:
         for line in self.lines():
             wish = line.strip()
             if is_wish(wish):
@@ -336,7 +358,7 @@ class Wishes:
             self.wrong += not self.is_asked
 
 
-def words(description):
+def words(description: str) -> argparse.ArgumentParser:
     """The arguments that each till takes."""
     parser = argparse.ArgumentParser(description=description)
     parser.add_argument("till", type=int, choices=range(1, 65), metavar="TILL", help="the till's number, 1 to 64")
@@ -347,7 +369,7 @@ def words(description):
     return account.words(parser)
 
 
-def goes_on(given, till, taken, counts="may or may not count"):
+def goes_on(given: argparse.Namespace, till: Till, taken: Taken, counts: str = "may or may not count") -> bool:
     """Goes on after the last number that another device used, if a person says so: by --go-on, or on a terminal. A file of
     wishes has a line for each number, so its till never does."""
     if taken.number is None or given.wishes != "-" or not (getattr(given, "go_on", False) or confirmed(f"{taken}. Go on here?")):
@@ -358,14 +380,14 @@ def goes_on(given, till, taken, counts="may or may not count"):
     return True
 
 
-def confirmed(question):
+def confirmed(question: str) -> bool:
     if not sys.stdin.isatty():
         return False
     print(f"{question} [y/N] ", end="", file=sys.stderr, flush=True)
     return sys.stdin.readline().strip() in ("y", "Y", "yes")
 
 
-def take(given, till, link, wish):
+def take(given: argparse.Namespace, till: Till, link: Carrier, wish: str) -> None:
     """Opens a wish, under a number that no other device has used."""
     while True:
         try:
@@ -378,7 +400,7 @@ def take(given, till, link, wish):
         sys.exit("no number is left")
 
 
-def do(given, till, link):
+def do(given: argparse.Namespace, till: Till, link: Carrier) -> None:
     """Does the open wish, and prints number, wish and answer. It never gets another number: it may have been asked."""
     try:
         number, wish = till.last + 1, till.open
@@ -393,13 +415,13 @@ def do(given, till, link):
             raise
         # a device that was lost took a number and didn't ask with it, or the shop is older
         link.free()
-        number = link.shop_number(till.last)
-        last = Taken(f"the shop's last request of till {till.till} is {number}", number)
+        shop = link.shop_number(till.last)
+        last = Taken(f"the shop's last request of till {till.till} is {shop}", shop)
         if not goes_on(given, till, last, "didn't count"):
             raise
 
 
-def run(given, connect):
+def run(given: argparse.Namespace, connect: Callable[[argparse.Namespace], Carrier]) -> None:
     """Does wish after wish, each a line `R,42,5` or `M,42,5,43`, and prints number, wish and answer of each. `connect`
     makes what carries its messages, unless that is a pipe. Status 1: a line of the file, or of a standard input that is
     no terminal, is no wish. 3: nothing was done for a wish of a file, as its answer says. 4: a keeper has to look."""
