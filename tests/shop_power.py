@@ -169,19 +169,22 @@ class Power(model.Power):
         self.ways = [self.draw.choice(WAYS)]
         if self.ways != ["blocks"]:
             return super().left_of(name, file)
-        draw, block = self.draw, self.draw.choice(BLOCKS)
-        moments = [bytearray(file.held)]
-        for change in file.changes:
-            moments.append(bytearray(moments[-1]))
-            apply(moments[-1], change)
-        longest = max(map(len, moments))
-        length = draw.choice([len(draw.choice(moments)), longest, min(longest, draw.randint(0, longest // block + 1) * block)])
-        length = max(length, min(map(len, moments)))
-        left = bytearray()
-        for at in range(0, length, block):
-            one = draw.choice([moments[0], moments[-1], draw.choice(moments)])[at : min(at + block, length)]
-            left += one + bytes(min(block, length - at) - len(one))
-        return bytes(left[:length])
+        draw, block, last = self.draw, self.draw.choice(BLOCKS), len(file.changes)
+        now, left, sizes, moments = bytearray(file.held), bytearray(), [], {}
+        ends = [place + len(what) if place is not None else what for place, what in file.changes]
+        for at in range(0, max([len(now), *ends]), block):
+            moments.setdefault(draw.choice([0, last, draw.randint(0, last)]), []).append(at)
+        for moment in range(last + 1):
+            if moment:
+                apply(now, file.changes[moment - 1])
+            sizes.append(len(now))
+            for at in moments.get(moment, []):
+                left.extend(bytes(max(0, at + block - len(left))))
+                one = now[at : at + block]
+                left[at : at + len(one)] = one
+        length = draw.choice([draw.choice(sizes), max(sizes), min(max(sizes), draw.randint(0, max(sizes) // block + 1) * block)])
+        length = max(length, min(sizes))
+        return bytes(left[:length]) + bytes(max(0, length - len(left)))
 
 
 class Day:
@@ -271,7 +274,11 @@ class Trial:
     def cut_again(self, a_day, files, least, most):
         """Cuts the recovery of a state."""
         folder = self.put(files)
-        calls, _ = recorded(self.program, folder, [])
+        try:
+            calls, _ = recorded(self.program, folder, [])
+        except Wrong as fault:
+            self.faults.append(f"a recovery is recorded: {fault}")
+            return
         for left, _ in self.left(files, folder, calls, sorted(self.draw.randint(0, len(calls)) for _ in range(4))):
             self.recoveries += 1
             self.look(a_day, left, least, most, 2)
