@@ -139,6 +139,7 @@ class Trial:
         shown = until(lambda: [one for one in ("leave", "password") if page.at(one).is_displayed()], "the page", 60)
         if shown == ["leave"]:
             page.at("leave").click()
+            until(lambda: page.at("password").is_displayed(), "the form after a sign-out")
         page.sign_in(self.broker.password(f"till-1-{till}"))
         until(lambda: not page.at("sign").is_displayed(), f"{name} signed in", 60)
         return page

@@ -234,6 +234,9 @@ class Trial:
         """An address with a password, as an earlier version's code had it, signs nobody in."""
         driver = self.driver("first")
         driver.get("about:blank")
+        driver.get(self.web.url("till_page"))
+        self.leave(driver)
+        driver.get("about:blank")
         driver.get(self.web.url("till_page", f"#till=9&password={self.broker.password('till-1-9')}"))
         page = TillPage(driver, self.web, 9)
         until(lambda: page.at("password").is_displayed() and page.state() == "Not signed in", "the form", 60)

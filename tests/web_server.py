@@ -1,4 +1,4 @@
-"""An nginx (Debian's package nginx-light) with the shop's own configuration, shop/deploy/nginx.conf, at other ports of the loopback
+"""An nginx (Debian's package nginx-light) with the shop's own configuration, shop/deploy/nginx.conf and nginx_trust.conf, at other ports of the loopback
 address: it serves the pages over TLS, and hands on their messages and the codes of new tablets."""
 
 import re
@@ -17,7 +17,7 @@ class Web:
     def __init__(self, folder: Path, root: Path, mqtt: int | str, codes: int = 9):
         self.folder, self.root, self.child = folder, root, None
         self.port, self.plain = brokers.free_ports(2)
-        text = (DEPLOY / "nginx.conf").read_text()
+        text = (DEPLOY / "nginx.conf").read_text() + (DEPLOY / "nginx_trust.conf").read_text()
         changes = {
             r"listen \[::\].*\n": "\n",
             r"listen 443 ssl": f"listen 127.0.0.1:{self.port} ssl",

@@ -75,8 +75,14 @@ put_accounts() {
     install -m 640 -g mosquitto "$own/accounts/ledger.passwords" "$own/accounts/ledger.acl" /etc/mosquitto/
 }
 
-# Debian's page "Welcome to nginx!" at port 80 gives way, unless somebody changed it
-free_port() {
+# Port 80 gives the authority's certificate, unless another program has it. Debian's page "Welcome to nginx!" gives way there,
+# unless somebody changed it.
+put_trust() {
+    if grep -qsE ':0050 0+:0000 0A ' /proc/net/tcp /proc/net/tcp6 && ! nginx -T 2>/dev/null | grep -qE '^[[:space:]]*listen ([^;]*:)?80[ ;]'; then
+        echo "set_up: port 80 is another program's; let that give /var/www/ledger/ca.crt as /ca.crt" >&2
+        return
+    fi
+    put root:root 644 "$here/nginx_trust.conf" /etc/nginx/conf.d/ledger_trust.conf
     site=/etc/nginx/sites-enabled/default
     [ -e "$site" ] || return 0
     known=$(dpkg-query -W -f '${Conffiles}\n' nginx-common 2>/dev/null | sed -n 's|^ /etc/nginx/sites-available/default ||p' | cut -c 1-32)
@@ -105,7 +111,7 @@ put_pages() {
     /usr/bin/ledger-shop goods "$own/goods.csv"
     install -m 644 "$own/goods.csv" /var/www/ledger/till_page/goods.csv
     put root:root 644 "$here/nginx.conf" /etc/nginx/conf.d/ledger_pages.conf
-    free_port
+    put_trust
 
     # a further shop has copies of them, as OPERATIONS.md makes them
     for other in /var/www/ledger/*/; do
