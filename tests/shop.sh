@@ -7,7 +7,7 @@
 # the net is cut. With 0 requests it ends before that. It wants to be root, for network namespaces, and Debian's packages
 # nodejs, chromium, chromium-driver, python3-selenium, mosquitto, python3-paho-mqtt, python3-pika, python3-prometheus-client,
 # python3-sdnotify, python3-pil, openssl, iproute2, esbuild, node-mqtt, node-buffer, node-process, node-url, node-readable-stream, qrencode,
-# zbar-tools, curl, libnss3-tools, nginx-light and firefox-esr, and installs nothing. tests/quick_start.sh goes through the quick start. The status is 1
+# zbar-tools, curl, libnss3-tools, nginx-light, firefox-esr, python3-pytest and strace, and installs nothing. tests/quick_start.sh goes through the quick start. The status is 1
 # at the first difference.
 set -eu
 top="$(CDPATH= cd -- "$(dirname -- "$0")/.." && pwd)"
@@ -24,8 +24,10 @@ for file in "$top"/shop/src/ledger_shop/*.py "$top"/tests/shop*.py; do
 done
 told=$(node --test "$top"/shop/pages/tests/ 2>&1) || { echo "$told" >&2; exit 1; }
 echo "pages: $(echo "$told" | sed -n 's/^# pass //p') tests of the pages' own rules; no difference"
+LEDGER="$program" /usr/bin/python3 -m pytest -q "$top/shop"
 /usr/bin/python3 "$top/tests/shop_papers.py"
 /usr/bin/python3 "$top/tests/shop_keeping.py" "$program"
+/usr/bin/python3 "$top/tests/shop_power.py" "$program" 200
 set -- ${3:+--pictures "$3"}
 /usr/bin/python3 "$top/tests/certificates.py"
 for browser in chromium firefox; do

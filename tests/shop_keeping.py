@@ -20,7 +20,7 @@ from pathlib import Path
 
 import shop_papers
 import shop_scene as scene
-from served import sure, want
+from served import run, sure, want
 from shop_papers import check, tool
 from shop_paths import command
 from shop_rule import Shop
@@ -144,9 +144,12 @@ def restores(program, folder, image, kept, copies, rule):
     with_log(program, image, kept, rule, words)
     last = kept.read_bytes()
     kept.write_bytes(b"garbage\n" + last)
+    tool("restore", *words)
+    shows(program, image, rule)
+    kept.write_bytes(b"garbage\n" * 100)
     before = image.read_bytes()
     told = tool("restore", *words, status=1)
-    check("step 3 failed" in told and "is as it was" in told and image.read_bytes() == before, f"a damaged journal: {told}")
+    check("step 3 failed" in told and "is as it was" in told and image.read_bytes() == before, f"a file that is no journal: {told}")
     told = tool("restore", *words, "--without-journal")
     check("is lost" in told and (folder / "shop1.lines.aside1").exists(), f"without the journal: {told}")
     check(image.read_bytes() == damaged.read_bytes(), "the copy isn't in its place")
@@ -234,7 +237,8 @@ def counted(folder, broker, port):
     wishes = folder / "wishes"
     wishes.write_text("".join(line + "\n" for line in lines))
     till = command("till-mqtt", 1, "--book", folder / "book", "--wishes", wishes, *broker.words("till-1-1"))
-    check(len(sure(*map(str, till))) == len(lines), "the till isn't answered")
+    status, told, err = run(*map(str, till))
+    check((status, len(told)) == (3, len(lines)) and "nothing was done for 3" in err, f"the till ends with {status}, {told} {err}")
     found = figures(port)
     replies = {word: found[f'ledger_replies_total{{word="{word}"}}'] for word in ("DONE", "SHORT", "NO CARD", "72")}
     check(replies == {"DONE": 2, "SHORT": 1, "NO CARD": 1, "72": 1}, f"replies are counted as {replies}")

@@ -28,7 +28,8 @@ sell() {
         --account "$own/accounts/till-1-$2.account" 2>>/shop/log
 }
 got() { [ "$1" = "$2" ] || { echo "got '$1', not '$2'" >>/shop/log; return 1; }; }
-runs() { ps -eo args | grep -q "$1"; }
+runs() { cat /proc/[0-9]*/cmdline 2>/dev/null | tr '\0' ' ' | grep -q "$1"; }
+stopped() { ! runs "$1"; }
 shown() { ledger-1541 show /var/lib/ledger/shop1.d64; }
 
 # a shop of the earlier version
@@ -51,14 +52,15 @@ printf 'I,101,1\n' | timeout 5 /usr/lib/ledger/till_mqtt.py 3 --book /root/till3
 systemctl start ledger-bridge-mqtt@1
 serving || exit 1
 sleep 2
+check "the bridge before" runs "[u]sr/lib/ledger/bridge_mqtt.py"
 old=$(shown)
 lines=$(cat /var/lib/ledger/shop1.lines)
 
 # the update
 check "dpkg" dpkg --install /shop/new.deb
 check "it serves" serving
-check "the bridge is the new one" runs "ledger-shop bridge-mqtt"
-check "no bridge of before runs" sh -c '! ps -eo args | grep -q "[/]usr/lib/ledger/bridge_mqtt.py"'
+check "the bridge is the new one" runs "[l]edger-shop bridge-mqtt"
+check "no bridge of before runs" stopped "[u]sr/lib/ledger/bridge_mqtt.py"
 check "the shop is the same" got "$(shown)" "$old"
 check "passwords, certificate and goods are the same" got "$(sha256sum "$own/ca.crt" "$own/goods.csv" "$own/accounts/till-1-2.account")" "$before"
 check "a changed file stays" grep -q '^# mine' /etc/mosquitto/conf.d/ledger.conf

@@ -23,7 +23,9 @@ def shop(program, tmp_path):
     image = tmp_path / "shop.d64"
     subprocess.run([program, "format", "--new", image, "--tills", "4"], check=True, capture_output=True)
     broker.start()
-    words = command("bridge-mqtt", image, "--program", program, "--keep", tmp_path / "lines", "--screen", *broker.words("bridge-1"))
+    words = command(
+        "bridge-mqtt", image, "--program", program, "--keep", tmp_path / "lines", "--screen", *broker.words("bridge-1")
+    )
     bridge = brokers.Child(words, tmp_path / "bridge.log")
     yield broker
     bridge.end()
@@ -33,7 +35,9 @@ def shop(program, tmp_path):
 def sold(broker, book, *lines, more=()):
     """A till of a terminal: its status, and what it prints."""
     words = command("till-mqtt", TILL, "--book", book, *broker.words(f"till-1-{TILL}"), *more)
-    done = subprocess.run([*map(str, words)], input="".join(f"{line}\n" for line in lines), capture_output=True, text=True, timeout=60)
+    done = subprocess.run(
+        [*map(str, words)], input="".join(f"{line}\n" for line in lines), capture_output=True, text=True, timeout=60
+    )
     return done.returncode, done.stdout.splitlines(), done.stderr
 
 

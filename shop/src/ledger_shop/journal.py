@@ -1,10 +1,10 @@
 """A shop's journal: who asked what, when, and what was answered. It is a text file with a line for each thing that is noted,
 in the order in which `serve` took the requests:
 
-    # 2026-11-26T19:00:00.000Z begins 1:12 7:15 =41,5d0c6f6c
-    # 2026-11-26T19:05:12.345Z takes 7,16,S,5,10 9,4,I,5,3 =52,5b5b7d9c
-    2026-11-26T19:05:12.349Z 7,16,S,5,10 -> 7,16,DONE,10 =52,8f3a6c53
-    2026-11-26T19:05:12.349Z 9,4,I,5,3 -> 9,4,DONE,7 =48,0b0b8a37
+    # 2026-11-26T19:00:00.000Z begins 1:12 7:15 =43,c00b0455
+    # 2026-11-26T19:05:12.345Z takes 7,16,S,5,10 9,4,I,5,3 =54,7fcc6c02
+    2026-11-26T19:05:12.349Z 7,16,S,5,10 -> 7,16,DONE,10 =52,7e6bcc05
+    2026-11-26T19:05:12.349Z 9,4,I,5,3 -> 9,4,DONE,7 =48,32bcc0eb
 
 A `takes` line is on the disk before `serve` gets its requests; a line with its reply follows for each. The next `takes` is
 written after that, and its sync brings both to the disk. A `begins` line says with which number of each till a file goes on
