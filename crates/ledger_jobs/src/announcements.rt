@@ -82,14 +82,16 @@ where
     requires { MayReadImage R.rights rt.now image.now }
 {
     let meaning = meaning_of_fault(fault);
-    let cure = match remedy_at(rt, image) {
-        Some(remedy) => cure_of(remedy),
-        None => None,
-    };
     let shown = ShownPath(image);
-    let _ = match cure {
-        Some(cure) => writeln!(err, "ledger: {shown}: {meaning}; {cure}"),
-        None => writeln!(err, "ledger: {shown}: {meaning}"),
+    let Some(remedy) = remedy_at(rt, image) else {
+        let _ = writeln!(err, "ledger: {shown}: {meaning}");
+        return;
+    };
+    let _ = match (remedy, cure_of(remedy)) {
+        // that sectors are taken is all that is wrong with the BAM
+        (Remedy::Strays { .. }, Some(cure)) => writeln!(err, "ledger: {shown}: {cure}"),
+        (_, Some(cure)) => writeln!(err, "ledger: {shown}: {meaning}; {cure}"),
+        (_, None) => writeln!(err, "ledger: {shown}: {meaning}"),
     };
 }
 

@@ -11,7 +11,6 @@ use crate::near_names::tell_name;
 use crate::refusal_subjects::{Advice, LOG_AWAY, said_of_fault, subject_of};
 use crate::size_lines::{missized_of, tell_size};
 use command_faults::CommandFault;
-use disk_layout::Fault;
 use image_file::{Failure, HostFiles, Locks};
 use opened_files::size_of;
 use std::fs::OpenFile;
@@ -58,13 +57,16 @@ fn tell_made<R: HostFiles, E: Write>(rt: &R, job: &Job<'_>, err: &mut E)
 
 /// Prints what a fault of a job's first image means, and what can be done about it. If two images are
 /// compared, it isn't known which one has the fault.
-fn tell_fault_of<F, R, E>(rt: &R, job: &Job<'_>, fault: Fault, err: &mut E)
+fn tell_fault_of<F, R, E>(rt: &R, job: &Job<'_>, refusal: CommandFault, err: &mut E)
 where
     F: Read + Locks + OpenFile + Drop,
     R: HostFiles<File = F> + AllocGlobal,
     E: Write,
     requires { MayExplain R.rights rt.now job.now }
 {
+    let CommandFault::Layout(fault) = refusal else {
+        return;
+    };
     match (job, first_file(job)) {
         (Job::Compare { .. }, _) | (_, None) => tell_of_image(err, job, said_of_fault(fault)),
         (_, Some(image)) => tell_fault(rt, image, fault, err),
@@ -113,7 +115,7 @@ where
         }
         Advice::Device => tell_device(job, cause, err),
         Advice::Image(said) => tell_of_image(err, job, said),
-        Advice::Fault(fault) => tell_fault_of(rt, job, fault, err),
+        Advice::Fault => tell_fault_of(rt, job, refusal, err),
         Advice::Away => tell_away(rt, job, err),
         Advice::Name => {
             if let Some(image) = first_file(job) {

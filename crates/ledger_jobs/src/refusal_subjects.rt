@@ -17,8 +17,8 @@ pub(crate) enum Advice {
     Device,
     /// The image, of which this is printed.
     Image(&'static str),
-    /// The image, whose disk has this fault.
-    Fault(Fault),
+    /// The image, whose disk has a fault.
+    Fault,
     /// The image, whose log isn't there.
     Away,
     /// A name that no file of the image has.
@@ -117,7 +117,7 @@ fn about_fault(fault: CommandFault) -> Advice {
     match fault {
         CommandFault::File => Advice::Files,
         CommandFault::ImageSize => Advice::Size,
-        CommandFault::Layout(fault) => Advice::Fault(fault),
+        CommandFault::Layout(_) => Advice::Fault,
         CommandFault::NoFile => Advice::Name,
         CommandFault::FileExists => Advice::Image(NAMED),
         CommandFault::DiskFull => Advice::Image(NO_ROOM),
