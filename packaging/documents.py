@@ -24,7 +24,8 @@ LINK = re.compile(r"(!?)\[([^\]]*)\]\(([^)\s]+)\)")
 def shipped():
     """The files of the package, from the top."""
     pages = ["README.md", "SECURITY.md", "CHANGELOG.md", *(f"docs/{it}.md" for it in PAGES)]
-    found = [TOP / it for it in pages] + sorted(TOP.glob("docs/pictures/*.svg"))
+    found = [TOP / it for it in pages]
+    found += sorted(it for form in ("*.svg", "*_390.png") for it in TOP.glob(f"docs/pictures/{form}"))
     folders = [it for form in ("examples/**/*", "shop/**/*") for it in sorted(TOP.glob(form))]
     found += [it for it in folders if it.is_file() and not LEFT_OUT.intersection(it.relative_to(TOP).parts)]
     return [it.relative_to(TOP) for it in found]

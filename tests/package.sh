@@ -41,7 +41,7 @@ share=$work/tree/usr/share
 python3 "$top/tests/completions.py" ledger-1541 "$share/bash-completion/completions/ledger-1541" \
     "$share/zsh/vendor-completions/_ledger-1541" "$share/fish/vendor_completions.d/ledger-1541.fish" >&2
 # what git has as a script is one in the package, and the program goes by the package's name in it
-(cd "$top" && git ls-files -s examples shop ':(exclude)shop/**/tests/*') | while read -r mode _ _ file; do
+(cd "$top" && git ls-files -s examples shop ':(exclude,glob)shop/**/tests/**') | while read -r mode _ _ file; do
     has=$(stat -L -c %a "$share/doc/ledger-1541/$file")
     [ "${mode#100}" = "$has" ] || fail "$file has mode $has"
 done
