@@ -3,7 +3,7 @@
 # disks, whose names have blanks, a quotation mark, a star and capitals, by the line of docs/KEEPERS.md, with its output in a file:
 #   tests/documents/examples.sh PROGRAM
 # PROGRAM is what `tools/program` prints. The status is 1 where something differs.
-top=$(CDPATH= cd -- "$(dirname -- "$0")/../.." && pwd) || exit 1
+top=$(CDPATH='' cd -- "$(dirname -- "$0")/../.." && pwd) || exit 1
 program=$(readlink -f -- "${1:?"which program?"}")
 work=$(mktemp -d) || exit 1
 trap 'rm -rf "$work"' EXIT

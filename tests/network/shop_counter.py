@@ -11,14 +11,13 @@ loopback address. It wants Debian's packages that `./trials --list network` name
 
 import subprocess
 import sys
-import tempfile
 import time
-import traceback
 from pathlib import Path
 
 sys.dont_write_bytecode = True
 sys.path.insert(0, str(Path(__file__).resolve().parents[1] / "lib"))
 import shop_scene as scene
+from page_checks import PageChecks, checked, more
 from served import sure, want
 from shop_paths import command
 from shop_scene import TillPage, until
@@ -51,10 +50,12 @@ WRONG = [
 ]
 
 
-class Trial:
+class Trial(PageChecks, scene.TendedBridge):
+    WINDOW = 900
+
     def __init__(self, given, folder):
-        self.given, self.folder, self.till, self.drivers = given, folder, 0, {}
-        self.passed, self.failed = [], []
+        super().__init__(given, folder)
+        self.program, self.till = given.program, 0
         if given.over == "rabbit":
             from rabbit_pages import RabbitPages
 
@@ -62,7 +63,7 @@ class Trial:
         else:
             self.broker = scene.Broker(folder, shops={scene.SHOP: 64})
         self.broker.start()
-        self.image, self.kept = scene.shop_image(given.program, folder / "shop1.d64", 64), folder / "shop1.lines"
+        self.image, self.kept = scene.shop_image(self.program, folder / "shop1.d64", 64), folder / "shop1.lines"
         self.bridge = None
         self.open_bridge()
         if given.pages:
@@ -74,19 +75,6 @@ class Trial:
 
     # the shop
 
-    def open_bridge(self):
-        words = scene.bridge_words(self.given.program, self.image, self.kept, self.broker, "--screen")
-        self.bridge = subprocess.Popen(words, stderr=subprocess.DEVNULL)
-
-    def end_bridge(self):
-        self.bridge.kill()
-        self.bridge.wait()
-
-    def tend(self):
-        """The bridge ends with its broker; a supervisor starts it again."""
-        if self.bridge.poll() is not None:
-            self.open_bridge()
-
     def net(self, is_there):
         """Takes the net away, or brings it back."""
         if is_there:
@@ -96,8 +84,8 @@ class Trial:
             self.broker.stop()
 
     def show(self):
-        until(lambda: subprocess.run([self.given.program, "show", self.image], capture_output=True).returncode == 0, "the shop")
-        return sure(self.given.program, "show", self.image)
+        until(lambda: subprocess.run([self.program, "show", self.image], capture_output=True).returncode == 0, "the shop")
+        return sure(self.program, "show", self.image)
 
     def on_hand(self, item):
         cards = dict(line[5:].split(",") for line in self.show() if line.startswith("CARD "))
@@ -120,17 +108,9 @@ class Trial:
 
     # tablets
 
-    def driver(self, name):
-        if name not in self.drivers:
-            if self.given.browser == "firefox":
-                from firefox import Firefox
-
-                self.drivers[name] = Firefox(self.folder / name, (self.given.width, 844), self.broker.ca)
-            else:
-                self.drivers[name] = scene.browser(self.folder / name, (max(self.given.width, 500), 900), self.broker.ca)
-                metrics = {"width": self.given.width, "height": 844, "deviceScaleFactor": 1, "mobile": False}
-                self.drivers[name].execute_cdp_cmd("Emulation.setDeviceMetricsOverride", metrics)
-        return self.drivers[name]
+    def begun(self, driver):
+        metrics = {"width": self.given.width, "height": self.HEIGHT, "deviceScaleFactor": 1, "mobile": False}
+        driver.execute_cdp_cmd("Emulation.setDeviceMetricsOverride", metrics)
 
     def tablet(self, till, name="first"):
         """A tablet that somebody has just signed in as this till."""
@@ -610,24 +590,6 @@ class Trial:
         lost_device queue_while_away short_until_seen queue_and_second_tab queue_and_second_device queue_on_a_device_that_is_lost
         sign_out_while_waiting fits_the_width""".split()
 
-    def run(self):
-        for name in self.CHECKS:
-            if self.given.only and not any(word in name for word in self.given.only):
-                continue
-            began = time.monotonic()
-            try:
-                getattr(self, name)()
-            except (Exception, SystemExit) as fault:
-                self.failed.append(name)
-                why = str(fault).splitlines()[0] if str(fault) else type(fault).__name__
-                print(f"FAILED {name}: {why}", flush=True)
-                if self.given.trace:
-                    traceback.print_exc()
-                self.mend()
-            else:
-                self.passed.append(name)
-                print(f"passed {name} ({time.monotonic() - began:.1f} s)", flush=True)
-
     def mend(self):
         """After a check that failed the others find a shop that is there, and browsers that are new."""
         import brokers
@@ -649,25 +611,11 @@ class Trial:
         self.pages.close()
 
 
-def more(parser):
-    parser.add_argument("--browser", choices=("chromium", "firefox"), default="chromium")
+def more_here(parser):
+    more(parser)
     parser.add_argument("--over", choices=("mosquitto", "rabbit"), default="mosquitto", help="the broker")
-    parser.add_argument("--width", type=int, default=1280, help="of the page, in pixels")
     parser.add_argument("--pages", type=Path, metavar="FOLDER", help="other pages")
-    parser.add_argument("--only", nargs="+", metavar="WORD", help="the checks whose name has one of these words")
-    parser.add_argument("--trace", action="store_true", help="print where a check failed")
-
-
-def main(given):
-    with tempfile.TemporaryDirectory(ignore_cleanup_errors=True) as folder:
-        trial = Trial(given, Path(folder))
-        try:
-            trial.run()
-        finally:
-            trial.close()
-    print(f"shop_counter in {given.browser}, {given.width} wide")
-    return len(trial.passed), len(trial.failed)
 
 
 if __name__ == "__main__":
-    conduct(main, more)
+    conduct(lambda given: checked(Trial, given), more_here)

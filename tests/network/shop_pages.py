@@ -241,6 +241,7 @@ def main(given):
             trial.run()
         finally:
             trial.close()
+    return trial.checks
 
 
 if __name__ == "__main__":

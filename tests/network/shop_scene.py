@@ -226,3 +226,22 @@ def book(driver, place):
         transaction.oncomplete = () => { store.close(); done([one.result ?? null, all.result]); };
       };"""
     return driver.execute_async_script(script, place)
+
+
+class TendedBridge:
+    """A bridge that a supervisor keeps. Whoever inherits has `program`, `image`, `kept` and `broker`."""
+
+    bridge = None
+
+    def open_bridge(self):
+        words = bridge_words(self.program, self.image, self.kept, self.broker, "--screen")
+        self.bridge = subprocess.Popen(words, stderr=subprocess.DEVNULL)
+
+    def end_bridge(self):
+        self.bridge.kill()
+        self.bridge.wait()
+
+    def tend(self):
+        """The bridge ends with its broker; a supervisor starts it again."""
+        if self.bridge.poll() is not None:
+            self.open_bridge()

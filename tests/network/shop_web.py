@@ -5,7 +5,10 @@ import http.server
 import ssl
 import sys
 from functools import partial
+from pathlib import Path
 
+sys.dont_write_bytecode = True
+sys.path.insert(0, str(Path(__file__).resolve().parents[1] / "lib"))
 from shop_scene import Quiet
 
 folder, address, port, certificate, key = sys.argv[1:]

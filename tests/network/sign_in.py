@@ -17,7 +17,6 @@ import socket
 import sqlite3
 import subprocess
 import sys
-import tempfile
 import time
 from pathlib import Path
 
@@ -25,6 +24,7 @@ sys.dont_write_bytecode = True
 sys.path.insert(0, str(Path(__file__).resolve().parents[1] / "lib"))
 import brokers
 import shop_scene as scene
+from page_checks import PageChecks, checked, more
 from served import want
 from shop_paths import command
 from shop_scene import TillPage, until
@@ -49,9 +49,9 @@ def read_code(printed, path):
     return subprocess.run(["zbarimg", "--quiet", "--raw", path], capture_output=True, text=True, check=True).stdout.strip()
 
 
-class Trial:
+class Trial(PageChecks):
     def __init__(self, given, folder):
-        self.given, self.folder, self.passed, self.failed, self.drivers = given, folder, [], [], {}
+        super().__init__(given, folder)
         self.broker = scene.Broker(folder, shops={"1": 9, "2": 2})
         self.broker.start()
         image = scene.shop_image(given.program, folder / "shop1.d64", 9)
@@ -71,17 +71,6 @@ class Trial:
         words = command("sign-in", "--codes", self.codes, "--port", self.port)
         self.service = brokers.Child(words, self.folder / "sign_in.log")
         brokers.until(lambda: brokers.listens(self.port), 20, "the service doesn't listen")
-
-    def driver(self, name):
-        if name not in self.drivers:
-            size = (self.given.width, 844)
-            if self.given.browser == "firefox":
-                from firefox import Firefox
-
-                self.drivers[name] = Firefox(self.folder / name, size, self.broker.ca)
-            else:
-                self.drivers[name] = scene.browser(self.folder / name, (max(size[0], 500), size[1]), self.broker.ca)
-        return self.drivers[name]
 
     def printed(self, user, page=None):
         """What the command prints for a till: the text of the code, and the code to type."""
@@ -300,19 +289,6 @@ class Trial:
     CHECKS = """camera typed no_password_in_history once ten_minutes after_a_restart without_the_service nothing_else other_shop
         password_in_an_address silent_clients who_may_read plain_port trust_page""".split()
 
-    def run(self):
-        for name in self.CHECKS:
-            if self.given.only and not any(word in name for word in self.given.only):
-                continue
-            try:
-                getattr(self, name)()
-            except (Exception, SystemExit) as fault:
-                self.failed.append(name)
-                print(f"FAILED {name}: {str(fault).splitlines()[0] if str(fault) else type(fault).__name__}", flush=True)
-            else:
-                self.passed.append(name)
-                print(f"passed {name}", flush=True)
-
     def close(self):
         for driver in self.drivers.values():
             driver.quit()
@@ -323,22 +299,5 @@ class Trial:
         self.broker.stop()
 
 
-def more(parser):
-    parser.add_argument("--browser", choices=("chromium", "firefox"), default="chromium")
-    parser.add_argument("--width", type=int, default=1280, help="of the page, in pixels")
-    parser.add_argument("--only", nargs="+", metavar="WORD", help="the checks whose name has one of these words")
-
-
-def main(given):
-    with tempfile.TemporaryDirectory(ignore_cleanup_errors=True) as folder:
-        trial = Trial(given, Path(folder))
-        try:
-            trial.run()
-        finally:
-            trial.close()
-    print(f"sign_in in {given.browser}, {given.width} wide")
-    return len(trial.passed), len(trial.failed)
-
-
 if __name__ == "__main__":
-    conduct(main, more)
+    conduct(lambda given: checked(Trial, given), more)

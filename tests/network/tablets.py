@@ -30,7 +30,7 @@ STOCK, TAPS = 1000, (0.05, 0.15, 0.3, 0.6)
 GOODS = "item,name,unit,least\n1,Mug,piece,6\n2,Postcard,piece,20\n"
 
 
-class Trial:
+class Trial(scene.TendedBridge):
     def __init__(self, program, folder):
         self.program, self.folder, self.checks, self.drivers, self.done = program, folder, 0, {}, 0
         self.broker = scene.Broker(folder, shops={scene.SHOP: 6})
@@ -39,19 +39,6 @@ class Trial:
         self.open_bridge()
         self.pages = scene.Pages(folder, self.broker, GOODS)
         want(self.terminal(6, f"S,1,{STOCK}\nS,2,{STOCK}\n")[0] == 0, "the stock isn't set")
-
-    def open_bridge(self):
-        words = scene.bridge_words(self.program, self.image, self.kept, self.broker, "--screen")
-        self.bridge = subprocess.Popen(words, stderr=subprocess.DEVNULL)
-
-    def tend(self):
-        """The bridge ends with its broker; a supervisor starts it again."""
-        if self.bridge.poll() is not None:
-            self.open_bridge()
-
-    def end_bridge(self):
-        self.bridge.kill()
-        self.bridge.wait()
 
     def close(self):
         for driver in self.drivers.values():
@@ -381,6 +368,7 @@ def main(given):
             trial.run()
         finally:
             trial.close()
+    return trial.checks
 
 
 if __name__ == "__main__":

@@ -7,7 +7,7 @@
 # two_machines.py says what is compared. It wants to be root, and Debian's packages iproute2, rabbitmq-server, mosquitto, python3-pika,
 # python3-paho-mqtt, and for GlusterFS glusterfs-server and glusterfs-client; it installs nothing, and its namespaces fall at the end.
 set -eu
-here="$(CDPATH= cd -- "$(dirname -- "$0")" && pwd)"
+here="$(CDPATH='' cd -- "$(dirname -- "$0")" && pwd)"
 program="$(realpath "${1:?"which program?"}")"
 shift
 [ "$(id -u)" = 0 ] || { echo "two_machines: only root makes network namespaces" >&2; exit 1; }

@@ -8,7 +8,7 @@
 # systemd-container, rabbitmq-server, mosquitto, python3-pika, python3-paho-mqtt and python3-sdnotify, and installs nothing. The status
 # is 1 at the first difference.
 set -eu
-top="$(CDPATH= cd -- "$(dirname -- "$0")/../.." && pwd)"
+top="$(CDPATH='' cd -- "$(dirname -- "$0")/../.." && pwd)"
 program="${1:?"which program?"}"
 [ "$(id -u)" = 0 ] || { echo "units: only root starts containers" >&2; exit 1; }
 for file in /usr/bin/systemd-nspawn /usr/lib/rabbitmq/bin/rabbitmq-server /usr/sbin/mosquitto; do

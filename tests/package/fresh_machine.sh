@@ -6,7 +6,7 @@
 # is 1 if something differs, if the release isn't of that commit's files, or if it took a minute or more.
 # DEBIAN is such a folder of an earlier run, which spares the download. Wants root, git, and Debian's package debootstrap.
 set -eu
-top=$(CDPATH= cd -- "$(dirname -- "$0")/../.." && pwd)
+top=$(CDPATH='' cd -- "$(dirname -- "$0")/../.." && pwd)
 work=$(mktemp -d)
 trap 'rm -rf "$work" "${home:-$work}"' EXIT
 debian=${1:-${DEBIAN:-$work/debian}}

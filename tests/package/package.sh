@@ -12,7 +12,7 @@
 # PROGRAM is packed. DEBIAN is such a folder of an earlier run, which spares the download; `none` leaves this part out.
 # It wants root, Debian's packages debootstrap, lintian, zsh, fish, and those that ./package wants.
 set -eu
-top=$(CDPATH= cd -- "$(dirname -- "$0")/../.." && pwd)
+top=$(CDPATH='' cd -- "$(dirname -- "$0")/../.." && pwd)
 PROGRAM="$(readlink -f -- "${1:?"which program?"}")"
 export PROGRAM
 work=$(mktemp -d)

@@ -7,7 +7,7 @@
 # tests/package/quick_start_after.sh looks at the pages, runs set_up.sh again, also for addresses, and restores a damaged shop. It wants
 # to be root, and Debian's packages debootstrap, systemd-container, iproute2 and python3. The status is 1 at the first difference.
 set -eu
-top="$(CDPATH= cd -- "$(dirname -- "$0")/../.." && pwd)"
+top="$(CDPATH='' cd -- "$(dirname -- "$0")/../.." && pwd)"
 program="${1:?"which program?"}"
 [ "$(id -u)" = 0 ] || { echo "quick_start: only root starts containers" >&2; exit 1; }
 for file in /usr/sbin/debootstrap /usr/bin/systemd-nspawn /usr/sbin/ip; do

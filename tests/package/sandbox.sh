@@ -3,7 +3,7 @@
 # Each unit has to be at most at 3.0 (of 10; less is safer). It wants Debian's package systemd, starts nothing, and
 # prints one line. The status is 1 if a unit is above.
 set -eu
-top="$(CDPATH= cd -- "$(dirname -- "$0")/../.." && pwd)"
+top="$(CDPATH='' cd -- "$(dirname -- "$0")/../.." && pwd)"
 told=
 count=0
 for unit in "$top"/shop/deploy/ledger-*.service; do

@@ -7,7 +7,7 @@
 # and installs the new package; then it looks whether everything is of the new version, and nothing is lost. It wants to be root, and
 # Debian's package systemd-container. The last line is `N passed, M failed`; the status is 1 if one failed.
 set -eu
-top="$(CDPATH= cd -- "$(dirname -- "$0")/../.." && pwd)"
+top="$(CDPATH='' cd -- "$(dirname -- "$0")/../.." && pwd)"
 old=${1:?"which earlier package?"}
 new=${2:?"which new package?"}
 debian=${3:?"which folder of debootstrap?"}

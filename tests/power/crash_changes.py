@@ -22,8 +22,9 @@ from pathlib import Path
 sys.dont_write_bytecode = True
 sys.path.insert(0, str(Path(__file__).resolve().parents[1] / "lib"))
 from changes import IMAGE, WORDS, Draw
-from crash_states import CALL, CALLS, TORN, WHOLE, Machine, Power, Wrong, need
+from crash_states import CALL, CALLS, TORN, WHOLE, Machine, Power
 from served import differs
+from shop_days import Wrong, need
 from trial import conduct
 
 SYNCS = ("fsync", "fdatasync")

@@ -30,12 +30,10 @@ sys.dont_write_bytecode = True
 sys.path.insert(0, str(Path(__file__).resolve().parents[1] / "lib"))
 from days import day
 from served import differs, run, sure, want
-from shop_rule import Shop, request_of
+from shop_days import ShopDay, Wrong, need, put_state
+from shop_rule import request_of
 from trial import conduct
 
-
-class Wrong(Exception):
-    """A state that is no shop with all answered lines."""
 
 CALLS = "openat,creat,close,dup,dup2,lseek,write,pwrite64,writev,pwritev,ftruncate,fallocate,fsync,fdatasync"
 CALLS += ",rename,renameat,renameat2,unlink,unlinkat,link,linkat"
@@ -52,11 +50,6 @@ TEXT = re.compile(r'"((?:\\x[0-9a-f]{2})*)"')
 def bytes_of(text):
     """The bytes of a text as `strace -xx` prints it."""
     return bytes.fromhex(TEXT.search(text)[1].replace("\\x", ""))
-
-
-def need(holds, what):
-    if not holds:
-        raise Wrong(what)
 
 
 class Inode:
@@ -297,19 +290,6 @@ def recorded(program, folder, bursts):
     return calls, replies
 
 
-class Day:
-    """A day's lines, and what the shop is after each."""
-
-    def __init__(self, lines, top):
-        shop = Shop(TILLS, top)
-        self.replies, self.shows, self.kept = [], [shop.shown()], [{}]
-        self.lines = lines
-        for line in lines:
-            self.replies.append(shop.reply(line))
-            self.shows.append(shop.shown())
-            self.kept.append({till: kept[0] for till, kept in shop.kept.items()})
-
-
 class Trial:
     """Looks at states of one day, and cuts recoveries again."""
 
@@ -317,29 +297,21 @@ class Trial:
         self.program, self.draw, self.without, self.power, self.room = program, draw, without, power, room
         self.states = self.recoveries = 0
 
-    def put(self, files):
-        folder = self.room / "state"
-        shutil.rmtree(folder, ignore_errors=True)
-        folder.mkdir()
-        for name, held in files.items():
-            (folder / name).write_bytes(held)
-        return folder
-
     def look(self, a_day, files, least, most, depth=1):
         """Looks at one state, in which at least and at most so many lines count."""
         self.states += 1
         self.look_alone(a_day, files["shop.d64"], least, most)
-        folder = self.put(files)
+        folder = put_state(self.room, files)
         image = folder / "shop.d64"
         status, shown, err = run(self.program, "show", image)
         where = f"state {self.states}, {least} to {most} lines, {sorted(files)}"
         need(status == 0, f"{where}: show: {status} {err}")
         counts = [n for n in range(least, most + 1) if shown[1:] == a_day.shows[n]]
         need(counts, f"{where}: show prints no shop of the day")
-        repeats = list(self.repeats(a_day, counts[0]))
+        repeats = list(a_day.repeats(counts[0]))
         if depth < DEPTH and self.draw.random() < 0.1:
             self.cut_again(a_day, files, counts[0], counts[-1], depth)
-            self.put(files)
+            put_state(self.room, files)
         text = "".join(line + "\n" for line, _ in repeats).encode()
         status, told, err = run(self.program, "serve", image, stdin=text)
         need(status == 0, f"{where}: serve: {status} {err}")
@@ -349,21 +321,14 @@ class Trial:
 
     def look_alone(self, a_day, held, least, most):
         """Without its log the image is refused, or has a shop in which all answered lines count."""
-        image = self.put({"shop.d64": held}) / "shop.d64"
+        image = put_state(self.room, {"shop.d64": held}) / "shop.d64"
         status, shown, err = run(self.program, "show", image)
         is_away = status == 1 and "LOG AWAY" in err
         need(is_away or shown[1:] in a_day.shows[least : most + 1], f"the image alone is an older shop, and doesn't say so: {status} {err}")
 
-    @staticmethod
-    def repeats(a_day, count):
-        """Each till's last request, and the answer that was kept."""
-        for till, (number, (kind, item, quantity, to), answer) in sorted(a_day.kept[count].items()):
-            to = f",{to}" if kind == "M" else ""
-            yield f"{till},{number},{kind},{item},{quantity}{to}", f"{till},{number},{answer}"
-
     def cut_again(self, a_day, files, least, most, depth):
         """Cuts the recovery of a state."""
-        folder = self.put(files)
+        folder = put_state(self.room, files)
         calls, _ = recorded(self.program, folder, [])
         for _ in range(4):
             self.recoveries += 1
@@ -402,7 +367,7 @@ def try_states(program, draw, without, is_torn, states):
             sure(program, "format", "--new", folder / "shop.d64", "--tills", TILLS)
             top = int(sure(program, "show", folder / "shop.d64")[0].removeprefix("TOP "))
             lines = [it for it in day(draw, LINES, (20, 100)) if not request_of(it) or request_of(it)[0] <= TILLS]
-            a_day, first = Day(lines, top), {"shop.d64": (folder / "shop.d64").read_bytes()}
+            a_day, first = ShopDay(lines, top, TILLS), {"shop.d64": (folder / "shop.d64").read_bytes()}
             bursts = list(bursts_of(draw, lines))
             calls, replies = recorded(program, folder, bursts)
             need(replies == a_day.replies, f"day {days}: other replies than the rule's")

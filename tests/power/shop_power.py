@@ -37,8 +37,9 @@ import crash_states as model
 from crash_states import CALLS, SYNCS, Inode, apply
 from days import day
 from served import run, sure
+from shop_days import ShopDay, Wrong, need, put_state
 from shop_paths import PYTHON
-from shop_rule import Shop, request_of
+from shop_rule import request_of
 from trial import conduct
 
 from ledger_shop import copies, journal, rebuild, service
@@ -52,15 +53,6 @@ IMAGE, KEPT, BACKUP = "shop.d64", "shop.lines", "backup.d64"
 STARTED = re.compile(r"(\d+) +(\w+)\((.*) <unfinished \.\.\.>")
 RESUMED = re.compile(r"(\d+) +<\.\.\. (\w+) resumed>(.*)\) += (-?\d+)")
 WHOLE = re.compile(r"(\d+) +(\w+)\((.*)\) += (-?\d+)")
-
-
-class Wrong(Exception):
-    """A state that isn't as it has to be."""
-
-
-def need(holds, what):
-    if not holds:
-        raise Wrong(what)
 
 
 class OldJournal(journal.Journal):
@@ -190,25 +182,14 @@ class Power(model.Power):
         return bytes(left[:length]) + bytes(max(0, length - len(left)))
 
 
-class Day:
+class Day(ShopDay):
     """A day's lines, and what the shop and the journal are after each."""
 
     def __init__(self, lines, top):
-        shop = Shop(TILLS, top)
-        self.lines, self.replies, self.shows, self.kept, self.noted = lines, [], [shop.shown()], [{}], [[]]
-        for line in lines:
-            self.replies.append(shop.reply(line))
-            self.shows.append(shop.shown())
-            self.kept.append({till: kept[0] for till, kept in shop.kept.items()})
-            entry = [(line, self.replies[-1])] if self.kept[-1] != self.kept[-2] else []
-            self.noted.append(self.noted[-1] + entry)
-
-
-def repeats(a_day, count):
-    """Each till's last request, and the answer that was kept."""
-    for till, (number, (kind, item, quantity, to), answer) in sorted(a_day.kept[count].items()):
-        to = f",{to}" if kind == "M" else ""
-        yield f"{till},{number},{kind},{item},{quantity}{to}", f"{till},{number},{answer}"
+        super().__init__(lines, top, TILLS)
+        self.noted = [[]]
+        for line, reply, before, after in zip(lines, self.replies, self.kept, self.kept[1:]):
+            self.noted.append(self.noted[-1] + ([(line, reply)] if after != before else []))
 
 
 class Trial:
@@ -218,14 +199,6 @@ class Trial:
         self.program, self.draw, self.without, self.room = program, draw, without, room
         self.power = Power(draw, WAYS)
         self.passed, self.faults, self.recoveries, self.backed_up = 0, [], 0, 0
-
-    def put(self, files):
-        folder = self.room / "state"
-        shutil.rmtree(folder, ignore_errors=True)
-        folder.mkdir()
-        for name, held in files.items():
-            (folder / name).write_bytes(held)
-        return folder
 
     def tried(self):
         return self.passed + len(self.faults)
@@ -245,14 +218,14 @@ class Trial:
         return service.Serve(self.program, str(folder / IMAGE), journal.Journal(folder / KEPT, TURN))
 
     def judge(self, a_day, files, least, most):
-        folder = self.put(files)
+        folder = put_state(self.room, files)
         serve = self.serve(folder)
         serve.start()
         try:
             shown = serve.show()[1:]
             counts = [n for n in range(least, most + 1) if shown == a_day.shows[n]]
             need(counts, "show prints no shop of the day")
-            asked = list(repeats(a_day, counts[0]))
+            asked = list(a_day.repeats(counts[0]))
             told = [serve.hand(line.encode()).decode() for line, _ in asked]
             need(told == [reply for _, reply in asked], "a repeat got another answer")
         finally:
@@ -276,7 +249,7 @@ class Trial:
 
     def cut_again(self, a_day, files, least, most):
         """Cuts the recovery of a state."""
-        folder = self.put(files)
+        folder = put_state(self.room, files)
         try:
             calls, _ = recorded(self.program, folder, [])
         except Wrong as fault:
@@ -332,7 +305,7 @@ def try_day(trial, states):
 def back_up(trial, first, bursts):
     """A backup with the first third of the day."""
     (trial.room / BACKUP).unlink(missing_ok=True)
-    image = trial.put(first) / IMAGE
+    image = put_state(trial.room, first) / IMAGE
     lines = [line for burst in bursts[: len(bursts) // 3] for line in burst]
     run(trial.program, "serve", image, stdin="".join(f"{line}\n" for line in lines).encode())
     sure(trial.program, "copy", image, trial.room / BACKUP)
