@@ -1,6 +1,6 @@
 #!/bin/bash
 # What each crate costs in the gate, in minutes of processor time: bench/gate.sh [CRATE ..], without a word all of them
-# For each crate, on a copy of the repository: proved from nothing with its tests, and its wrong bodies in must-fail/ tried.
+# For each crate, on a copy of the repository: proved from nothing with its tests, and its mutants in must-fail/ tried.
 # A crate below that isn't named is taken as it was built (out/rlib), or else proved first, in the time of who needs it.
 # docs/GATE.md has what a whole run took; what the machine does meanwhile is in these rows, so run nothing beside it.
 source "$(dirname "$0")/common.sh"
@@ -25,7 +25,7 @@ tried() {
     cd "$work" && rt must-fail "$1"
 }
 
-echo "| Crate | Proved from nothing with its tests | Wrong bodies |"
+echo "| Crate | Proved from nothing with its tests | Mutants |"
 for crate in "$@"; do
     bodies="$(ls "$work/crates/$crate/must-fail" 2>/dev/null | wc -l)"
     proofs="$(minutes_of proved "$crate")"

@@ -29,7 +29,7 @@ from commands import COMMANDS  # noqa: E402
 
 TOP = Path(__file__).resolve().parent.parent
 LONGEST = 35
-FOLDERS = ("bench", "crates", "docs", "examples", "packaging", "shop", "tests", "tools", "wrong_bodies")
+FOLDERS = ("bench", "crates", "docs", "examples", "mutants", "packaging", "shop", "tests", "tools")
 GENERATED = ("docs/CORE.md",)
 # copies of the sources, whose words don't count
 COPIED = ("docs/CORE.md",)

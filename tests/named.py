@@ -20,7 +20,7 @@ PAGES += [page for form in ("docs/*.md", "examples/**/*.md", "shop/**/*.md", "te
 # what is made from sources, or tells of what was
 MADE = ("docs/CORE.md",)
 SOURCES = sorted(it for name in ("ledger_jobs", "command_table", "ledger_cli") for it in TOP.glob(f"crates/{name}/src/**/*.rt"))
-FOLDERS = ("bench", "crates", "docs", "examples", "mutants", "packaging", "releases", "shop", "tests", "tools", "wrong_bodies")
+FOLDERS = ("bench", "crates", "docs", "examples", "mutants", "packaging", "releases", "shop", "tests", "tools")
 PROGRAM = r"(?:\./)?ledger(?:-1541)?"
 
 

@@ -140,7 +140,7 @@ class Repository:
         link.symlink_to(self.folder / "tools" / "program")
         ran = self.asked(tool=link)
         self.tell("and by a link", self.is_built(ran) and not ran.stderr, ran)
-        self.try_wrong_bodies()
+        self.try_mutants()
         self.try_its_end()
         for name in ("no_such_crate", "low"):
             ran = self.asked(name)
@@ -151,7 +151,7 @@ class Repository:
         self.tell("so is a kit that isn't there", ran.returncode == 3 and "there is no command rt" in ran.stderr, ran)
         return self.failed == 0
 
-    def try_wrong_bodies(self):
+    def try_mutants(self):
         """A source that isn't right anymore is told with its place, and its program isn't given."""
         cases = [
             ("crates/low/src/middle.rt", "number as u16 * 2", "number as u16 * 3", "proofs/middle/double/Answers.antt"),
@@ -163,7 +163,7 @@ class Repository:
             self.write(name, text.replace(old, new))
             ran = self.asked()
             good = text.count(old) == 1 and ran.returncode == 3 and not ran.stdout and place in ran.stderr
-            self.tell(f"a wrong body in {name} is refused", good, ran)
+            self.tell(f"a mutant in {name} is refused", good, ran)
             self.write(name, text)
         ran = self.asked()
         self.tell("put right, it is built again", self.is_built(ran) and "ledger: done after" in ran.stderr, ran)

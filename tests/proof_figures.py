@@ -12,6 +12,9 @@ from pathlib import Path
 sys.dont_write_bytecode = True
 sys.path.insert(0, str(Path(__file__).resolve().parent))
 from outline import TOP, groups  # noqa: E402
+
+sys.path.insert(0, str(TOP / "mutants"))
+from records import chosen  # noqa: E402
 from spec_files import ends_head  # noqa: E402
 
 # the rows of the table, by the headings of crates.txt
@@ -77,11 +80,10 @@ def main():
         print(f"| {kind} | {' | '.join(f'{it:,}' for it in row)} |")
     bare, of_trait = functions_without("--without" in sys.argv)
     print(f"\nOf the product's functions {bare} have no postcondition of their own; {of_trait} of these implement a trait's.")
-    edits = [len(list(TOP.glob(it))) for it in ("crates/*/must-fail/*.edit", "wrong_bodies/*/*.edit", "crates/*/wrong_bodies/*.edit")]
-    verdicts, seen = ((TOP / "wrong_bodies" / name).read_text().splitlines() for name in ("VERDICTS", "SEEN"))
-    refused = sum(": refused" in it for it in verdicts)
-    print(f"Mutants: {sum(edits)}; {edits[0]} of them in the gate, and {edits[2]} that a test is to see.")
-    print(f"Verdicts: {len(verdicts)}, of which {refused} are refused; {len(seen)} were seen by a test.")
+    mutants = chosen([])
+    refused, seen = (sum(1 for it in mutants if it.tried and it.tried.word == word) for word in ("refused", "seen"))
+    print(f"Mutants: {len(mutants)}, of which clauses refuse {refused}; {sum(1 for it in mutants if it.row)} are for rows to see,"
+          f" and {seen} of these were seen.")
 
 
 if __name__ == "__main__":
