@@ -4,7 +4,7 @@
     tests/documents/commands_of_pages.py PROGRAM
 
 A command has to stand on its page as it is here; what it is given comes from the page, too, and what it prints has to be what the
-page shows after it. KEEPERS' commands are about disks of cc1541: guide_pictures.py runs them."""
+page shows after it. guide.py runs KEEPERS' commands."""
 
 import re
 import subprocess

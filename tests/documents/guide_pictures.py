@@ -7,11 +7,10 @@ PROGRAM is what `tools/program` prints. Each is the drawing of a page that `pict
 by the program, cc1541 and cbmconvert (Debian's packages of these names); beside it stand, where it says so, the words and
 the table of the page. The arcs that a ring has in one colour are one circle of several dashes here; that they are the
 page's arcs is compared. With --check nothing is written: the status is 1 where a file isn't what would be written, where a
-document shows another picture than these or leaves one out, or where a command in docs/KEEPERS.md prints something else
-than stands there (`..` stands for lines that are left out)."""
+document shows another picture than these or leaves one out, or where a disk of examples/disks isn't the one that is made
+(tests/documents/guide.py types the commands of docs/KEEPERS.md on these)."""
 
 import re
-import shlex
 import subprocess
 import sys
 import tempfile
@@ -28,7 +27,7 @@ from trial import conduct, need
 
 DOCUMENTS = disks.TOP / "docs"
 FOLDER = DOCUMENTS / "pictures"
-GUIDE = DOCUMENTS / "KEEPERS.md"
+DISKS = disks.TOP / "examples/disks"
 LARGEST = 60_000
 SIDE = 480
 FONT = "ui-monospace,Menlo,Consolas,DejaVu Sans Mono,monospace"
@@ -234,48 +233,12 @@ def made_disks(program, folder):
     yield "compared", (disks.blank(program, folder / "morning.d64", 4), folder / "shop.d64"), "OK", False
 
 
-def steps():
-    """The commands of the guide, each with the lines that it is told to print."""
-    told = []
-    for line in GUIDE.read_text().splitlines():
-        if line.startswith("    $ ledger "):
-            told.append((line[len("    $ ledger "):], []))
-        elif line.startswith("    ") and told and told[-1] is not None:
-            told[-1][1].append(line[4:])
-        else:
-            told.append(None)
-    return [step for step in told if step]
-
-
-def fits(printed, told):
-    """Whether these lines are those that the guide tells."""
-    at, is_loose = 0, False
-    for line in told:
-        if line == "..":
-            is_loose = True
-            continue
-        if is_loose and line in printed[at:]:
-            at = printed.index(line, at)
-        if printed[at:at + 1] != [line]:
-            return False
-        at, is_loose = at + 1, False
-    return is_loose or at == len(printed)
-
-
-def see_steps(program, folder):
-    """Runs each command of the guide, in order; gives how many there are."""
-    disks.with_map_wrong(folder / "customers.d64").save(folder / "hurt.d64")
-    # a program's load address and its end
-    (folder / "game.prg").write_bytes(b"\x01\x08\x00\x00")
-    for command, told in steps():
-        words = shlex.split(command)
-        to_file = ">" in words
-        done = subprocess.run([program, *words[:words.index(">") if to_file else None]], cwd=folder, stdout=subprocess.PIPE)
-        if to_file:
-            (folder / words[-1]).write_bytes(done.stdout)
-        want(to_file or fits(done.stdout.decode("latin-1").splitlines(), told), f"{GUIDE.name}: {command} prints something else")
-        want(not to_file or done.returncode == 0, f"{GUIDE.name}: {command} ends with status {done.returncode}")
-    return len(steps())
+def see_disks(folder):
+    """Compares the disks of examples/disks with those that are made anew."""
+    names = disks.example_disks(folder)
+    stale = [name for name in names if (DISKS / f"{name}.d64").read_bytes() != (folder / f"{name}.d64").read_bytes()]
+    want(not stale, f"examples/disks has other disks: {' '.join(stale)}")
+    return len(names)
 
 
 def see_documents(wanted):
@@ -303,15 +266,15 @@ def main(given):
             if not only_check:
                 FOLDER.mkdir(exist_ok=True)
                 file.write_text(text)
-        tried = see_steps(program, Path(folder)) if only_check else 0
+        disks_seen = see_disks(Path(folder))
     stale += [file.name for file in FOLDER.glob("*.svg") if file not in wanted]
     if only_check and stale:
         differs(f"not what the program draws: {' '.join(stale)}")
     see_documents(wanted)
     print(f"guide_pictures: {len(wanted)} pictures, " + (
-        f"all as the program draws them, and {tried} commands of the guide: no difference" if only_check
+        f"all as the program draws them, and {disks_seen} sample disks: no difference" if only_check
         else f"{len(stale)} of them new"))
-    return len(wanted) + tried
+    return len(wanted) + disks_seen
 
 
 if __name__ == "__main__":

@@ -6,6 +6,7 @@ import subprocess
 from pathlib import Path
 
 from drawn import MAP, PLACES, SIZE, Disk, start
+import keepers_files as keepers
 
 TOP = Path(__file__).resolve().parents[2]
 TOOLS = ("cc1541", "cbmconvert")
@@ -86,11 +87,12 @@ def full_shop(program, path):
 
 
 def write_files(folder, path, files):
-    """Writes files on an image by cc1541; each is a name, a type, how many bytes, and more words of cc1541's."""
+    """Writes files on an image by cc1541; each is a name, a type, its bytes or how many of them, and more words of
+    cc1541's."""
     words = []
     for number, (name, kind, count, *more) in enumerate(files):
         data = folder / f"data{number}"
-        data.write_bytes(some_bytes(name, count))
+        data.write_bytes(count if isinstance(count, bytes) else some_bytes(name, count))
         words += ["-f", name, "-T", kind, *more, "-w", data]
     call("cc1541", "-q", "-m", *words, path)
 
@@ -119,17 +121,10 @@ def of_cbmconvert(folder, path):
     return path
 
 
-# the fields of a keeper's two files
-ADDRESSES = ("ADAMS BAKER CLARK DAVIS EVANS FOSTER GREEN HILL JONES KING LEE MOORE".split(),
-             [f"{number} {street}" for number in (3, 12, 27, 140) for street in ("OAK ROAD", "HIGH STREET", "MILL LANE")],
-             "LEEDS YORK HULL RIPON".split())
-GOODS = ("1986 1987".split(), "BOLTS NUTS NAILS SCREWS HINGES".split(), "10 25 100 500".split())
-
-
 def customers(folder, path):
     """A keeper's disk, sound: relative files of cbmconvert's, and programs and texts of cc1541's."""
     native = []
-    for name, length, count, fields in (("address", 96, 343, ADDRESSES), ("orders", 48, 197, GOODS)):
+    for name, length, count, fields in (("address", 96, 343, keepers.ADDRESSES), ("orders", 48, 197, keepers.GOODS)):
         file = folder / f"{name}.l{length:02X}"
         file.write_bytes(records(name, length, count, fields))
         native.append(file.name)
@@ -137,7 +132,8 @@ def customers(folder, path):
     call("cbmconvert", "-v0", "-n", "-D4o", path.name, *native, cwd=folder)
     call("cc1541", "-q", "-n", "customers 1987", "-i", "cu 2a", path)
     write_files(folder, path, [
-        ("menu", "PRG", 2900), ("enter orders", "PRG", 9100), ("print labels", "PRG", 5600), ("letter", "SEQ", 7300)])
+        ("menu", "PRG", keepers.padded(keepers.MENU, 2900)), ("enter orders", "PRG", keepers.padded(keepers.ENTER_ORDERS, 9100)),
+        ("print labels", "PRG", keepers.padded(keepers.PRINT_LABELS, 5600)), ("letter", "SEQ", keepers.letters(7300))])
     return path
 
 
@@ -266,3 +262,39 @@ def crowded(folder, path, name):
     for number in range(144):
         image.put_entry(number, 5, name.ljust(16, b"\xa0"))
     return image.save(path)
+
+
+def cut_short(path):
+    """A text that lost a block: a program that read the disk put zeros in its place."""
+    image = Image(path)
+    return image.put(image.disk.entries[LETTER].blocks[12], 0, bytes(256))
+
+
+def of_geos(path):
+    """A disk of GEOS with a document: its entry leads to an index of records, a VLIR, and to a block of information."""
+    image = Image(path)
+    places = [place for place in PLACES if place[0] in (10, 11)]
+    index, info, *pages = places[:12]
+    image.put(MAP, 171, (19, 8)).put(MAP, 173, b"GEOS format V1.0")
+    pairs = b""
+    for first, second in zip(pages[::2], pages[1::2]):
+        pairs += bytes(first)
+        image.put(first, 0, bytes(second)).put(first, 2, some_bytes(str(first), 254))
+        image.put(second, 0, (0, 180)).put(second, 2, some_bytes(str(second), 179))
+    image.put(index, 0, ((b"\0\xff" + pairs).ljust(254, b"\0") + b"\0\xff")[:256])
+    image.put(info, 0, (b"\0\xff\x03\x15\xbf" + bytes(63) + b"\x83\x07\x01").ljust(256, b"\0"))
+    image.put(info, 77, b"Write Image V2.0\0")
+    entry = b"\x83" + bytes(index) + b"MINUTES".ljust(16, b"\xa0") + bytes(info) + b"\x01\x07" + bytes((87, 5, 8, 10, 30)) + b"\x0c\0"
+    image.put_entry(LETTER + 1, 2, entry)
+    for place in (index, info, *pages, (19, 8)):
+        image.mark(place, False)
+    return image
+
+
+def example_disks(folder):
+    """The disks of examples/disks, which docs/KEEPERS.md works on; gives their names."""
+    sound = customers(folder, folder / "customers.d64")
+    hurt = {"hurt": with_map_wrong, "looped": with_loop, "cut_short": cut_short, "geos": of_geos}
+    for name, damage in hurt.items():
+        damage(sound).save(folder / f"{name}.d64")
+    return ["customers", *hurt]
