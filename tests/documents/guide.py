@@ -4,7 +4,7 @@
     tests/documents/guide.py PROGRAM
 
 A command is a line `$ ledger ..` of a block, and what it prints follows; `..` stands for lines that are left out. A command with `>`
-prints nothing else, and ends with status 0. The last line says how many there were."""
+prints nothing else, and ends with status 0."""
 
 import os
 import re
@@ -13,6 +13,10 @@ import subprocess
 import sys
 import tempfile
 from pathlib import Path
+
+sys.dont_write_bytecode = True
+sys.path.insert(0, str(Path(__file__).resolve().parents[1] / "lib"))
+from trial import conduct
 
 TOP = Path(__file__).resolve().parents[2]
 GUIDE = TOP / "docs/KEEPERS.md"
@@ -57,13 +61,13 @@ def typed(command, folder):
     return done.stdout.splitlines(), done.returncode
 
 
-def main(program):
+def main(given):
     differing = 0
     with tempfile.TemporaryDirectory() as name:
         folder = Path(name)
         shutil.copytree(DISKS, folder / "disks")
         (folder / "bin").mkdir()
-        (folder / "bin/ledger").symlink_to(Path(program).resolve())
+        (folder / "bin/ledger").symlink_to(given.program)
         # a program's load address and its end
         (folder / "disks/game.prg").write_bytes(b"\x01\x08\x00\x00")
         for command, shown in steps():
@@ -72,9 +76,8 @@ def main(program):
             if status if is_file else not fits(printed, shown):
                 print(f"{GUIDE.name}: {command}\n  ends with status {status} and prints {printed[:8]}\n  in place of {shown[:8]}")
                 differing += 1
-    print(f"guide: {len(steps())} commands of {GUIDE.name}, {differing} of them print something else")
-    return 1 if differing or not steps() else 0
+    return len(steps()) - differing, differing or int(not steps())
 
 
 if __name__ == "__main__":
-    sys.exit(main(sys.argv[1]))
+    conduct(main)

@@ -4,7 +4,7 @@ table of KEEPERS, *Coming from c1541*:
 
     tests/peers/beside_c1541.py PROGRAM
 
-The disks are those of examples/disks, and one with a wrong side sector. The last line says how many statements there were."""
+The disks are those of examples/disks, and one with a wrong side sector."""
 
 import shutil
 import subprocess
@@ -13,8 +13,9 @@ import tempfile
 from pathlib import Path
 
 sys.dont_write_bytecode = True
-sys.path.insert(0, str(Path(__file__).resolve().parent))
-import disks  # noqa: E402
+sys.path.insert(0, str(Path(__file__).resolve().parents[1] / "lib"))
+import disks
+from trial import conduct, need
 
 SAMPLES = disks.TOP / "examples/disks"
 FILES = {"menu", "enter orders", "print labels", "letter"}
@@ -80,17 +81,16 @@ class Beside:
         self.says("ledger makes the clean disk of it, byte for byte", side.read_bytes() == clean.read_bytes())
 
 
-def main(program):
-    disks.need("c1541")
+def main(given):
+    need("c1541")
     with tempfile.TemporaryDirectory() as folder:
-        beside = Beside(str(Path(program).resolve()), Path(folder))
+        beside = Beside(given.program, Path(folder))
         beside.extracts()
         beside.repairs()
     for it in beside.failed:
         print(f"isn't so: {it}")
-    print(f"{beside.passed} passed, {len(beside.failed)} failed")
-    return 1 if beside.failed else 0
+    return beside.passed, len(beside.failed)
 
 
 if __name__ == "__main__":
-    sys.exit(main(sys.argv[1]))
+    conduct(main)
