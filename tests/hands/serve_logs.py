@@ -198,7 +198,7 @@ class Logs:
                 want(status == 1 and (printed or (out, err) == ([], "LOG")), f"{command.name} beside a log that is refused: {got}")
                 want(self.files() == held, f"{command.name} has changed a file beside a log that is refused")
             said = run(self.program, "show", self.image, "--explain")[2]
-            want("docs/LOG.md" in said, f"LOG is explained so: {said}")
+            want("`copy --log IMAGE-log NEW`" in said, f"LOG is explained so: {said}")
             if harm == self.cut_log:
                 got = run(self.program, "format", self.image, "--tills", 4)
                 want((got, self.files()) == ((3, [], "FILE"), held), f"format beside a file that isn't as long as a log: {got}")
@@ -322,7 +322,7 @@ class Logs:
         steps = list(steps_of(calls.read_text(), self.folder))
         wanted = ["lock image", "sync image", "sync folder", "make new", "sync new", "write new", "sync new", "write new", "sync new", "sync folder",
                   "rename", "sync folder", "sync image", "write image", "sync image", "share image", "write log", "sync log", "reply", "write log", "sync log", "reply", "reply",
-                  "sync image", "sync folder", "write log", "sync log", *["write image", "sync image"] * 2, "remove log", "sync folder"]
+                  "write log", "sync log", *["write image", "sync image"] * 2, "remove log", "sync folder"]
         want(steps == wanted, f"the calls are {steps}")
 
 
