@@ -56,7 +56,7 @@ returns-in_default g c =
     c.next_card-card.result c.next_card-card.ensures c.on_hand-before.result
     (c.on_hand-before.ensures.value ∙ ap (nth c.self.inside.ledger.cards) c.item.ensures.value)
     c.store_answer.new.drive c.store_answer.result c.store_answer.ensures.puts c.store_answer.ensures.counted c.store_answer.ensures.refused
-      c.store_answer.ensures.onward
+    c.store_answer.ensures.onward
     c.in_default.field-0 c.in_default.is
 
 pub invariant_of-self-2 : goal.invariant_of-self-2
@@ -87,5 +87,5 @@ returns g c =
     c.next_card-card.result c.next_card-card.ensures c.on_hand-before.result
     (c.on_hand-before.ensures.value ∙ ap (nth c.self.inside.ledger.cards) c.item.ensures.value)
     c.store_answer.new.drive c.store_answer.result c.store_answer.ensures.puts c.store_answer.ensures.counted c.store_answer.ensures.refused
-      c.store_answer.ensures.onward
+    c.store_answer.ensures.onward
     c.in-Ok.field-0 c.in-Ok.is
