@@ -1,10 +1,10 @@
 -- What the changes leave of the first closed relative file of a name.
-use Rattle.std.proofs.Common.{◌≡◌, ◌∙◌, ◌++◌, ◌∷◌, ℕ, Bool, false, List, [], Some, ap, arith, drop, inl, inr, length, map, option_map, refl, slice_get, subst, suc, sym, take}
-use Rattle.std.specs.Prelude.{Contains, codes, filter, flat_map}
+use Rattle.std.proofs.Common.{◌≡◌, ◌≢◌, ◌≤◌, ◌+◌, ◌-◌, ◌∙◌, ◌++◌, ◌∷◌, ℕ, Bool, false, List, [], Some, ap, append_assoc, length-append, arith, drop, inl, inr, length, map, option_map, refl, slice_get, subst, suc, sym, take}
+use Rattle.std.specs.Prelude.{Contains, codes, filter, flat_map, replicate, slice_range}
 use Rattle.std.proofs.lemmas.Bool.{cases_lt, false≢true}
-use Rattle.std.proofs.lemmas.List.{map-append}
+use Rattle.std.proofs.lemmas.List.{drop_at, length-drop, length-replicate, length-take, length-take-le, map-append, set_split, take_at}
 use Rattle.std.proofs.lemmas.Option.{same_Some, slice_get-map}
-use Rattle.std.proofs.lemmas.List.Elements.{Contains-append_left, filter-append}
+use Rattle.std.proofs.lemmas.List.Elements.{Contains-append_left, Contains-append_right, filter-append}
 use Rattle.d64_image.specs.History.{History}
 use Rattle.d64_image.specs.Images.{Image, sector}
 use Rattle.d64_image.specs.Offsets.{overwritten}
@@ -17,14 +17,17 @@ use Rattle.disk_changes.specs.Changes.{IsChanged, IsDone}
 use Rattle.disk_changes.specs.Deletes.{IsDeleted}
 use Rattle.disk_changes.specs.Makes.{IsMade}
 use Rattle.disk_changes.specs.Puts.{IsPut}
+use Rattle.disk_changes.specs.Renames.{IsRenamed}
 use Rattle.disk_changes.specs.Repairs.{IsRepaired}
 use Rattle.disk_changes.specs.ShopFiles.{HasShopFile, IsRelativeOf, IsShopSlot}
+use Rattle.disk_changes.specs.Stores.{IsStored}
 use Rattle.disk_changes.specs.Titles.{IsTitled}
 use Rattle.disk_changes.specs.declared.changes.Change.{Change}
 use Rattle.disk_changes.specs.declared.changes.Change.TheVariants as changes
 use Rattle.disk_changes.specs.declared.changes.Changed.{Changed}
 use Rattle.disk_layout.proofs.lemmas.chains.Chains.{AgreeAt}
 use Rattle.disk_layout.proofs.lemmas.layouts.Agree.{IsLayout-put_map, map-unowned, owned-block, stays-agree}
+use Rattle.disk_layout.proofs.lemmas.layouts.Exact.{get-lt}
 use Rattle.disk_layout.proofs.lemmas.layouts.Frames.{unless-same}
 use Rattle.disk_layout.proofs.lemmas.layouts.Layouts.{IsLayout-one, get-contains}
 use Rattle.disk_layout.proofs.lemmas.lists.Once.{Contains-cases, Contains-here, Contains-there, flat_map-in}
@@ -34,12 +37,14 @@ use Rattle.disk_layout.specs.Records.{records}
 use Rattle.disk_layout.specs.Rest.{IsFirst, IsNamed, slot_name}
 use Rattle.disk_layout.specs.Same.{AddsFile, Stays, stays_of}
 use Rattle.disk_layout.specs.declared.slot.Slot.{Slot}
+use Rattle.file_changes.proofs.Renamed.{length-name}
 use Rattle.file_changes.proofs.Reslotted.{split, unowned}
 use Rattle.file_changes.specs.Deletes.{HasLost}
-use Rattle.file_changes.specs.Entries.{IsFirstNamed, entries_of, without_file}
+use Rattle.file_changes.specs.Entries.{IsFirstNamed, entries_of, renamed, with_file, without_file}
 use Rattle.file_changes.specs.Puts.{type_number}
 use Rattle.file_changes.specs.declared.file_type.FileType.{FileType}
 use Rattle.file_changes.specs.declared.file_type.FileType.TheVariants.{Prg, Seq, Usr}
+use Rattle.host_session.proofs.lemmas.writing.SameEntries.{first-kept as still-first, records-same}
 use Rattle.host_session.proofs.lemmas.writing.Mended.{on-repair, stay-length, stay-records}
 use Rattle.host_session.proofs.lemmas.shop.Shops.{IsShop-one}
 use Rattle.host_session.specs.shop.Shop.{IsShop, Shop}
@@ -259,10 +264,122 @@ module _ (image name : List ℕ) (cut : Loss) (made : Changed) (x : IsDeleted im
   delete-keeps = kept-shop a c l m sound lost.without.layout (keeps (codes "STOCK") 18 (λ s is. inl is))
       (keeps (codes "REQUESTS") 127 (λ s is. inr is))
 
+-- the name in an entry that was written over
+name-now : (bytes ys : List ℕ) → 5 ≤ length bytes → length ys ≡ 16 → slice_range (overwritten bytes 5 ys) 5 21 ≡ ys
+name-now bytes ys long size =
+    ap (λ (zs : List ℕ). take 16 (drop 5 zs)) (append_assoc (take 5 bytes) ys (drop (5 + length ys) bytes))
+    ∙ ap (take 16) (drop_at (take 5 bytes) (ys ++ drop (5 + length ys) bytes) 5 (length-take-le 5 bytes long))
+    ∙ take_at ys (drop (5 + length ys) bytes) 16 size
+
+-- an entry with a padded name is long enough for one
+entry-long : (bytes from : List ℕ) → slice_range bytes 5 21 ≡ slot_name from → 5 ≤ length bytes
+entry-long bytes from e =
+    let size : length (take 16 (drop 5 bytes)) ≡ length from + (16 - length from) = ap length e
+    ∙ length-append from (replicate (16 - length from) 160)
+    ∙ ap (λ (n : ℕ). length from + n) (length-replicate {A = ℕ} (16 - length from) 160) in
+    omega (arith, size, length-take 16 (drop 5 bytes), length-drop 5 bytes)
+
+-- a file with another name
+module _ (image from to : List ℕ) (few : length to ≤ 16) (made : Changed) (x : IsRenamed image from to made) where
+  abbrev old-image : Image
+  old-image = sectors_in image
+
+  abbrev new-image : Image
+  new-image = disk_image made.disk
+
+  abbrev old-layout : Layout
+  old-layout = x.before.layout
+
+  abbrev one : File
+  one = x.after.file
+
+  abbrev now : File
+  now = renamed x.after.file to
+
+  abbrev new-layout : Layout
+  new-layout = with_file x.before.layout x.after.number (renamed x.after.file to)
+
+  abbrev those-before : List File
+  those-before = take x.after.number x.before.layout.files
+
+  abbrev those-behind : List File
+  those-behind = drop (suc x.after.number) x.before.layout.files
+
+  split-old : old-layout.files ≡ those-before ++ one ∷ those-behind
+  split-old = split old-image old-layout x.after.number one x.before.sound x.after.of.file
+
+  split-new : new-layout.files ≡ those-before ++ now ∷ those-behind
+  split-new = set_split old-layout.files x.after.number now
+      (get-lt old-layout.files x.after.number one x.after.of.file)
+
+  kept-at : (g : File) → Contains (those-before ++ those-behind) g → AgreeAt old-image new-image g.blocks
+  kept-at g own p there = sym (x.after.done.files g p
+      (subst (λ (fs : List File). Contains fs g) (sym split-old) (with-one g those-before one those-behind own))
+      (Contains-append_left g.blocks g.sides p there))
+
+  stays-new : map (stays_of new-image) new-layout.files ≡ map (stays_of old-image) those-before
+      ++ stays_of new-image now ∷ map (stays_of old-image) those-behind
+  stays-new = ap (map (stays_of new-image)) split-new
+      ∙ map-append (stays_of new-image) those-before (now ∷ those-behind)
+      ∙ ap (λ (ss : List Stays). ss ++ stays_of new-image now ∷ map (stays_of new-image) those-behind)
+      (stays-all old-image new-image those-before (λ g own. kept-at g (Contains-append_left those-before those-behind g own)))
+      ∙ ap (λ (ss : List Stays). map (stays_of old-image) those-before ++ stays_of new-image now ∷ ss)
+      (stays-all old-image new-image those-behind (λ g own. kept-at g (Contains-append_right those-before those-behind g own)))
+
+  stays-old : map (stays_of old-image) old-layout.files ≡ map (stays_of old-image) those-before
+      ++ stays_of old-image one ∷ map (stays_of old-image) those-behind
+  stays-old = ap (map (stays_of old-image)) split-old ∙ map-append (stays_of old-image) those-before (one ∷ those-behind)
+
+  -- its new name
+  is-named : slice_range now.slot.bytes 5 21 ≡ slot_name to
+  is-named = name-now one.slot.bytes (slot_name to) (entry-long one.slot.bytes from x.after.of.first.named)
+      (length-name to few)
+
+  kept-files : (of : List ℕ) (L : ℕ) → ((s : Slot) → IsRelativeOf of L s → IsShopSlot s)
+      → KeepsRecords old-image new-image old-layout new-layout of L
+  kept-files of L shops n f first long =
+      let was = not-of old-image of one (not-shops image from old-layout x.before.size x.before.sound x.other x.after.number
+      one x.after.of.file x.after.of.first of L shops n f first long) in
+      let is = not-of new-image of now (λ named. x.after.of.free n f.slot
+      (slice_get-map (λ (y : File). y.slot) old-layout.files n ∙ ap (option_map (λ (y : File). y.slot)) first.file)
+      (first.named.1 ∙ sym named.1 ∙ is-named)) in
+      let xs = map (stays_of old-image) those-before in
+      let ys = map (stays_of old-image) those-behind in
+      records-kept old-image new-image old-layout new-layout of L n f (ap (filter (is_of of)) stays-new
+      ∙ one-more (is_of of) xs ys (stays_of new-image now) is
+      ∙ sym (one-more (is_of of) xs ys (stays_of old-image one) was) ∙ sym (ap (filter (is_of of)) stays-old)) first long
+
+  pub rename-keeps : KeepsShops (sectors_in image) (disk_image made.disk)
+  rename-keeps = kept-shop old-image new-image old-layout new-layout x.before.sound x.after.done.layout
+      (kept-files (codes "STOCK") 18 (λ s is. inl is)) (kept-files (codes "REQUESTS") 127 (λ s is. inr is))
+
+-- records stored in a file of another name
+pub store-keeps : (image name given : List ℕ) (cut : Loss) (made : Changed) → IsStored image name given cut made
+    → slot_name name ≢ slot_name (codes "STOCK") → slot_name name ≢ slot_name (codes "REQUESTS")
+    → KeepsShops (sectors_in image) (disk_image made.disk)
+store-keeps image name given cut made x no-stock no-requests =
+    kept-shop (sectors_in image) (disk_image made.disk) x.before.layout x.has.layout x.before.usable.clean.layout
+    x.has.is_layout (keeps (codes "STOCK") 18 no-stock) (keeps (codes "REQUESTS") 127 no-requests)
+  where
+    keeps : (of : List ℕ) (L : ℕ) → slot_name name ≢ slot_name of
+        → KeepsRecords (sectors_in image) (disk_image made.disk) x.before.layout x.has.layout of L
+    keeps of L ne n f first long =
+        let o = x.has.others in
+        let away : n ≢ x.number = λ e. ne (sym x.first.named.1
+        ∙ ap (λ (g : File). slice_range g.slot.bytes 5 21) (same_Some x.file f (sym x.first.file
+        ∙ ap (slice_get x.before.layout.files) (sym e) ∙ first.file))
+        ∙ first.named.1) in (
+          n,
+          f,
+          still-first x.before.layout x.has.layout of n f f o.entries first (o.files n f away first.file),
+          long,
+          records-same (sectors_in image) (disk_image made.disk) f (o.bytes n f away first.file),
+        )
+
 -- What comes of a change that is joined.
 joined-keeps : (what : Change) (image : List ℕ) (made : Changed) → IsJoined what → IsDone what image made
     → KeepsShops (sectors_in image) (disk_image made.disk)
-joined-keeps (changes.Rename from to) image made joined done = absurd joined
+joined-keeps (changes.Rename from to) image made joined done = rename-keeps image from.now to.now joined made done
 joined-keeps (changes.Title id name) image made joined done = title-keeps image name.now id made done
 joined-keeps (changes.Lock lock name) image made joined done = absurd joined
 joined-keeps (changes.Delete name cut) image made joined done = delete-keeps image name.now cut made done
@@ -272,7 +389,8 @@ joined-keeps (changes.Put name kind content cut) image made joined done =
     put-keeps image name.now kind content.now cut made done
 joined-keeps (changes.CopyFile source name to cut) image made joined done = absurd joined
 joined-keeps (changes.Make name L cut) image made joined done = make-keeps image name.now L cut made done
-joined-keeps (changes.Store name text cut) image made joined done = absurd joined
+joined-keeps (changes.Store name text cut) image made joined done =
+    store-keeps image name.now text.now cut made done joined.0 joined.1
 joined-keeps (changes.Repair free cut) image made joined done = repair-keeps image free made
     (subst (λ (x : Loss). IsRepaired image free x made) joined done)
 joined-keeps (changes.Rebuild free cut) image made joined done = absurd joined
