@@ -14,6 +14,6 @@ for unit in "$top"/shop/deploy/ledger-*.service; do
     told="$told, $(basename "$unit" @.service) $level"
     count=$((count + 1))
 done
-[ "$count" = 5 ] || { echo "sandbox: $count units, not 5" >&2; exit 1; }
+[ "$count" = 6 ] || { echo "sandbox: $count units, not 6" >&2; exit 1; }
 echo "sandbox: $count units, exposure${told#,}; at most 3.0"
 echo "$count passed, 0 failed"
