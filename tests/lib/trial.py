@@ -7,8 +7,10 @@ tests/trials.toml. The last line is `N passed, M failed`, perhaps with `, K left
 prints the smallest command known that shows it again."""
 
 import argparse
+import re
 import shutil
 import signal
+import subprocess
 import sys
 import tomllib
 import traceback
@@ -18,6 +20,8 @@ from pathlib import Path
 TESTS = Path(__file__).resolve().parents[1]
 TOP = TESTS.parent
 AMOUNTS = ("short", "ordinary", "long")
+# the last line of a trial
+COUNTS = re.compile(r"(\d+) passed, (\d+) failed(?:, (\d+) left out)?")
 
 
 class LeftOut(Exception):
@@ -39,6 +43,15 @@ def at(amount: int) -> None:
 def passed(count: int = 1) -> None:
     """Counts what was tried and was as it has to be."""
     _Round.passed += count
+
+
+def counts_of(done: subprocess.CompletedProcess) -> tuple[int, int]:
+    """Passes on what a run of a trial printed, and gives how many things passed and failed in it."""
+    lines = done.stdout.splitlines()
+    found = COUNTS.fullmatch(lines[-1]) if lines else None
+    print(*(lines[:-1] if found else lines), sep="\n")
+    passed_there, failed_there = (int(found[1]), int(found[2])) if found else (0, 0)
+    return passed_there, failed_there or int(done.returncode != 0 or not found)
 
 
 def need(*tools: str) -> None:
@@ -120,8 +133,9 @@ def conduct(main: Callable, more: Callable[[argparse.ArgumentParser], object] | 
         counts, left_out = (0, 0), ", 1 left out"
         print(f"left out: {error}")
     except SystemExit as end:
-        print(end.code if isinstance(end.code, str) else f"ended with status {end.code}", file=sys.stderr)
-        counts = (_Round.passed, 1)
+        if end.code:
+            print(end.code if isinstance(end.code, str) else f"ended with status {end.code}", file=sys.stderr)
+        counts = (_Round.passed, 1 if end.code else 0)
     except Exception:
         traceback.print_exc()
         counts = (_Round.passed, 1)

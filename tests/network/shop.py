@@ -31,7 +31,7 @@ from shop_paths import PYTHON, command
 from shop_rule import Shop, request_of
 from shop_scene import until
 from tills import Supervised, ended, requests_in, wishes_of
-from trial import conduct
+from trial import conduct, counts_of
 
 from ledger_shop import journal
 
@@ -179,7 +179,7 @@ def main(given):
         names = json.dumps([nets.here, nets.there])
         try:
             words = ["ip", "netns", "exec", nets.here, PYTHON, __file__, *sys.argv[1:], "--seed", str(given.seed)]
-            sys.exit(subprocess.run(words, env={**os.environ, "SHOP_NETS": names}).returncode)
+            return counts_of(subprocess.run(words, env={**os.environ, "SHOP_NETS": names}, stdout=subprocess.PIPE, text=True))
         finally:
             nets.remove()
     nets = Nets.__new__(Nets)
