@@ -45,6 +45,13 @@ def passed(count: int = 1) -> None:
     _Round.passed += count
 
 
+def check(holds: object, what: str) -> None:
+    """Counts what is as it has to be; otherwise the trial ends."""
+    if not holds:
+        sys.exit(f"{Path(sys.argv[0]).name}: {what}")
+    passed()
+
+
 def counts_of(done: subprocess.CompletedProcess) -> tuple[int, int]:
     """Passes on what a run of a trial printed, and gives how many things passed and failed in it."""
     lines = done.stdout.splitlines()

@@ -20,21 +20,14 @@ from pathlib import Path
 
 sys.dont_write_bytecode = True
 sys.path.insert(0, str(Path(__file__).resolve().parents[1] / "lib"))
-from served import run, want
+from served import run
 from shop_paths import DEPLOY
-from trial import conduct
+from trial import check, conduct
 
 MAKE = DEPLOY / "make_certificate.sh"
 # the host, where it is reached, and a host that it isn't
 HOSTS = [("shop.example", "127.0.0.1", "other.example"), ("127.0.0.2", "127.0.0.2", "127.0.0.3"), ("::1", "::1", "127.0.0.2")]
 BAD = ["10.300.0.1", "-x", "a b", "fe80::zz", "", "shop.example/", "1.2.3"]
-checks = 0
-
-
-def check(holds, what):
-    global checks
-    checks += 1
-    want(holds, what)
 
 
 def made(folder, host, status=0):
@@ -143,8 +136,7 @@ def main(given):
         again(Path(name) / "0", HOSTS[0][0])
         for host in BAD:
             made(Path(name) / "bad", host, 1 if host else 2)
-    print(f"certificates: {len(HOSTS)} hosts by curl, openssl and Chromium, {len(BAD)} that are none, {checks} checks; no difference")
-    return checks
+    print(f"certificates: {len(HOSTS)} hosts by curl, openssl and Chromium, {len(BAD)} that are none: no difference")
 
 
 if __name__ == "__main__":

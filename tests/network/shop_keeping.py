@@ -20,14 +20,13 @@ from pathlib import Path
 
 sys.dont_write_bytecode = True
 sys.path.insert(0, str(Path(__file__).resolve().parents[1] / "lib"))
-import shop_papers
 import shop_scene as scene
 from served import run, sure, want
-from shop_papers import check, tool
+from shop_papers import tool
 from shop_paths import command
 from shop_rule import Shop
 from shop_scene import until
-from trial import conduct
+from trial import check, conduct
 
 
 class Bridge:
@@ -289,8 +288,6 @@ def main(given):
             room.mkdir()
         restores(program, rooms[0], *backups(program, rooms[0]))
         watched(program, rooms[1])
-    print(f"shop_keeping: {shop_papers.checks} checks of backups, restores and figures; no difference")
-    return shop_papers.checks
 
 
 if __name__ == "__main__":

@@ -13,18 +13,11 @@ from pathlib import Path
 
 sys.dont_write_bytecode = True
 sys.path.insert(0, str(Path(__file__).resolve().parents[1] / "lib"))
-from served import run, want
+from served import run
 from shop_paths import command
-from trial import conduct
+from trial import check, conduct
 
 MARKUP = '<img src=x onerror="alert(1)">'
-checks = 0
-
-
-def check(holds, what):
-    global checks
-    checks += 1
-    want(holds, what)
 
 
 def tool(name, *words, status=0, **more):
@@ -189,8 +182,6 @@ def main(given):
         without_cards(folder, listed)
         first_stock(folder)
         reports(folder, listed)
-    print(f"shop_papers: {checks} checks of goods, imports, reports and journals; no difference")
-    return checks
 
 
 if __name__ == "__main__":
