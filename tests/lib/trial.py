@@ -72,8 +72,13 @@ def entries() -> dict[str, dict]:
     """The trials of the table, by their names."""
     with open(TESTS / "trials.toml", "rb") as file:
         groups = tomllib.load(file)
-    return {name: {"group": group, "file": f"{group}/{name}.py", **it}
-            for group, trials in groups.items() for name, it in trials.items() if isinstance(it, dict)}
+    found = {}
+    for group, trials in groups.items():
+        for name, it in trials.items():
+            if name in found:
+                raise ValueError(f"tests/trials.toml has two trials {name}")
+            found[name] = {"group": group, "file": f"{group}/{name}.py", **it}
+    return found
 
 
 def entry_of(script: Path) -> dict:
@@ -147,6 +152,9 @@ def conduct(main: Callable, more: Callable[[argparse.ArgumentParser], object] | 
         traceback.print_exc()
         counts = (_Round.passed, 1)
     sys.stdout.flush()
+    if counts == (0, 0) and not left_out:
+        print("nothing was tried", file=sys.stderr)
+        counts = (0, 1)
     if counts[1]:
         print(f"again: {again(script, given)}", file=sys.stderr, flush=True)
     print(f"{counts[0]} passed, {counts[1]} failed{left_out}", flush=True)
