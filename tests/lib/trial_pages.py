@@ -32,7 +32,7 @@ INTRODUCTION = """# Trials
 
 Trials that this machine can't run are left out by name, with the reason. `--program PATH` names another program than the one that was built or released here, and `--limit MINUTES` ends a trial that takes longer. Each trial runs in a temporary folder of its own. What it prints is kept if it fails, together with the folder. The last line is `N passed, M failed, K left out`, and the status is 0 only if nothing failed. `--record` keeps a line for each trial in [RECORD](RECORD), from which `./trials --tables` makes the table of [TRIALS](../docs/TRIALS.md).
 
-Each script can be run by itself as well, in the same words: `tests/power/kill.py PROGRAM [--seed N] [--amount short|ordinary|long|N]`. If it fails, it prints the smallest command known that shows the failure again. [lib/trial.py](lib/trial.py) has these words and the last line for all of them; the other modules of `lib` are used by several folders.
+Each script can be run by itself as well, in the same words: `tests/power/kill.py PROGRAM [--seed N] [--amount short|ordinary|long|N]`. If it fails, it prints the smallest command known that shows the failure again. The words and the last line are those of [lib/trial.py](lib/trial.py); the other modules of `lib` are used by several folders.
 
 We don't use pytest here. A trial is one long process with a seed that counts what it tried, often as root or in a container, and some are shell scripts. So of what pytest has we would use a time limit and a selection, and the gate has to go on working with python3 alone. The shop's Python package has unit tests, and pytest runs those (`network/package_tests`).
 
