@@ -268,12 +268,15 @@ def silent(shop):
 
 
 def over_pipes(program, folder):
-    """A till and a bridge over pipes, without a broker: its three wishes are answered."""
+    """A till and a bridge over pipes, without a broker: its three wishes are answered, and the status says that one of them was refused."""
     (folder / "three").write_text("S,1,10\nI,1,3\nI,1,8\n")
     sure(program, "format", folder / "pipes.d64", "--tills", 4)
     bridge = shlex.join(map(str, [*command("bridge", folder / "pipes.d64"), "--pipes", "--program", program]))
-    told = sure(*command("till", 2, "--book", folder / "pipes.book", "--wishes", folder / "three", "--pipe", bridge))
+    words = command("till", 2, "--book", folder / "pipes.book", "--wishes", folder / "three", "--pipe", bridge)
+    done = subprocess.run([*map(str, words)], capture_output=True, text=True, timeout=60)
+    told = done.stdout.splitlines()
     want(told == ["1 S,1,10 DONE,10", "2 I,1,3 DONE,7", "3 I,1,8 SHORT,7"], f"over pipes: {told}")
+    want(done.returncode == 3, f"over pipes: status {done.returncode}, though a wish was refused")
     return 3
 
 
