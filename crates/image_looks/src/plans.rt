@@ -66,6 +66,16 @@ fn print_quoted_chars<W: Write>(out: &mut W, name: &[u8]) -> io::Result<()>
     Ok(())
 }
 
+/// Writes a name between single quotation marks.
+fn print_quoted<W: Write>(out: &mut W, name: &[u8]) -> io::Result<()>
+    ensures { OnOk result (Appends (W.contents out.old) (W.contents out.new)
+        (codes "'" ++ (flat_map quoted_char name.now ++ codes "'"))) }
+{
+    out.write_all(b"'")?;
+    print_quoted_chars(out, name)?;
+    out.write_all(b"'")
+}
+
 /// Writes a name, between quotation marks if a byte of it doesn't stand for itself.
 fn print_quoted_name<W: Write>(out: &mut W, name: &[u8]) -> io::Result<()>
     ensures { OnOk result (Appends (W.contents out.old) (W.contents out.new) (quoted_name name.now)) }
@@ -73,9 +83,7 @@ fn print_quoted_name<W: Write>(out: &mut W, name: &[u8]) -> io::Result<()>
     if is_plain_name(name) {
         return out.write_all(name);
     }
-    out.write_all(b"'")?;
-    print_quoted_chars(out, name)?;
-    out.write_all(b"'")
+    print_quoted(out, name)
 }
 
 /// Writes the word that a shell reads as the name of this file.
