@@ -6,4 +6,5 @@ pub mod LookRuns
 pub mod Looks
 pub mod NewFolders
 pub mod Overviews
+pub mod Plans
 pub mod SheetPages

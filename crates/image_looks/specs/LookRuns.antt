@@ -6,10 +6,9 @@ use Rattle.image_file.specs.paths.Rights.{Rights}
 use Rattle.image_file.specs.paths.Standing.{Stands}
 use Rattle.image_file.specs.paths.Traces.{Traces}
 use Rattle.image_looks.specs.Comparisons.{IsComparingRun}
-use Rattle.disk_reports.specs.Descriptions.{heading_text}
-use Rattle.disk_reports.specs.declared.describing.DescriptionForm.{DescriptionForm}
+use Rattle.image_looks.specs.declared.descriptions.ImageForm.{ImageForm}
 use Rattle.std.specs.Io.KnownBytes.{Appends}
-use Rattle.image_looks.specs.Descriptions.{IsDescribedFrom}
+use Rattle.image_looks.specs.Descriptions.{IsDescribedFrom, heading_of}
 use Rattle.image_looks.specs.EachImage.{AreHandedOn, IsSeveralEnd, IsReadAt}
 use Rattle.opened_files.specs.Ends.{JobEnd}
 use Rattle.image_looks.specs.Extracts.{IsExtractedTo}
@@ -37,9 +36,9 @@ module _ {H W : Type 0} (rights : Rights H) (stands : H → List ℕ → Stands)
       IsSeveralEnd (IsSheetPrinted (IsReadAt rights stands host) contents paths old new) end
 
   -- each of them was described in this form, after its heading
-  abbrev pub AreDescribed : DescriptionForm → List (List ℕ) → W → W → JobEnd → Type 0
+  abbrev pub AreDescribed : ImageForm → List (List ℕ) → W → W → JobEnd → Type 0
   AreDescribed form paths old new end = IsSeveralEnd (λ greatest. (below : W)
-      × Appends (contents old) (contents below) (heading_text form)
+      × Appends (contents old) (contents below) (heading_of form)
       × AreHandedOn (IsReadAt rights stands host) (IsDescribedFrom contents form) contents paths below new greatest) end
 
   -- what is asked of each of them was printed after a name
