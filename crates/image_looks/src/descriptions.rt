@@ -12,7 +12,7 @@ use command_faults::CommandFault;
 use disk_layout::Fault;
 use disk_reports::{DescriptionForm, describe_image, describe_refusal, heading};
 use image_file::{HostFiles, Locks};
-use opened_files::size_of;
+use opened_files::{Extent, size_of};
 use std::fs::OpenFile;
 use std::io::{Read, Write};
 
@@ -139,6 +139,6 @@ where
     ensures { AreDescribed R.rights R.stands W.contents rt.now form (map (λ path. path.now) paths.now) out.old out.new result }
 {
     print_heading(form, out)?;
-    let greatest = print_each(rt, &Described(form), paths, out)?;
+    let greatest = print_each(rt, &Described(form), Extent::Disk, paths, out)?;
     several_end(greatest, out)
 }
