@@ -17,7 +17,8 @@ from pathlib import Path
 
 import pika
 
-sys.path.insert(0, str(Path(__file__).resolve().parent.parent / "tests"))
+for part in ("lib", "network"):
+    sys.path.insert(0, str(Path(__file__).resolve().parent.parent / "tests" / part))
 
 import brokers
 from shop_paths import command

@@ -8,7 +8,7 @@ from pathlib import Path
 import pytest
 
 TOP = Path(__file__).resolve().parent.parent.parent
-sys.path.append(str(TOP / "tests"))
+sys.path += [str(TOP / "tests" / folder) for folder in ("lib", "network")]
 
 
 @pytest.fixture(scope="session")

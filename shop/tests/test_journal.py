@@ -1,4 +1,4 @@
-"""A journal that a power cut tore, or that was damaged. tests/kept_lines.py and tests/shop_power.py try many more."""
+"""A journal that a power cut tore, or that was damaged. tests/network/kept_lines.py and tests/power/shop_power.py try many more."""
 
 import re
 import subprocess

@@ -1,7 +1,8 @@
 #!/bin/sh
 # Reads the images that `format` makes with two programs that others wrote (Debian's packages cc1541 and cbmconvert):
 # cc1541 has to list each as `list` does, case aside, and leave it as it is; cbmconvert has to extract both relative
-# files with their names, record lengths and bytes. Not part of the gate. Run it from anywhere.
+# files with their names, record lengths and bytes.
+#   tests/peers/blank_images.sh PROGRAM
 . "$(dirname "$0")/common.sh"
 
 # a directory listing as plain capitals with single spaces: `2 "STOCK" REL`
@@ -18,9 +19,9 @@ empty_records() {
 
 for tills in 1 2 3 63 64; do
     image="disk$tills.d64"
-    "$top/ledger" format "$image" --tills "$tills" >/dev/null
+    "$program" format "$image" --tills "$tills" >/dev/null
     cp "$image" before.d64
-    "$top/ledger" list "$image" | plain >ours
+    "$program" list "$image" | plain >ours
     cc1541 "$image" | plain >theirs
     cmp "$image" before.d64 || { echo "cc1541 changed the image of $tills tills"; exit 1; }
     diff ours theirs || { echo "the listings of $tills tills differ"; exit 1; }
@@ -32,3 +33,4 @@ for tills in 1 2 3 63 64; do
     empty_records 127 "$records" | cmp - files/requests.l7F
     echo "$tills tills: the listings agree, both files are extracted as they are"
 done
+echo "5 passed, 0 failed"

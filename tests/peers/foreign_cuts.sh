@@ -1,10 +1,10 @@
 #!/bin/sh
 # Plays a day on disks that other programs made (Debian's packages cc1541 and cbmconvert), opens each image that they held
-# on the way, and each image of those openings, two deep: `tests/every_cut.py` over an image of someone else's. The shop's
+# on the way, and each image of those openings, two deep: `tests/power/every_cut.py` over an image of someone else's. The shop's
 # files stand behind and between others there, in other sectors, in the other order in the directory, with a last
-# block that isn't full, and on a disk with little room. Not part of the gate. Run it from anywhere.
+# block that isn't full, and on a disk with little room.
+#   tests/peers/foreign_cuts.sh PROGRAM
 . "$(dirname "$0")/common.sh"
-program="$("$top/tools/program")"
 
 # an empty record of this length, so many times
 empty_records() {
@@ -18,7 +18,7 @@ played() {
     shift
     cp "$image" before.d64
     for seed in 1 2 3; do
-        "$top/tests/every_cut.py" "$program" 200 "$seed" "$1" "$image" >said || { echo "$image, seed $seed:"; cat said; exit 1; }
+        "$top/tests/power/every_cut.py" "$program" --messages 200 --seed "$seed" --items "$1" --image "$image" >said || { echo "$image, seed $seed:"; cat said; exit 1; }
         cmp "$image" before.d64
         echo "$image, seed $seed: $(tr '\n' ',' <said | sed -e 's/,$//' -e 's/,/, /g')"
     done
@@ -50,3 +50,4 @@ head -c 76200 /dev/zero | tr '\0' 'z' >large.l7F
 cc1541 -q -n shop -f first -w data -f second -w data narrow.d64 >/dev/null
 cbmconvert -v0 -n -D4 narrow.d64 large.l7F stock.l12 middle.l10 requests.l7F
 played narrow.d64 900
+echo "12 passed, 0 failed"

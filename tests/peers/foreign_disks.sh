@@ -2,7 +2,8 @@
 # What `check` says of disks that other programs made (Debian's packages cc1541 and cbmconvert), and why.
 # The disks: closed, locked and open entries, separators, a file listed twice, a relative entry without side sectors,
 # an entry scratched by clearing its type alone, and relative files of one and of several hundred blocks.
-# Not part of the gate. Run it from anywhere.
+#
+#   tests/peers/foreign_disks.sh PROGRAM
 . "$(dirname "$0")/common.sh"
 
 # expect IMAGE WORD..: `check` prints one of these words
@@ -10,7 +11,7 @@ expect() {
     image=$1
     shift
     cp "$image" before.d64
-    said=$("$top/ledger" check "$image" || true)
+    said=$("$program" check "$image" || true)
     cmp "$image" before.d64
     for word in "$@"; do
         [ "$said" = "$word" ] && { echo "$image: $said"; return 0; }
@@ -69,3 +70,4 @@ head -c 33016 /dev/zero | tr '\0' 'y' >middle.l10
 head -c 76200 /dev/zero | tr '\0' 'z' >large.l7F
 cbmconvert -v0 -n -D4o records.d64 small.l0A middle.l10 large.l7F
 expect records.d64 OK
+echo "10 passed, 0 failed"

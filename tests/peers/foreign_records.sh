@@ -2,10 +2,10 @@
 # Reads relative files that another program made (Debian's package cbmconvert), record by record: each record holds its own
 # number, in as many digits as it has bytes, and `ledger records` has to print them all in their order. The files: one
 # block; exactly one block; records that lie in two blocks; record lengths 1, 2 and 254; two side sectors, and six; a last
-# record that is cut, which is none. Not part of the gate. Run it from anywhere.
+# record that is cut, which is none.
+#   tests/peers/foreign_records.sh PROGRAM
 . "$(dirname "$0")/common.sh"
 
-program="$("$top/tools/program")"
 
 # numbers LENGTH COUNT: so many lines, each its own number, the last digits of it in LENGTH places
 numbers() {
@@ -41,3 +41,4 @@ same 254 130 0
 same 16 2064 7
 same 18 9256 0
 same 127 1306 100
+echo "11 passed, 0 failed"

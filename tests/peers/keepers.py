@@ -1,13 +1,26 @@
 #!/usr/bin/env python3
-"""What keepers.sh beside it asks of the program and of cc1541 and cbmconvert: keepers.py PROGRAM [SEED]"""
+"""What keepers do, with disks and files that two other programs made and read (Debian's packages cc1541 and cbmconvert):
 
+    tests/peers/keepers.py PROGRAM [--seed N]
+
+- relative files of cbmconvert, of each record length from 1 to 254 and of a whole disk, are taken out by `records`, put
+  by `make` and `store` on a blank disk of cc1541, and taken out again by `records` and by cbmconvert;
+- files of all types that both made are taken out by `bytes` and by cbmconvert;
+- disks of both with wrong maps, block counts and side sectors are mended by `repair --free`, and read again by both;
+- names with any bytes are read from disks of cbmconvert, and written for it.
+What is wanted is made from the bytes that went in. Images lie in memory, if /dev/shm is there, since each change waits for the disk."""
+
+import os
 import random
 import subprocess
 import sys
+import tempfile
 from pathlib import Path
 
-sys.path.insert(0, str(Path(__file__).resolve().parent.parent))
+sys.dont_write_bytecode = True
+sys.path.insert(0, str(Path(__file__).resolve().parents[1] / "lib"))
 from record_disks import DATA, POINTERS, RELATIVE, Disk, empty, line_of, lines_of, sectors_of, split, text_of
+from trial import conduct, need
 
 TYPES = ["del", "seq", "prg", "usr", "rel"]
 # the blocks of a whole disk, its side sectors aside
@@ -389,10 +402,15 @@ class Keepers:
             self.odd([self.odd_name() for _ in range(self.draw.randint(1, 30))])
 
 
-def main():
-    if len(sys.argv) < 2:
-        sys.exit(__doc__)
-    keepers = Keepers(str(Path(sys.argv[1]).resolve()), random.Random(int(sys.argv[2]) if len(sys.argv) > 2 else 1541))
+def main(given):
+    need("cc1541", "cbmconvert")
+    with tempfile.TemporaryDirectory(dir="/dev/shm" if Path("/dev/shm").is_dir() else None) as folder:
+        os.chdir(folder)
+        return tried(given)
+
+
+def tried(given):
+    keepers = Keepers(given.program, random.Random(given.seed))
     keepers.relatives()
     keepers.any_bytes()
     for _ in range(MENDED_DISKS):
@@ -403,6 +421,8 @@ def main():
     print(f"keepers: {keepers.records} relative files with {keepers.lines} records out, in and out again; {keepers.bytes} "
           f"files by bytes; {keepers.mended} disks mended in {keepers.sectors} sectors, {keepers.refused} refused; "
           f"{keepers.names} names: no difference")
+    return keepers.records + keepers.bytes + keepers.mended + keepers.refused + keepers.names
 
 
-main()
+if __name__ == "__main__":
+    conduct(main)

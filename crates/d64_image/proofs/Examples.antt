@@ -146,6 +146,12 @@ module _ {D : Type 0} (S : History D) (old new : D) where
       (Err device_fault) → S.failed_at new p
   write_failed_there p bytes w = w.failed
 
+  -- a write that failed and left the sector as it was showed nothing else at any moment
+  pub nothing_shown_was_taken_back : (p : Place) (bytes : Sector) (c : Image) → WritesSector {T = Unit {0}} S old new p bytes
+      device_fault (Err device_fault) → S.image new ≡ S.image old → c ≢ S.image old → S.held new (S.moment old) c → ⊥
+  nothing_shown_was_taken_back p bytes c w back other held =
+      ⊎_elim other (λ e. other (e ∙ back)) (w.one_step.each c held)
+
 -- memory fails nowhere
 pub memory_fails_nowhere : (d : MemDisk) (p : Place) → ¬ (memory.failed_at d p)
 memory_fails_nowhere d p never = never

@@ -82,6 +82,9 @@ module _ {D : Type 0} (h : History D) (f g : Fuse D) (limit : fuse_limit g ≡ f
           held = held_above (OldOr old (put old p bytes)) fused_blown
               (subst (λ d. HeldOnly h (fuse_disk f) d (OldOr old (put old p bytes))) (sym disk)
               (start h (fuse_disk f) (OldOr old (put old p bytes)) (inl refl)));
+          one_step = held_above (OldOr old (h.image (fuse_disk g))) fused_blown
+              (subst (λ d. HeldOnly h (fuse_disk f) d (OldOr old (h.image (fuse_disk g)))) (sym disk)
+              (start h (fuse_disk f) (OldOr old (h.image (fuse_disk g))) (inl refl)));
           counted = tt;
           uncounted = passed;
           reads = ap h.reads disk;
@@ -118,19 +121,21 @@ module _ {D : Type 0} (h : History D) (f g : Fuse D) (limit : fuse_limit g ≡ f
         → WritesSector {D = Fuse D} {T = Unit {0}} {E = DeviceFault} (fuse h) f g p bytes device_fault (Ok tt)
     write_passed passed same x =
         let old = h.image (fuse_disk f) in
+        let fused : IsFused h f g = record {
+          limit = limit;
+          passed = grown (fuse_passed f) (fuse_passed g) passed;
+          beneath = x.held.reached;
+          failures = le_of_eq (sym x.failures);
+          writes = one_passed (h.writes (fuse_disk f)) (h.writes (fuse_disk g)) (fuse_passed f) (fuse_passed g)
+              x.counted passed;
+          spent = λ none. absurd (whole none);
+          cause = inl same;
+        } in
         record {
           ok = x.ok;
           err = tt;
-          held = held_above (OldOr old (put old p bytes)) (record {
-            limit = limit;
-            passed = grown (fuse_passed f) (fuse_passed g) passed;
-            beneath = x.held.reached;
-            failures = le_of_eq (sym x.failures);
-            writes = one_passed (h.writes (fuse_disk f)) (h.writes (fuse_disk g)) (fuse_passed f) (fuse_passed g)
-                x.counted passed;
-            spent = λ none. absurd (whole none);
-            cause = inl same;
-          }) x.held;
+          held = held_above (OldOr old (put old p bytes)) fused x.held;
+          one_step = held_above (OldOr old (h.image (fuse_disk g))) fused x.one_step;
           counted = le_of_eq passed;
           uncounted = tt;
           reads = x.reads;
@@ -167,19 +172,21 @@ module _ {D : Type 0} (h : History D) (f g : Fuse D) (limit : fuse_limit g ≡ f
           → WritesSector {D = Fuse D} {T = Unit {0}} {E = DeviceFault} (fuse h) f g p bytes device_fault (Err fault)
       write_failed x =
           let old = h.image (fuse_disk f) in
+          let fused : IsFused h f g = record {
+            limit = limit;
+            passed = le_of_eq (sym passed);
+            beneath = x.held.reached;
+            failures = x.failures.later;
+            writes = none_passed (h.writes (fuse_disk f)) (h.writes (fuse_disk g)) (fuse_passed f) (fuse_passed g)
+                x.uncounted passed;
+            spent = λ none. absurd (whole none);
+            cause = inr (inr x.failures);
+          } in
           record {
             ok = tt;
             err = x.err;
-            held = held_above (OldOr old (put old p bytes)) (record {
-              limit = limit;
-              passed = le_of_eq (sym passed);
-              beneath = x.held.reached;
-              failures = x.failures.later;
-              writes = none_passed (h.writes (fuse_disk f)) (h.writes (fuse_disk g)) (fuse_passed f) (fuse_passed g)
-                  x.uncounted passed;
-              spent = λ none. absurd (whole none);
-              cause = inr (inr x.failures);
-            }) x.held;
+            held = held_above (OldOr old (put old p bytes)) fused x.held;
+            one_step = held_above (OldOr old (h.image (fuse_disk g))) fused x.one_step;
             counted = tt;
             uncounted = passed;
             reads = x.reads;

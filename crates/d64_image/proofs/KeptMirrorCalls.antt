@@ -7,9 +7,9 @@ use Rattle.std.proofs.lemmas.Option.{none-some}
 use Rattle.std.specs.Prelude.{IsErr, IsOk, OnErr, OnOk}
 use Rattle.d64_image.specs.Calls.{ReadsSector, WritesSector}
 use Rattle.d64_image.specs.Faults.{device_fault}
-use Rattle.d64_image.specs.History.{HeldOnly, OldOr, OnlyReads}
+use Rattle.d64_image.specs.History.{ChangesInOneStep, HeldOnly, OldOr, OnlyReads}
 use Rattle.d64_image.specs.Images.{Image, Sector, put, sector}
-use Rattle.d64_image.specs.Keeps.{Agrees, FileFailed, KeepsSector, KeptOnly, kept_or, put_kept}
+use Rattle.d64_image.specs.Keeps.{Agrees, FileFailed, KeepsSector, KeptInOneStep, KeptOnly, kept_or, put_kept}
 use Rattle.d64_image.specs.Memory.{disk_image}
 use Rattle.d64_image.specs.KeptMirrors.{IsMirrored, is_broken, mirror, mirror_image, one_if, one_if-small}
 use Rattle.d64_image.specs.declared.faults.DeviceFault.{DeviceFault}
@@ -77,9 +77,27 @@ module _ {F : Type 0} {G : Ghosts F} (m : KeptMirror F G) (p : Place) (bytes : S
     ];
   }
 
+  -- what the file kept at the start or at the end, the mirror held then
+  kept_at : (n : KeptMirror F G) (c : Image) → (G.keeps.kept m.file ≡ Some c) ⊎ (G.keeps.kept n.file ≡ Some c)
+      → OldOr old (mirror_image n) c
+  kept_at n c (inl e) = inl (sym (ap (λ o. kept_or o (disk_image m.disk)) e))
+  kept_at n c (inr e) = inr (sym (ap (λ o. kept_or o (disk_image n.disk)) e))
+
+  one_step_above : (n : KeptMirror F G) → IsMirrored m n → KeptInOneStep G.keeps m.file n.file → ChangesInOneStep mirror m n
+  one_step_above n mirrored kept = record {
+    reached = mirrored;
+    later = kept.later;
+    each = λ c held. elim held [ inl e ↦ inr e | inr h ↦ kept_at n c (kept.each c h) ];
+    before = λ t c le held. elim held [
+      | inl e ↦ inr (inr e)
+      | inr h ↦ elim (kept.before t c le h) [ inl before ↦ inl (inr before) | inr k ↦ inr (kept_at n c k) ]
+    ];
+  }
+
   -- the file refused the sector, or the mirror was broken and handed nothing over
   pub record IsRefused (file : F) : Type 0 where
     pub kept : KeptOnly G.keeps m.file file IsKeptBy
+    pub one_step : KeptInOneStep G.keeps m.file file
     pub now : (G.keeps.kept file ≡ G.keeps.kept m.file) ⊎ (G.keeps.kept file ≡ put_kept (G.keeps.kept m.file) p bytes)
     pub failures : G.keeps.failures m.file ≤ G.keeps.failures file
     pub broken : is_broken m → file ≡ m.file
@@ -89,6 +107,12 @@ module _ {F : Type 0} {G : Ghosts F} (m : KeptMirror F G) (p : Place) (bytes : S
   pub refused-broken : is_broken m → IsRefused m.file
   refused-broken was = record {
     kept = record {
+      reached = G.keeps.reached_same m.file;
+      later = le_refl (G.keeps.moment m.file);
+      each = λ c held. inl (G.keeps.only_now m.file c held);
+      before = λ t c le held. inl held;
+    };
+    one_step = record {
       reached = G.keeps.reached_same m.file;
       later = le_refl (G.keeps.moment m.file);
       each = λ c held. inl (G.keeps.only_now m.file c held);
@@ -106,6 +130,7 @@ module _ {F : Type 0} {G : Ghosts F} (m : KeptMirror F G) (p : Place) (bytes : S
   refused-by_file file (Ok x) err whole keeps = absurd (false≢true err)
   refused-by_file file (Err e) err whole keeps = record {
     kept = keeps.held;
+    one_step = keeps.one_step;
     now = keeps.err;
     failures = keeps.failures.later;
     broken = λ was. absurd (false≢true (sym whole ∙ was));
@@ -119,20 +144,22 @@ module _ {F : Type 0} {G : Ghosts F} (m : KeptMirror F G) (p : Place) (bytes : S
       let now : Either (mirror_image n) = rw disk (kept_after p bytes (G.keeps.kept m.file) (G.keeps.kept n.file)
       (disk_image m.disk) refused.now) in
       let count = ap (λ t. t.n) taken in
+      let mirrored : IsMirrored m n = record {
+        file = refused.kept.reached;
+        failures = refused.failures;
+        broken = λ was. (broken, refused.broken was);
+        unfailed = λ whole. absurd (whole broken);
+        failed = λ _. refused.cause;
+        taken = le_of_eq (sym count);
+        counted = λ few. none_passed (G.keeps.writes m.file) (G.keeps.writes n.file) m.taken.n n.taken.n refused.writes
+            count;
+        quiet = λ _ _. inl broken;
+      } in
       record {
         ok = tt;
         err = now;
-        held = held_above n (record {
-          file = refused.kept.reached;
-          failures = refused.failures;
-          broken = λ was. (broken, refused.broken was);
-          unfailed = λ whole. absurd (whole broken);
-          failed = λ _. refused.cause;
-          taken = le_of_eq (sym count);
-          counted = λ few. none_passed (G.keeps.writes m.file) (G.keeps.writes n.file) m.taken.n n.taken.n refused.writes
-              count;
-          quiet = λ _ _. inl broken;
-        }) refused.kept now;
+        held = held_above n mirrored refused.kept now;
+        one_step = one_step_above n mirrored refused.one_step;
         counted = tt;
         uncounted = count;
         reads = refl;
@@ -156,20 +183,22 @@ module _ {F : Type 0} {G : Ghosts F} (m : KeptMirror F G) (p : Place) (bytes : S
   write_taken n (Ok x) (Ok y) kept ok whole same keeps disk one =
       let now : mirror_image n ≡ put old p bytes = put_both p bytes (G.keeps.kept m.file) (G.keeps.kept n.file)
       (disk_image m.disk) (disk_image n.disk) keeps.ok disk in
+      let mirrored : IsMirrored m n = record {
+        file = keeps.held.reached;
+        failures = le_of_eq (sym keeps.failures);
+        broken = λ was. absurd (false≢true (sym whole ∙ was));
+        unfailed = λ _. keeps.failures;
+        failed = λ broken. inl (sym same ∙ broken);
+        taken = not_fewer m.taken.n n.taken.n 18446744073709551615 m.taken.fits one;
+        counted = λ few. one_counted (G.keeps.writes m.file) (G.keeps.writes n.file) m.taken.n n.taken.n
+            18446744073709551615 keeps.counted one few;
+        quiet = λ equal few. absurd (not_same m.taken.n n.taken.n 18446744073709551615 one equal few);
+      } in
       record {
         ok = now;
         err = tt;
-        held = held_above n (record {
-          file = keeps.held.reached;
-          failures = le_of_eq (sym keeps.failures);
-          broken = λ was. absurd (false≢true (sym whole ∙ was));
-          unfailed = λ _. keeps.failures;
-          failed = λ broken. inl (sym same ∙ broken);
-          taken = not_fewer m.taken.n n.taken.n 18446744073709551615 m.taken.fits one;
-          counted = λ few. one_counted (G.keeps.writes m.file) (G.keeps.writes n.file) m.taken.n n.taken.n
-              18446744073709551615 keeps.counted one few;
-          quiet = λ equal few. absurd (not_same m.taken.n n.taken.n 18446744073709551615 one equal few);
-        }) keeps.held (inr now);
+        held = held_above n mirrored keeps.held (inr now);
+        one_step = one_step_above n mirrored keeps.one_step;
         counted = one_more m.taken.n n.taken.n 18446744073709551615 one;
         uncounted = tt;
         reads = refl;

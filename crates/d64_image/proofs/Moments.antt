@@ -4,7 +4,7 @@ use Rattle.std.proofs.Common.{Err, OnOk, OnErr, arith}
 use Rattle.std.proofs.Math.Nat.{add-le-add, le_of_eq, le_trans, lt_of_le_of_lt, lt_of_lt_of_le}
 use Rattle.d64_image.specs.Images.{Image}
 use Rattle.d64_image.specs.History.{History, HeldOnly, Failed, NeverFailed, OnlyReads, OldOr, Changes}
-use Rattle.d64_image.specs.History.{WritesNothing, IfCounted}
+use Rattle.d64_image.specs.History.{ChangesInOneStep, FailsInOneStep, WritesNothing, IfCounted}
 
 -- counts that rise by so much at most, one after another
 rises : {y z n : ℕ} (x k m : ℕ) → k + m ≤ n → y ≤ x + k → z ≤ y + m → z ≤ x + n
@@ -118,6 +118,25 @@ module _ {D : Type 0} (S : History D) where
     held = r.held;
     reads = rises_less (S.reads a) le r.reads;
     writes = r.writes;
+  }
+
+  -- reads, and then one step
+  pub read_step : (a b : D) (n : ℕ) → OnlyReads S a b n → ChangesInOneStep S a b
+  read_step a b n r = weaker a b (λ i. i ≡ S.image a) (OldOr (S.image a) (S.image b)) (λ i e. inl e) r.held
+
+  pub reads_then_step : (a b c : D) (n : ℕ) → OnlyReads S a b n → ChangesInOneStep S b c → ChangesInOneStep S a c
+  reads_then_step a b c n r step = then a b c (OldOr (S.image a) (S.image c))
+      (weaker a b (λ i. i ≡ S.image a) (OldOr (S.image a) (S.image c)) (λ i e. inl e) r.held)
+      (weaker b c (OldOr (S.image b) (S.image c)) (OldOr (S.image a) (S.image c))
+      (λ i. ⊎_elim (λ e. inl (e ∙ r.image)) (λ e. inr e)) step)
+
+  pub read_fails : (a b : D) (n : ℕ) → OnlyReads S a b n → FailsInOneStep S a b
+  read_fails a b n r = record { uncounted = r.writes; one_step = read_step a b n r }
+
+  pub reads_then_fails : (a b c : D) (n : ℕ) → OnlyReads S a b n → FailsInOneStep S b c → FailsInOneStep S a c
+  reads_then_fails a b c n r f = record {
+    uncounted = f.uncounted ∙ r.writes;
+    one_step = reads_then_step a b c n r f.one_step;
   }
 
   -- nothing is written

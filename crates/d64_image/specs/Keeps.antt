@@ -39,6 +39,10 @@ pub record KeptOnly {F : Type 0} (K : Keeps F) (old new : F) (P : Image → Type
   -- for a run that began earlier
   pub before : (t : ℕ) (c : Image) → t ≤ K.moment old → K.held new t c → K.held old t c ⊎ P c
 
+-- The file kept only the image at the start and the one at the end. What it showed of a change, it didn't take back.
+abbrev pub KeptInOneStep : {F : Type 0} → Keeps F → F → F → Type 0
+KeptInOneStep K old new = KeptOnly K old new (λ c. (K.kept old ≡ Some c) ⊎ (K.kept new ≡ Some c))
+
 -- The count of failures rose, or is spent.
 pub record FileFailed {F : Type 0} (K : Keeps F) (old new : F) : Type 0 where
   pub later : K.failures old ≤ K.failures new
@@ -78,12 +82,15 @@ module _ {F : Type 0} (K : Keeps F) (a b c : F) where
     rose = λ lt. omega (arith, f.rose (omega (arith, lt, le)), le);
   }
 
--- At Ok the bytes are at p, and are kept. At an error they are, or p is as before. Nothing else was kept on the way.
+-- At Ok the bytes are at p, and are kept. At an error they are and stay there, or the file kept what it did before, at each
+-- moment of the call. Nothing else was kept on the way.
 pub record KeepsSector {F T E : Type 0} (K : Keeps F) (old new : F) (p : Place) (bytes : Sector)
     (result : Result T E) : Type 0 where
   pub ok : OnOk result (K.kept new ≡ put_kept (K.kept old) p bytes)
   pub err : OnErr result ((K.kept new ≡ K.kept old) ⊎ (K.kept new ≡ put_kept (K.kept old) p bytes))
   pub held : KeptOnly K old new (λ c. (K.kept old ≡ Some c) ⊎ (put_kept (K.kept old) p bytes ≡ Some c))
+  -- what it shows of the new bytes, it doesn't take back, also not at an error
+  pub one_step : KeptInOneStep K old new
   -- a sector is counted at most once, and only at Ok
   pub counted : OnOk result (K.writes new ≤ K.writes old + 1)
   pub uncounted : OnErr result (K.writes new ≡ K.writes old)

@@ -21,8 +21,8 @@ pub fn read_sector<D: Sectors>(disk: &mut D, place: Place, to: &mut [u8; 256]) -
 
 /// Writes the 256 bytes of a sector.
 ///
-/// The only error is `Device` at this place: the device failed there, and the sector is written or as before. Nothing
-/// else changes, and nothing else was ever held.
+/// The only error is `Device` at this place: the device failed there. Then the sector is written and stays so, or the
+/// disk was as before at each moment of the call. Nothing else changes, and nothing else was ever held.
 // In line, as all on the way to a device's write is: a return right after a system call is slow.
 #[inline(always)]
 pub fn write_sector<D: Sectors>(disk: &mut D, place: Place, from: &[u8; 256]) -> Result<(), Fault>

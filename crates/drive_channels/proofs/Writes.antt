@@ -3,7 +3,7 @@ use Rattle.std.proofs.Common.{ℕ, ◌≡◌, ◌≤◌, ◌<◌, ◌+◌, ◌�
 use Rattle.std.proofs.Common.{length, nat_lt, Some, sym, ap, ap₂, subst, refl, arith, Result, OnErr, ◌==◌}
 use Rattle.std.proofs.lemmas.Grind.{common_steps}
 use Rattle.d64_image.proofs.Moments.{changes_weaker}
-use Rattle.d64_image.specs.History.{Changes, History}
+use Rattle.d64_image.specs.History.{Changes, FailsInOneStep, History}
 use Rattle.d64_image.specs.Images.{Image}
 use Rattle.disk_layout.proofs.lemmas.layouts.Layouts.{IsLayout-one}
 use Rattle.disk_layout.specs.Clean.{IsClean}
@@ -144,11 +144,11 @@ module _ {D T E : Type 0} (S : History D) (old new : D) (c : Channel) (l : Layou
     pub grown-at : Changes S old new (growth_writes f c.record_number)
         (IsGrowingTo (S.image old) l c.entry f c.record_number)
         → (c.record_number ≤ records_had f → IsInOneBlock (record_length f.slot) c.record_number
-        → OnErr result (S.writes new ≡ S.writes old))
+        → OnErr result (FailsInOneStep S old new))
         → IsWrittenAt S old new c l f [] result
-    grown-at moments uncounted = record {
+    grown-at moments one_step = record {
       moments = changes_weaker S old new (growth_writes f c.record_number) _ _ _ (omega arith) (λ i h. h) moments;
-      uncounted = uncounted;
+      one_step = one_step;
     }
 
     -- and those of a writing of any other
@@ -158,10 +158,10 @@ module _ {D T E : Type 0} (S : History D) (old new : D) (c : Channel) (l : Layou
         (IsWriting (S.image old) l c.entry f (added (record_length f.slot) (records_had f) c.record_number)
         c.record_number c.position text)
         → (c.record_number ≤ records_had f → IsInOneBlock (record_length f.slot) c.record_number
-        → OnErr result (S.writes new ≡ S.writes old))
+        → OnErr result (FailsInOneStep S old new))
         → IsWrittenAt S old new c l f text result
-    written-at [] some moments uncounted = absurd (omega (arith, some))
-    written-at (t ∷ ts) some moments uncounted = record { moments = moments; uncounted = uncounted }
+    written-at [] some moments one_step = absurd (omega (arith, some))
+    written-at (t ∷ ts) some moments one_step = record { moments = moments; one_step = one_step }
 
 -- the text fits, or reaches past the record's end
 pub not-cut : (f : File) (v : RelFile) → Shows f v → (text : List ℕ) (position : ℕ)

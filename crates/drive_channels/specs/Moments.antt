@@ -19,7 +19,7 @@ use Rattle.std.specs.Prelude.{
   Result,
   Some,
 }
-use Rattle.d64_image.specs.History.{Changes, History, OnlyReads}
+use Rattle.d64_image.specs.History.{Changes, FailsInOneStep, History, OnlyReads}
 use Rattle.d64_image.specs.Images.{Image}
 use Rattle.disk_layout.specs.Clean.{IsClean}
 use Rattle.disk_layout.specs.Layout.{File, IsLayout, Layout, record_length}
@@ -60,12 +60,12 @@ writes_for f c text = growth_writes f c.record_number + (if is_nil text then 0 e
     c.record_number c.position)
 
 -- a write at this place of the file f: every image held and the count of writes; and a record that is there and lies in
--- one block is written at once
+-- one block is written in one step
 pub record IsWrittenAt {D T E : Type 0} (S : History D) (old new : D) (c : Channel) (l : Layout) (f : File)
     (text : List ℕ) (result : Result T E) : Type 0 where
   pub moments : Changes S old new (writes_for f c text) (IsOnTheWay (S.image old) text c l f)
-  pub uncounted : c.record_number ≤ records_had f → IsInOneBlock (record_length f.slot) c.record_number
-      → OnErr result (S.writes new ≡ S.writes old)
+  pub one_step : c.record_number ≤ records_had f → IsInOneBlock (record_length f.slot) c.record_number
+      → OnErr result (FailsInOneStep S old new)
 
 -- a write to the channel of this number: as above if it is open; otherwise the disk isn't touched
 pub record IsWrittenOn {D T E : Type 0} (S : History D) (old new : D) (open_one : Option Channel) (number : ℕ)

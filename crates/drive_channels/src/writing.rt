@@ -1,6 +1,6 @@
 //! Writing to a channel.
 ghost use Rattle.std.specs.Prelude.{◌≡◌, ◌≤◌, ◌+◌, [], OnErr, OnOk, Some, length};
-ghost use Rattle.d64_image.specs.History.{Changes, OnlyReads};
+ghost use Rattle.d64_image.specs.History.{Changes, FailsInOneStep, OnlyReads};
 ghost use Rattle.disk_layout.specs.Layout.{File, Layout, record_length};
 ghost use Rattle.drive_channels.specs.Calls.{IsPlace, WritesAt, WritesOn};
 ghost use Rattle.drive_channels.specs.Files.{IsRelAt};
@@ -141,12 +141,12 @@ impl<D: Sectors> Drive<D> {
             → IsRelAt (D.history.image self.old.disk) l c.entry f
             → Changes D.history self.old.disk self.new.disk (writes_for f c text.now)
             (IsOnTheWay (D.history.image self.old.disk) text.now c l f) }
-        // a record that is there and lies in one block is written at once: an answer Dead after a counted write leaves
-        // it written
-        ensures uncounted { (c : Channel) (l : Layout) (f : File) → IsOn self.old.channel channel c
+        // a record that is there and lies in one block is written in one step: at Dead no write was counted, and what was
+        // shown of the record isn't taken back
+        ensures one_step { (c : Channel) (l : Layout) (f : File) → IsOn self.old.channel channel c
             → IsRelAt (D.history.image self.old.disk) l c.entry f → c.record_number ≤ records_had f
             → IsInOneBlock (record_length f.slot) c.record_number
-            → OnErr result (D.history.writes self.new.disk ≡ D.history.writes self.old.disk) }
+            → OnErr result (FailsInOneStep D.history self.old.disk self.new.disk) }
     {
         if self.dead {
             return Err(Dead);

@@ -61,14 +61,15 @@ abbrev pub seen : {F : Type 0} → Lasting F → (sized : Bool) → Lasting F
 seen W true = W
 seen W false = unknown_lasting
 
--- From old to new the bytes of old were kept, or these, and at each moment nothing else.
+-- At the end the bytes of old are kept, or these. At each moment the old ones were, or those of the end: what was shown of a
+-- change isn't taken back.
 pub record StaysOr {F : Type 0} (L : Lasting F) (old new : F) (next : Option (List ℕ)) : Type 0 where
   pub now : (L.bytes new ≡ L.bytes old) ⊎ (L.bytes new ≡ next)
   pub later : L.moment old ≤ L.moment new
-  pub each : (all : List ℕ) → L.stayed new (L.moment old) all → (L.bytes old ≡ Some all) ⊎ (next ≡ Some all)
+  pub each : (all : List ℕ) → L.stayed new (L.moment old) all → (L.bytes old ≡ Some all) ⊎ (L.bytes new ≡ Some all)
   -- for a run that began earlier
   pub before : (t : ℕ) (all : List ℕ) → t ≤ L.moment old → L.stayed new t all
-      → L.stayed old t all ⊎ ((L.bytes old ≡ Some all) ⊎ (next ≡ Some all))
+      → L.stayed old t all ⊎ ((L.bytes old ≡ Some all) ⊎ (L.bytes new ≡ Some all))
 
 -- what is known, with these bytes in place of those from n on
 abbrev pub overwritten_in : Option (List ℕ) → ℕ → List ℕ → Option (List ℕ)
@@ -82,7 +83,7 @@ pub record IsSectorIn (all : Option (List ℕ)) (n : ℕ) (bytes : List ℕ) : T
   pub at : n ≡ 256 * index
   pub inside : (xs : List ℕ) → all ≡ Some xs → n + 256 ≤ length xs
 
--- The sector stands in these bytes, and at an error it does or what was there before.
+-- The sector stands in these bytes. At an error it does and stays so, or at each moment what was there before did.
 pub record TakesSector {F E : Type 0} (L : Lasting F) (old new : F) (n : ℕ) (bytes : List ℕ) (result : Result Unit E)
     : Type 0 where
   pub stays : StaysOr L old new (overwritten_in (L.bytes old) n bytes)

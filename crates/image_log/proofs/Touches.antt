@@ -68,6 +68,12 @@ write_touches h a b p bytes fault result k is long marks writes =
         each = writes.held.each;
         before = writes.held.before;
       };
+      one_step = record {
+        reached = (writes.one_step.reached, keeps);
+        later = writes.one_step.later;
+        each = writes.one_step.each;
+        before = writes.one_step.before;
+      };
       counted = writes.counted;
       uncounted = writes.uncounted;
       reads = writes.reads;

@@ -1,7 +1,7 @@
 -- What each call on a relative file promises, at Ok and at an error. All of it is our own.
 use Rattle.std.specs.Prelude.{ℕ, ◌≡◌, ◌≢◌, ◌⊎◌, ◌↔◌, ◌≤◌, ◌<◌, ◌+◌, Err, IfErr, IfOk, IsOk, List, OnErr, OnOk}
 use Rattle.std.specs.Prelude.{Result, Some, length, slice_get}
-use Rattle.d64_image.specs.History.{Changes, History, OnlyReads, TellsFailure, WritesNothing}
+use Rattle.d64_image.specs.History.{Changes, FailsInOneStep, History, OnlyReads, TellsFailure, WritesNothing}
 use Rattle.d64_image.specs.Images.{Image, Sector, sector}
 use Rattle.d64_image.specs.declared.faults.DeviceFault.{DeviceFault}
 use Rattle.disk_layout.specs.Directory.{map_place}
@@ -94,8 +94,8 @@ pub record WritesThere {D : Type 0} (S : History D) (old new : D) (v : RelFile) 
     (result : Result (Unit {0}) RelFault) : Type 0 where
   pub file : OfItsFile (S.image old) v (λ l n f. WritesOver S old new l n f v number position text most result)
   pub err : IfErr result (λ e. e ≡ Device)
-  -- a record in one block is written at once
-  pub uncounted : IsInOneBlock (length_of v) number → OnErr result (S.writes new ≡ S.writes old)
+  -- a record in one block is written in one step
+  pub one_step : IsInOneBlock (length_of v) number → OnErr result (FailsInOneStep S old new)
   pub reads : S.reads new ≤ S.reads old + read
   pub failures : TellsRelFault S old new result
 
@@ -127,9 +127,10 @@ pub record WritesRecord {D : Type 0} (S : History D) (old new : D) (v w : RelFil
   pub told : IfErr result (λ e. (e ≡ Overflow) ⊎ ((e ≡ TooLarge) ⊎ ((e ≡ Full) ⊎ (e ≡ Device))))
   -- growth was refused
   pub refused : IfErr result (λ e. e ≢ Device → e ≢ Overflow → (w ≡ v) × OnlyReads S old new 1)
-  -- a record that is there and lies in one block is written at once: a write that was counted is the whole one
-  pub uncounted : number ≤ records_in v → IsInOneBlock (length_of v) number
-      → IfErr result (λ e. e ≢ Overflow → S.writes new ≡ S.writes old)
+  -- a record that is there and lies in one block is written in one step: if that fails, no write was counted, and what was
+  -- shown of it isn't taken back
+  pub one_step : number ≤ records_in v → IsInOneBlock (length_of v) number
+      → IfErr result (λ e. e ≢ Overflow → FailsInOneStep S old new)
   -- those of a growth, the side sector that names the block, and the blocks, one or two
   pub reads : S.reads new ≤ S.reads old + 13
   pub few : number ≤ records_in v → S.reads new ≤ S.reads old + 3

@@ -1,6 +1,6 @@
 -- Sectors put one after another, each by one write. All of it is our own.
 use Rattle.std.specs.Prelude.{ℕ, ◌≡◌, ◌⊎◌, ◌≤◌, ◌+◌, ◌-◌, ◌∷◌, IfErr, List, [], OnErr, OnOk, Result, drop, length, min}
-use Rattle.d64_image.specs.History.{HeldOnly, History}
+use Rattle.d64_image.specs.History.{FailsInOneStep, HeldOnly, History}
 use Rattle.d64_image.specs.Images.{Image, Sector, put, sector}
 use Rattle.d64_image.specs.declared.place.Place.{Place}
 use Rattle.rel_records.specs.Faults.{TellsRelFault}
@@ -26,8 +26,8 @@ pub record PutsEach {D : Type 0} (S : History D) (old new : D) (puts : List (Pla
   pub err : IfErr result (λ e. e ≡ Device)
   pub held : HeldOnly S old new (IsPutSoFar puts (S.image old))
   pub writes : S.writes new ≤ S.writes old + length puts
-  -- a sector that is put alone: a write that was counted is the whole one
-  pub uncounted : length puts ≤ 1 → OnErr result (S.writes new ≡ S.writes old)
+  -- a sector that is put alone: at an error no write was counted, and what was shown of the sector isn't taken back
+  pub one_step : length puts ≤ 1 → OnErr result (FailsInOneStep S old new)
   pub reads : S.reads new ≤ S.reads old + read
   pub failures : TellsRelFault S old new result
 

@@ -23,7 +23,7 @@ pub(crate) fn read<D: Sectors>(
     }
 }
 
-/// Writes a sector; at an error it is written or as before.
+/// Writes a sector; at an error it is written and stays so, or the disk was as before at each moment of the call.
 // In line, as all on the way to a device's write is: a return right after a system call is slow.
 #[inline(always)]
 pub(crate) fn write<D: Sectors>(

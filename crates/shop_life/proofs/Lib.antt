@@ -9,4 +9,3 @@ mod Teeth
 mod Tills
 mod Worked
 mod Chapters
-mod Onward

@@ -12,7 +12,7 @@ use Rattle.host_session.proofs.lemmas.shop.Shops.{IsShop-one}
 use Rattle.host_session.specs.Held.{HeldOnly}
 use Rattle.host_session.specs.declared.faults.OpenFault.{OpenFault}
 use Rattle.host_session.specs.session.Handled.{IsHandled}
-use Rattle.host_session.specs.session.Handling.{IsMedia}
+use Rattle.host_session.specs.session.Handling.{IsMedia, after_of}
 use Rattle.host_session.specs.session.Opened.{IsOpened, Opened, disk_of}
 use Rattle.host_session.specs.session.Opening.{Untouched}
 use Rattle.host_session.specs.session.Standing.{View}
@@ -22,7 +22,7 @@ use Rattle.request_cards.specs.Reading.{request_of}
 use Rattle.request_cards.specs.Requests.{Ask, IsAsk}
 use Rattle.request_cards.specs.declared.reply.Reply.{Reply}
 use Rattle.shop_life.proofs.Goods.{all_asks, goods_agree, of_step}
-use Rattle.shop_life.proofs.Kept.{kept, step}
+use Rattle.shop_life.proofs.Kept.{after_more, kept, step}
 use Rattle.shop_life.proofs.Later.{at_the_end, begins_at, stay, weaker}
 use Rattle.shop_life.proofs.Numbers.{ups}
 use Rattle.shop_life.proofs.Rest.{rest_after}
@@ -161,6 +161,16 @@ module _ {D : Type 0} (hist : History D) where
             subst (λ (w : Shop). number_of ((shop_after s X).state.ledger.kept till)
             ≤ number_of (w.state.ledger.kept till)) e (ups (start_of s) X more till) in
             omega (arith, up, less)
+
+    pub taken_back : (v new : View D) (m : List ℕ) (told : Reply) (c : Image) → IsLived hist s disk steps parts (on v)
+        → IsHandled hist v new m told → IsHeldIn hist (on v) (handles m told new) c → IsAfter s (X ++ asks_of (Some m)) c
+        → IsAfter s X (hist.image new.disk) → shop_after s (X ++ asks_of (Some m)) ≢ shop_after s X → ⊥
+    taken_back v new m told c lived may held shown back other =
+        elim (may.onward (shop_after s X) (at_here (on v) lived).shop) [
+          | inl after ↦ other (sym (after_more hist s X m)
+              ∙ IsShop-one (hist.image new.disk) (after_of (shop_after s X) m) (shop_after s X) after back)
+          | inr only ↦ other (IsShop-one c (shop_after s (X ++ asks_of (Some m))) (shop_after s X) shown (only.each c held))
+        ]
 
     rest_of_held : (p : Place D) (x : Step D) (c : Image) → IsLived hist s disk steps parts p → May hist p x
         → IsHeldIn hist p x c → HasRestOf s c

@@ -101,6 +101,7 @@ handled s before d new m a told is here settled le all whole rule other next = r
   reply = λ t at live not. (told_in t at, settled_in t at, refl);
   moments = λ t at. changes d new 3618 (λ c. IsShop c t ⊎ IsShop c (after_of t m)) le
       (subst (λ (u : Shop). AllOf new (λ c. IsShop c u ⊎ IsShop c (after_of u m))) (same t at) either) whole;
+  onward = λ t at. inl (settled_in t at).shop;
   writes = λ f x. omega arith;
   counted = λ t at lt. absurd (omega (arith, lt));
   media = λ x. absurd (other x);

@@ -5,4 +5,3 @@ pub mod Rest
 pub mod Tills
 pub mod Worked
 pub mod Chapters
-pub mod Onward

@@ -81,11 +81,9 @@ module _ {D : Type 0} (hist : History D) where
   KeepAll s before p (x ∷ xs) (n ∷ ns) = Keeps s before p x n × KeepAll s (before ++ n) (went p x) xs ns
   KeepAll s before p _ _ = ⊥
 
-  -- The image was held at a moment of the step. If power went in the call, it is the one that power left. If the device failed
-  -- in the message, it is the one at the end: a sector whose write fails may be new for a moment, and then old again.
+  -- The image was held at a moment of the step. If power goes in its call, it is the one that power left: what the call would
+  -- have held later was never there.
   abbrev pub IsSeenIn : Place D → Step D → Image → Type 0
-  IsSeenIn p (handles m told new) c =
-      IsHeldIn hist p (handles m told new) c × (IsMedia told → c ≡ hist.image new.disk)
   IsSeenIn p (cut_in_opening r next) c = c ≡ hist.image next
   IsSeenIn p (cut_in_message m told new next) c = c ≡ hist.image next
   IsSeenIn p x c = IsHeldIn hist p x c

@@ -21,8 +21,8 @@ ghost use Rattle.shop_life.specs.Chapters.{AllHeldIn, AreChapters, Chapter, HasN
 ghost use Rattle.shop_life.specs.Goods.{GoodsAgree};
 ghost use Rattle.shop_life.specs.Lives.{IsHeldIn, IsLife, May, Place, Step, asks_of, disk_at, message_in, off, on};
 ghost use Rattle.shop_life.specs.Lives.{shop_after, went_all};
-ghost use Rattle.shop_life.specs.OneList.{AllHeld, HasOneList, IsAfterFirst, IsLived, KeepAll, NoneOfTill, Stays, counted_from};
-ghost use Rattle.shop_life.specs.Onward.{AllShown, AreOnward};
+ghost use Rattle.shop_life.specs.Lives.Step.{handles};
+ghost use Rattle.shop_life.specs.OneList.{AllHeld, HasOneList, IsAfter, IsLived, KeepAll, NoneOfTill, Stays, counted_from};
 ghost use Rattle.shop_life.specs.Rest.{HasRestOf};
 ghost use Rattle.shop_life.specs.Tills.{FitAll, Happening, HoldsAtAllEnds, first_scene, followed_all};
 ghost use Rattle.shop_life.specs.Worked.{Pictures, page, paper, worked};
@@ -31,19 +31,11 @@ use d64_image::Sectors;
 
 /// Every life of a shop has one list of requests. A part of it goes with each step, so that each reply is the rule's over the
 /// parts before it, each image held is the shop after them, or after the step's own message too, and an opening of a device that
-/// doesn't fail succeeds. Each image that is seen is the shop after a first part of the list.
+/// doesn't fail succeeds. Each image held at any moment is the shop after a first part of the one list; if power goes in a
+/// call, that is the image that power left.
 pub fn one_list<D: Sectors>()
     ensures { (s : Shop) (disk : D) (steps : List (Step D)) → IsShop (D.history.image disk) s
         → IsLife D.history (off disk) steps → HasOneList D.history s (off disk) steps }
-{}
-
-/// If no message whose device fails goes back after its image was seen, each image of each call that ends is the shop after a first part
-/// of the list.
-pub fn one_list_onward<D: Sectors>()
-    ensures { (s : Shop) (disk : D) (steps : List (Step D)) → IsShop (D.history.image disk) s
-        → IsLife D.history (off disk) steps → AreOnward D.history (off disk) steps
-        → (parts : List (List Ask)) × KeepAll D.history s [] (off disk) steps parts
-        × AllShown D.history (IsAfterFirst s (counted_from [] parts)) (off disk) steps }
 {}
 
 /// What is in the list of some first steps, each request that was answered among it, is on each image that is held later, at any
@@ -173,6 +165,17 @@ pub fn a_vanished_request_is_seen<D: Sectors>()
         (c : Image) (u : Shop) (till : ℕ) → IsLived D.history s disk steps parts p → May D.history p x → IsHeldIn D.history p x c
         → IsShop c u → number_of (u.state.ledger.kept till)
         < number_of ((shop_after s (counted_from [] parts)).state.ledger.kept till) → ⊥ }
+{}
+
+/// Nor a message that is taken back: an image of the shop after it was held, and at the end of its call the disk is the shop's
+/// before it.
+pub fn a_message_taken_back_is_seen<D: Sectors>()
+    ensures { (s : Shop) (disk : D) (steps : List (Step D)) (parts : List (List Ask)) (v new : View D)
+        (m : List ℕ) (told : Reply) (c : Image) → IsLived D.history s disk steps parts (on v)
+        → IsHandled D.history v new m told → IsHeldIn D.history (on v) (handles m told new) c
+        → IsAfter s (counted_from [] parts ++ asks_of (Some m)) c
+        → IsAfter s (counted_from [] parts) (D.history.image new.disk)
+        → shop_after s (counted_from [] parts ++ asks_of (Some m)) ≢ shop_after s (counted_from [] parts) → ⊥ }
 {}
 
 /// Nor an image, for a moment, with another file changed.

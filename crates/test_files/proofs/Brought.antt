@@ -37,13 +37,13 @@ brought a b v bytes was items now =
     record {
       now = inr (ap Some now);
       later = omega (arith, longer);
-      each = λ all stayed. ⊎_elim (λ e. inr (ap Some (sym (e ∙ now))))
+      each = λ all stayed. ⊎_elim (λ e. inr (ap Some (sym e)))
           (λ had. ⊎_elim (λ e. inl (ap Some (sym (e ∙ was)))) (λ none. absurd none)
           (subst (λ (past : List (Vec ℕ Global)). HadBeen past all)
           (ap (drop (length a.past.items)) items ∙ drop_at a.past.items (v ∷ []) (length a.past.items) refl)
           had))
           stayed;
-      before = λ t all le stayed. ⊎_elim (λ e. inr (inr (ap Some (sym (e ∙ now)))))
+      before = λ t all le stayed. ⊎_elim (λ e. inr (inr (ap Some (sym e))))
           (λ had. ⊎_elim (λ h. inl (inr h)) (λ e. inr (inl (ap Some (sym (e ∙ was)))))
           (had_been_more (drop t a.past.items) v all
           (subst (λ (past : List (Vec ℕ Global)). HadBeen past all)

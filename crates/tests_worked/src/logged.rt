@@ -1,4 +1,4 @@
-//! Rows of the log: bytes and images that docs/LOG.md decides, worked out by `tests/log_model.py`.
+//! Rows of the log: bytes and images that docs/LOG.md decides, worked out by `tests/power/log_model.py`.
 
 mod hole_rows;
 mod life_rows;

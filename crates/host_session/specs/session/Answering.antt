@@ -1,7 +1,7 @@
 -- What the answer to a request leaves of a session. All of it is our own.
 use Rattle.std.specs.Prelude.{◌≡◌, ◌≢◌, ◌≤◌, ◌<◌, ◌+◌, ◌⊎◌, false, true, Some}
 use Rattle.d64_image.specs.History.{Failed, History}
-use Rattle.host_session.specs.Held.{Changes}
+use Rattle.host_session.specs.Held.{Changes, IsOnward}
 use Rattle.request_cards.specs.declared.reply.Word.{Word}
 use Rattle.request_cards.specs.declared.reply.Word.TheVariants.{Media}
 use Rattle.request_cards.specs.Ledgers.{after, word_in}
@@ -23,6 +23,9 @@ pub record IsAnswered {D : Type 0} (S : History D) (old new : View D) (a : Ask) 
   -- each image held on the way is the shop's before the request or after it
   pub moments : (s : Shop) → IsShop (S.image old.disk) s
       → Changes S old.disk new.disk 3618 (λ i. IsShop i s ⊎ IsShop i (after_ask s a))
+  -- at the end the shop is the one after the request, or none but the one before it was held
+  pub onward : (s : Shop) → IsShop (S.image old.disk) s
+      → IsOnward S old.disk new.disk (λ i. IsShop i s) (λ i. IsShop i (after_ask s a))
   pub writes : (f : Files) → (h : HasFiles (S.image old.disk) f)
       → S.writes new.disk ≤ S.writes old.disk + most_writes (shop_of f) h.stock_file (Some a)
   -- as soon as a write was counted the shop is the one after, unless STOCK may have grown

@@ -1,7 +1,7 @@
 -- The result of a message to a session. All of it is our own.
 use Rattle.std.specs.Prelude.{◌≡◌, ◌<◌, ◌≤◌, ◌+◌, ◌⊎◌, ℕ, List, None, false, true}
 use Rattle.d64_image.specs.History.{Failed, History}
-use Rattle.host_session.specs.Held.{Changes}
+use Rattle.host_session.specs.Held.{Changes, IsOnward}
 use Rattle.request_cards.specs.Ledgers.{reply_in}
 use Rattle.request_cards.specs.Reading.{request_of}
 use Rattle.request_cards.specs.declared.reply.Reply.{Reply}
@@ -29,6 +29,9 @@ pub record IsHandled {D : Type 0} (h : History D) (old new : View D) (message : 
   -- each image held on the way is the shop's before the message or after it
   pub moments : (s : Shop) → IsShop (h.image old.disk) s
       → Changes h old.disk new.disk 3618 (IsBeforeOrAfter s message)
+  -- and the message isn't taken back: at the end the shop is the one after it, or none but the one before it was held
+  pub onward : (s : Shop) → IsShop (h.image old.disk) s
+      → IsOnward h old.disk new.disk (λ i. IsShop i s) (λ i. IsShop i (after_of s message))
   -- how many sectors are written at most
   pub writes : (f : Files) → (x : HasFiles (h.image old.disk) f)
       → h.writes new.disk ≤ h.writes old.disk + most_writes (shop_of f) x.stock_file (request_of message)

@@ -9,6 +9,7 @@ use Rattle.request_cards.specs.CardTexts.{Card, IsCard, is_done}
 use Rattle.request_cards.specs.Ledgers.{applied}
 use Rattle.request_cards.specs.Requests.{Ask}
 use Rattle.request_cards.specs.Trade.{outcome}
+use Rattle.host_session.specs.Held.{IsOnward}
 use Rattle.host_session.specs.shop.Files.{Files, HasFiles, record_at}
 use Rattle.host_session.specs.shop.Puts.{Puts}
 use Rattle.host_session.specs.shop.Shop.{AreLedgerRecords, IsSettled, IsShop, Shop, any_old, cards_in, intents, items}
@@ -56,3 +57,8 @@ KeepsAnswer S old new result a c most = Puts S old new result (λ f. HasFiles (S
 abbrev pub IsAfterCounted : {D : Type 0} (S : History D) (old new : Seen D) → Ask → Card → Type 0
 IsAfterCounted S old new a c = (f : Files) → HasFiles (S.image old.disk) f → IsKeeping f a c
     → IfCounted S old.disk new.disk (λ i. IsShop i (shop_after (shop_of f) a))
+
+-- and what was shown of it isn't taken back
+abbrev pub KeepsOnward : {D : Type 0} (S : History D) (old new : Seen D) → Ask → Card → Type 0
+KeepsOnward S old new a c = (f : Files) → HasFiles (S.image old.disk) f → IsKeeping f a c
+    → IsOnward S old.disk new.disk (λ i. IsShop i (shop_of f)) (λ i. IsShop i (shop_after (shop_of f) a))

@@ -1,7 +1,7 @@
 //! A till's next request, kept on the disk.
 ghost use Rattle.std.specs.Prelude.{◌≡◌, ◌+◌, IsSome, false, is_none, true};
 ghost use Rattle.host_session.specs.session.Handling.{card_writes, kept_writes};
-ghost use Rattle.host_session.specs.session.Keeping.{HasItems, IsAfterCounted, IsKeeping, KeepsAnswer};
+ghost use Rattle.host_session.specs.session.Keeping.{HasItems, IsAfterCounted, IsKeeping, KeepsAnswer, KeepsOnward};
 ghost use Rattle.host_session.specs.shop.Files.{Files, HasFiles};
 ghost use Rattle.host_session.specs.shop.Selecting.{IsReady};
 ghost use Rattle.host_session.specs.shop.Shop.{results_of, shop_of};
@@ -27,6 +27,7 @@ fn write_refusal<D: Sectors>(
     ensures puts { KeepsAnswer D.history drive.old drive.new result request.now card.now
         (λ f p. 1) }
     ensures counted { IsAfterCounted D.history drive.old drive.new request.now card.now }
+    ensures onward { KeepsOnward D.history drive.old drive.new request.now card.now }
 {
     write_answer(drive, request.till(), &card.print())
 }
@@ -46,6 +47,7 @@ fn write_intent<D: Sectors>(
     ensures puts { KeepsAnswer D.history drive.old drive.new result request.now card.now
         (λ f p. 2 + card_writes (results_of card.now.newest)) }
     ensures counted { IsAfterCounted D.history drive.old drive.new request.now card.now }
+    ensures onward { KeepsOnward D.history drive.old drive.new request.now card.now }
 {
     let till = request.till();
     let mut text = card.print();
@@ -65,8 +67,9 @@ fn write_first_set<D: Sectors>(
     requires keeping { (f : Files) × HasFiles (D.history.image drive.old.disk) f × IsKeeping f request.now card.now
         × (is_none ((shop_of f).state.ledger.cards request.now.body.item) ≡ true) }
     requires intent { card.now.pending ≡ true }
-    ensures { KeepsAnswer D.history drive.old drive.new result request.now card.now
+    ensures puts { KeepsAnswer D.history drive.old drive.new result request.now card.now
         (λ f p. growth_writes p.0.stock_file request.now.body.item + 2 + card_writes (results_of card.now.newest)) }
+    ensures onward { KeepsOnward D.history drive.old drive.new request.now card.now }
 {
     grow_stock(drive, request.item())?;
     write_intent(drive, request, card)
@@ -89,6 +92,8 @@ pub(crate) fn store_answer<D: Sectors>(
     // except for a set of an item without a card, the shop is the one after as soon as a write was counted
     ensures counted { IsSome on_hand → IsAfterCounted D.history drive.old drive.new request.now card.now }
     ensures refused { card.now.pending ≡ false → IsAfterCounted D.history drive.old drive.new request.now card.now }
+    // the write of the till's card is the one that counts, and what was shown of it isn't taken back
+    ensures onward { KeepsOnward D.history drive.old drive.new request.now card.now }
 {
     if !card.pending() {
         return write_refusal(drive, request, card);

@@ -1,5 +1,6 @@
 //! Records that are there, written through the drive.
 ghost use Rattle.std.specs.Prelude.{ℕ, ◌≡◌, ◌≤◌, OnErr, length};
+ghost use Rattle.d64_image.specs.History.{FailsInOneStep};
 ghost use Rattle.disk_layout.specs.Layout.{File, Layout, record_length};
 ghost use Rattle.disk_layout.specs.Records as records_of;
 ghost use Rattle.host_session.specs.shop.Putting.{IsPlaced};
@@ -35,11 +36,11 @@ fn write_record<D: Sectors>(
         (λ p i. HasRecords (D.history.image drive.old.disk) i p.0 p.1
         (with_written (record_length p.2.slot) number 1 text.now
         (records_of.records (D.history.image drive.old.disk) p.2))) }
-    // a record that lies in one block: at an error no write was counted
-    ensures uncounted { (l : Layout) (n : ℕ) (f : File)
+    // a record that lies in one block is written in one step: at an error no write was counted, and nothing is taken back
+    ensures one_step { (l : Layout) (n : ℕ) (f : File)
         → IsPlaced (D.history.image drive.old.disk) (name_of file) number l n f
         → IsInOneBlock (record_length f.slot) number
-        → OnErr result (D.history.writes drive.new.disk ≡ D.history.writes drive.old.disk) }
+        → OnErr result (FailsInOneStep D.history drive.old.disk drive.new.disk) }
 {
     drive.select(file, number)?;
     drive.write(text)
@@ -72,8 +73,8 @@ pub(crate) fn write_answer<D: Sectors>(
     requires long { length text.now ≡ 127 }
     ensures puts { Puts D.history drive.old drive.new result (HasFiles (D.history.image drive.old.disk))
         (λ f h. 1) (λ f. IsPuttingAnswer f till text.now) (λ f. HasAnswer f till text.now) }
-    // at an error no write was counted
-    ensures uncounted { OnErr result (D.history.writes drive.new.disk ≡ D.history.writes drive.old.disk) }
+    // it is written in one step: at an error no write was counted, and what was shown of it isn't taken back
+    ensures one_step { OnErr result (FailsInOneStep D.history drive.old.disk drive.new.disk) }
 {
     write_record(drive, ShopFile::Requests, u16::from(till), text)
 }

@@ -1,6 +1,6 @@
 //! The two files of a shop, through the drive.
 ghost use Rattle.std.specs.Prelude.{ℕ, ◌≡◌, ◌≤◌, IsErr, None, Ok, OnErr, OnOk, Option, Some, false, true};
-ghost use Rattle.d64_image.specs.History.{Changes, OnlyReads, TellsFailure};
+ghost use Rattle.d64_image.specs.History.{Changes, FailsInOneStep, OnlyReads, TellsFailure};
 ghost use Rattle.disk_layout.specs.Layout.{File, IsLayout, Layout, record_length};
 ghost use Rattle.disk_layout.specs.Rest.{IsFirst};
 ghost use Rattle.drive_channels.specs.Files.{IsRelAt};
@@ -178,10 +178,10 @@ impl<D: Sectors> ShopDrive<D> {
             → IsRelAt (D.history.image self.old.disk) l c.entry f
             → Changes D.history self.old.disk self.new.disk (writes_for f c text.now)
             (IsOnTheWay (D.history.image self.old.disk) text.now c l f) }
-        ensures uncounted { (c : Channel) (l : Layout) (f : File) → tables.IsOn self.old.channel 2 c
+        ensures one_step { (c : Channel) (l : Layout) (f : File) → tables.IsOn self.old.channel 2 c
             → IsRelAt (D.history.image self.old.disk) l c.entry f → c.record_number ≤ records_had f
             → IsInOneBlock (record_length f.slot) c.record_number
-            → OnErr result (D.history.writes self.new.disk ≡ D.history.writes self.old.disk) }
+            → OnErr result (FailsInOneStep D.history self.old.disk self.new.disk) }
     {
         self.drive.write(2, text)
     }

@@ -1,4 +1,4 @@
-//! The bytes of a log, and what it stands for, as `tests/log_model.py` has worked them out.
+//! The bytes of a log, and what it stands for, as `tests/power/log_model.py` has worked them out.
 use crate::comparing::{same, same_at};
 use crate::logged::logs::{
     began_with, begun, change, commit, head, numbered, stands_for, sum, two_touched, without,

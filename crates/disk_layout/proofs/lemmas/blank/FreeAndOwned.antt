@@ -1,7 +1,7 @@
 -- On a clean image the free sectors outside track 18 and those that files own there are 664 together.
 use Rattle.std.proofs.Common.{Bool, List, [], append-nil, ap, length-append, arith, cond, false, inl, inr}
 use Rattle.std.proofs.Common.{length, refl}
-use Rattle.std.proofs.Common.{sym, true, ℕ, ◌++◌, ◌+◌, ◌∙◌, ◌∷◌, ◌≡◌, ◌≢◌, ◌≤◌, ◌⊎◌}
+use Rattle.std.proofs.Common.{sym, true, ℕ, ◌++◌, ◌+◌, ◌-◌, ◌∙◌, ◌∷◌, ◌≡◌, ◌≢◌, ◌≤◌, ◌⊎◌}
 use Rattle.std.proofs.lemmas.Bool.{cases_eq}
 use Rattle.std.proofs.lemmas.Bool.Decides.{nat_tests}
 use Rattle.std.proofs.lemmas.Grind.{flat_map-append}
@@ -165,3 +165,30 @@ Fits-free img l n r f h there fits =
       filter-short (file_owns f),
       length-append f.blocks f.sides,
     )
+
+-- distinct sectors outside track 18 are 664 at most
+pub owned-most : (ps : List Place) → EachOnce ps → length (filter (λ p. not (nat_eq p.track 18)) ps) ≤ 664
+owned-most ps once =
+    let rest : ℕ → ℕ → ℕ = λ t s. 1 - hits ps t s in
+    let both = sym (over-plus 35 rest (hits ps))
+    ∙ over-same 35 (λ t s. rest t s + hits ps t s) (λ t s. 1)
+    (λ t s low ne on. few (record { track = t; sector = s; on_disk = on })) ∙ over-all in
+    omega (arith, both, over-hits ps)
+  where
+    few : (q : Place) → 1 - hits ps q.track q.sector + hits ps q.track q.sector ≡ 1
+    few q = elim (hits-one q ps once) [
+      | inl own ↦ let one = own.1 in omega (arith, one)
+      | inr out ↦ let none = hits-none q ps out in omega (arith, none)
+    ]
+
+-- and so are those that the other files of a layout own
+pub others-most : (l : Layout) (n : ℕ) (f : File) → slice_get l.files n ≡ Some f → EachOnce (map_place ∷ owners l)
+    → taken_by_others l n ≤ 664
+unfolding owners
+others-most l n f there once =
+    let F : List Place = flat_map file_owns l.files in
+    let parts : length (filter outside (l.directory ++ F)) ≡ length (filter outside l.directory)
+    + length (filter outside F)
+    = ap (λ (ps : List Place). length ps) (filter-append outside l.directory F)
+    ∙ length-append (filter outside l.directory) (filter outside F) in
+    omega (arith, others-and-own l n f there, owned-most (l.directory ++ F) once.1, parts)

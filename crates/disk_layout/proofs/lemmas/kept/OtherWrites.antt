@@ -55,6 +55,7 @@ module _ {D : Type 0} (S : History D) where
     ok = put-same (S.image d) p had wanted read same;
     err = tt;
     held = start S d (OldOr (S.image d) (put (S.image d) p wanted)) (inl refl);
+    one_step = start S d (OldOr (S.image d) (S.image d)) (inl refl);
     counted = omega arith;
     uncounted = tt;
     reads = refl;

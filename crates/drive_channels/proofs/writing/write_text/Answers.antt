@@ -80,7 +80,7 @@ returns-in-Device g c =
           let of = at-file _ _ l f c.requires.place.found rel in
           written-at g.D.Sectors.history _ _ _ l f _ c.args.text.now c.requires.some
           ((c.in-Err.ensures.file l _ f of).moments)
-          (λ le one. c.in-Err.ensures.uncounted
+          (λ le one. c.in-Err.ensures.one_step
           (subst (λ (k : ℕ). c.args.spot.now.record_number ≤ k) (sym (had-is f c.args.found.now.file of.shows)) le)
           (subst (λ (L : ℕ). IsInOneBlock L c.args.spot.now.record_number) (sym of.shows.size) one)
           (device-other _ c.in-Device.is));

@@ -16,7 +16,7 @@ use Rattle.drive_channels.specs.declared.faults.Dead.{Dead}
 use Rattle.host_session.specs.session.Answering.{IsAnswered}
 use Rattle.host_session.specs.shop.Files.{Files, HasFiles}
 use Rattle.host_session.specs.session.Handling.{kept_writes}
-use Rattle.host_session.specs.session.Keeping.{IsAfterCounted, IsEither, IsKeeping, KeepsAnswer, answer_of, shop_after}
+use Rattle.host_session.specs.session.Keeping.{IsAfterCounted, IsEither, IsKeeping, KeepsAnswer, KeepsOnward, answer_of, shop_after}
 use Rattle.host_session.specs.shop.Selecting.{IsReady}
 use Rattle.host_session.specs.shop.Shop.{IsSettled, IsShop, Shop, results_of, shop_of, start_of}
 use Rattle.host_session.specs.session.Standing.{IsStanding, View}
@@ -64,6 +64,7 @@ module _ {D : Type 0} (S : History D) (x : Seen D) (now : View D) (dead : Bool) 
     module _ (y : Seen D) (res : Result (Unit {0}) Dead) (puts : KeepsAnswer S x y res a c
         (λ f p. kept_writes p.0.stock_file a.body.item (results_of c.newest)))
         (counted : IsSome before → IsAfterCounted S x y a c) (refused : c.pending ≡ false → IsAfterCounted S x y a c)
+        (onward : KeepsOnward S x y a c)
       where
         kept : (f : Files) → HasFiles (S.image x.disk) f → IsKeeping f a c → IsKept S x.disk y.disk f a before c res
         kept f h k = record {
@@ -71,6 +72,7 @@ module _ {D : Type 0} (S : History D) (x : Seen D) (now : View D) (dead : Bool) 
           moments = λ h'. puts.moments f (h', k);
           counted = λ e. counted e f h k;
           refused = λ e. refused e f h k;
+          onward = onward f h k;
           failures = puts.failures;
         }
 

@@ -2,8 +2,9 @@
 use Rattle.std.proofs.Common.{◌≡◌, ◌⊎◌, ℕ, ◌≤◌, ◌<◌, ◌+◌, inl, inr, Bool, false, true, Option, Some, None, sym, ◌∙◌, ap}
 use Rattle.std.proofs.Common.{subst, arith}
 use Rattle.d64_image.specs.History.{Failed, History}
-use Rattle.host_session.specs.Held.{Changes}
+use Rattle.host_session.specs.Held.{Changes, IsOnward}
 use Rattle.d64_image.specs.Images.{Image}
+use Rattle.d64_image.proofs.Moments as devices
 use Rattle.host_session.proofs.lemmas.Held.{changes_weaker, no_change}
 use Rattle.request_cards.specs.declared.reply.Reply.TheVariants.{Syntax, Told}
 use Rattle.request_cards.specs.declared.reply.Word.TheVariants.{Media}
@@ -39,6 +40,10 @@ pub no-moments : {D : Type 0} (S : History D) (d : D) (s : Shop) (o : Option Ask
 no-moments S d s o h = changes_weaker S d d 0 3618 (IsHeld s o) (IsHeld s o) (omega arith) (λ i x. x)
     (no_change S d (IsHeld s o) (inl h))
 
+pub no-onward : {D : Type 0} (S : History D) (d : D) (s : Shop) (o : Option Ask) → IsShop (S.image d) s
+    → IsOnward S d d (λ i. IsShop i s) (λ i. IsShop i (with_state s (after_message (start_of s) s.state o)))
+no-onward S d s o h = inr (devices.start S d (λ i. IsShop i s) h)
+
 -- a request that an open session answered with a word
 module _ {D : Type 0} (S : History D) (old new : View D) (o : Option Ask) (a : Ask) (w : Word) (e : o ≡ Some a)
     (answered : IsAnswered S old new a w) where
@@ -66,6 +71,12 @@ module _ {D : Type 0} (S : History D) (old new : View D) (o : Option Ask) (a : A
       ⊎ IsShop i (with_state s (after_message (start_of s) s.state o)))
   told-moments s h = subst (λ (p : Option Ask). Changes S old.disk new.disk 3618 (IsHeld s p)) (sym e)
       (answered.moments s h)
+
+  pub told-onward : (s : Shop) → IsShop (S.image old.disk) s
+      → IsOnward S old.disk new.disk (λ i. IsShop i s)
+      (λ i. IsShop i (with_state s (after_message (start_of s) s.state o)))
+  told-onward s h = subst (λ (p : Option Ask). IsOnward S old.disk new.disk (λ i. IsShop i s)
+      (λ i. IsShop i (after_option s p))) (sym e) (answered.onward s h)
 
   pub told-writes : (f : Files) (h : HasFiles (S.image old.disk) f)
       → S.writes new.disk ≤ S.writes old.disk + most_writes (shop_of f) h.stock_file o

@@ -1,11 +1,12 @@
 -- The writes of a till's next request, as they stand in calls: the answer, and a first set.
-use Rattle.std.proofs.Common.{ℕ, ◌≡◌, ◌≤◌, ◌+◌, inl, inr, true, false, List, Ok, Err, Result, sym, subst, arith}
+use Rattle.std.proofs.Common.{ℕ, ◌≡◌, ◌≤◌, ◌+◌, inl, inr, true, false, List, Ok, Err, Result, refl, sym, subst, arith, ⊎_elim}
 use Rattle.std.specs.Prelude.{OnErr, OnOk}
-use Rattle.d64_image.specs.History.{History, IfCounted}
-use Rattle.host_session.specs.Held.{Changes}
+use Rattle.d64_image.specs.History.{FailsInOneStep, History, IfCounted, OldOr}
+use Rattle.host_session.specs.Held.{Changes, IsOnward}
 use Rattle.d64_image.specs.Images.{Image}
+use Rattle.d64_image.proofs.Moments as devices
 use Rattle.d64_image.proofs.Moments.{none_counted}
-use Rattle.host_session.proofs.lemmas.Held.{at_end, changes_then, changes_weaker}
+use Rattle.host_session.proofs.lemmas.Held.{at_end, bare, changes_then, changes_weaker}
 use Rattle.request_cards.specs.CardTexts.{Card, card_text}
 use Rattle.request_cards.specs.Requests.{Ask}
 use Rattle.host_session.specs.shop.Completing.{HasIntent, IsCompleted}
@@ -40,10 +41,32 @@ module _ (f : Files) (a : Ask) (c : Card) (t : ℕ) (text : List ℕ) (at : t �
         changes_weaker S x y n m _ _ le (λ i p. putting-either f a c k all i (putting-named i p)) h
 
     pub put-counted : {T E : Type 0} → HasOpenItems f a c k → (x y : D) (res : Result T E)
-        → OnOk res (HasAnswer f t text (S.image y)) → OnErr res (S.writes y ≡ S.writes x)
+        → OnOk res (HasAnswer f t text (S.image y)) → OnErr res (FailsInOneStep S x y)
         → IfCounted S x y (λ i. IsShop i (shop_after (shop_of f) a))
-    put-counted all x y (Ok _) h same = λ lt. kept-shop f a c k all (S.image y) (answer-named (S.image y) h)
-    put-counted all x y (Err _) h same = none_counted S x y (λ i. IsShop i (shop_after (shop_of f) a)) same
+    put-counted all x y (Ok _) h fails = λ lt. kept-shop f a c k all (S.image y) (answer-named (S.image y) h)
+    put-counted all x y (Err _) h fails = none_counted S x y (λ i. IsShop i (shop_after (shop_of f) a)) fails.uncounted
+
+    abbrev Onward : D → D → Type 0
+    Onward x y = IsOnward S x y (λ i. IsShop i (shop_of f)) (λ i. IsShop i (shop_after (shop_of f) a))
+
+    -- a shop whose card is written in one step: the old image and the one at the end are the shop's before, or the last is the
+    -- shop's after
+    still : (x y : D) → HasFiles (S.image x) f → HasFiles (S.image y) f → FailsInOneStep S x y → Onward x y
+    still x y old new fails = inr (devices.weaker S x y (OldOr (S.image x) (S.image y)) (λ i. IsShop i (shop_of f))
+        (λ i. ⊎_elim (λ e. here i old e) (λ e. here i new e)) fails.one_step)
+      where
+        here : (i : Image) {j : Image} → HasFiles j f → i ≡ j → IsShop i (shop_of f)
+        here i has e = subst (λ (o : Image). IsShop o (shop_of f)) (sym e)
+            (record { files = f; has = has; records = k.records; is = refl })
+
+    pub put-onward : {T E : Type 0} → HasOpenItems f a c k → (x y : D) (n : ℕ) (res : Result T E) → HasFiles (S.image x) f
+        → OnOk res (HasAnswer f t text (S.image y)) → OnErr res (FailsInOneStep S x y)
+        → Changes S x y n (IsPuttingAnswer f t text) → Onward x y
+    put-onward all x y n (Ok _) old h fails moments = inl (kept-shop f a c k all (S.image y) (answer-named (S.image y) h))
+    put-onward all x y n (Err _) old h fails moments = elim (at_end S x y (IsPuttingAnswer f t text) moments.held) [
+      | inl new ↦ still x y old new fails
+      | inr new ↦ inl (kept-shop f a c k all (S.image y) (answer-named (S.image y) new))
+    ]
 
     pub put-settled : {T E : Type 0} → c.pending ≡ false → (y : Seen D) (res : Result T E)
         → OnOk res (HasAnswer f t text (S.image y.disk)) → OnOk res (IsReady S y)
@@ -70,6 +93,11 @@ module _ (f : Files) (a : Ask) (c : Card) (t : ℕ) (text : List ℕ) (at : t �
         → IfCounted S x z (λ i. IsShop i (shop_after (shop_of f) a))
     intent-counted x y z n rest = λ lt. subst (λ (u : Shop). IsShop (S.image z) u) (same-shop f a c k)
         (at_end S y z (λ i. IsShop i (shop_of (with_it f a c k))) rest.held)
+
+    -- once the intent is there, the shop is the one after the request
+    pub intent-onward : (x y z : D) (n : ℕ) → Changes S y z n (λ i. IsShop i (shop_of (with_it f a c k))) → Onward x z
+    intent-onward x y z n rest = inl (subst (λ (u : Shop). IsShop (S.image z) u) (same-shop f a c k)
+        (at_end S y z (λ i. IsShop i (shop_of (with_it f a c k))) rest.held))
 
     pub intent-settled : {T E : Type 0} (d : Seen D) (res : Result T E)
         → OnOk res (IsCompleted (with_it f a c k) t c (S.image d.disk)) → OnOk res (IsReady S d)
@@ -100,3 +128,20 @@ module _ (f : Files) (a : Ask) (c : Card) (k : IsKeeping f a c) {D : Type 0} (S 
       → OnOk res (IsSettled (S.image z) (shop_after (shop_of f) a))
   first-settled m b z res x = subst (λ (s : Shop). OnOk res (IsSettled (S.image z) (shop_after s a))) (grown-same f m b)
       x
+
+  abbrev IsShopOf : Image → Type 0
+  IsShopOf i = IsShop i (shop_of f)
+
+  pub growing-onward : (x y : D) (n : ℕ) → Changes S x y n (HasGrown f)
+      → IsOnward S x y (λ i. IsShop i (shop_of f)) (λ i. IsShop i (shop_after (shop_of f) a))
+  growing-onward x y n g = inr (bare S x y IsShopOf (grown-shop_moments S x y f n k.records g).held)
+
+  pub first-onward : (m b : ℕ) (x y z : D) (n : ℕ) → Changes S x y n (HasGrown f)
+      → IsOnward S y z (λ i. IsShop i (shop_of (grown f m b))) (λ i. IsShop i (shop_after (shop_of (grown f m b)) a))
+      → IsOnward S x z (λ i. IsShop i (shop_of f)) (λ i. IsShop i (shop_after (shop_of f) a))
+  first-onward m b x y z n g rest =
+      elim (subst (λ (s : Shop). IsOnward S y z (λ i. IsShop i s) (λ i. IsShop i (shop_after s a))) (grown-same f m b) rest) [
+        | inl after ↦ inl after
+        | inr held ↦ inr (devices.then S x y z IsShopOf
+            (bare S x y IsShopOf (grown-shop_moments S x y f n k.records g).held) held)
+      ]

@@ -5,7 +5,7 @@ use Rattle.std.specs.Prelude.{IsSome, OnOk, None, Option, is_none, nat_le, nat_l
 use Rattle.std.proofs.lemmas.Bool.{and_from, and_parts, cases_Bool, eq-eqb, eqb-false, eqb-true, false≢true, le-leb}
 use Rattle.std.proofs.lemmas.Bool.{le-ltb, leb-true, ltb-false, ne_eqb}
 use Rattle.d64_image.specs.History.{History, IfCounted, TellsFailure}
-use Rattle.host_session.specs.Held.{Changes}
+use Rattle.host_session.specs.Held.{Changes, IsOnward}
 use Rattle.d64_image.specs.Images.{Image}
 use Rattle.host_session.proofs.lemmas.Held.{changes_weaker}
 use Rattle.request_cards.specs.declared.answer.Answer.{Answer}
@@ -112,6 +112,7 @@ pub record IsKept {D E : Type 0} (S : History D) (old new : D) (f : Files) (a : 
       → Changes S old new (kept_writes h.stock_file a.body.item (results_of c.newest)) (IsEither (shop_of f) a)
   pub counted : IsSome before → IfCounted S old new (λ i. IsShop i (shop_after (shop_of f) a))
   pub refused : c.pending ≡ false → IfCounted S old new (λ i. IsShop i (shop_after (shop_of f) a))
+  pub onward : IsOnward S old new (λ i. IsShop i (shop_of f)) (λ i. IsShop i (shop_after (shop_of f) a))
   pub failures : TellsFailure S old new res
 
 module _ {D : Type 0} (S : History D) (x y : View D) (f : Files) (h : HasFiles (S.image x.disk) f) (a : Ask)
@@ -131,6 +132,13 @@ module _ {D : Type 0} (S : History D) (x y : View D) (f : Files) (h : HasFiles (
       (changes_weaker S x.disk y.disk _ 3618 (IsEither (shop_of f) a) (λ i. IsShop i (shop_of f)
       ⊎ IsShop i (after_ask (shop_of f) a)) (kept-within f a c k (S.image x.disk) h)
       (λ i e. subst (λ (u : Shop). IsShop i (shop_of f) ⊎ IsShop i u) ends e) (w.moments h))
+
+  told-onward : {E : Type 0} {res : Result (Unit {0}) E} → IsKept S x.disk y.disk f a before c res
+      → (t : Shop) → IsShop (S.image x.disk) t
+      → IsOnward S x.disk y.disk (λ i. IsShop i t) (λ i. IsShop i (after_ask t a))
+  told-onward w = of-shop (S.image x.disk) (shop_of f) (λ (t : Shop). IsOnward S x.disk y.disk (λ i. IsShop i t)
+      (λ i. IsShop i (after_ask t a))) here
+      (subst (λ (u : Shop). IsOnward S x.disk y.disk (λ i. IsShop i (shop_of f)) (λ i. IsShop i u)) ends w.onward)
 
   -- what the drive's keeping of the request may hold on the way
   abbrev pub KeptMoments : Type 0
@@ -188,6 +196,7 @@ module _ {D : Type 0} (S : History D) (x y : View D) (f : Files) (h : HasFiles (
           alive,
         ) t it;
     moments = told-moments w;
+    onward = told-onward w;
     writes = told-writes all;
     counted = told-counted w;
     failures = inr (kept-other answer, w.failures);
@@ -198,6 +207,7 @@ module _ {D : Type 0} (S : History D) (x y : View D) (f : Files) (h : HasFiles (
   told-dead fault w all dead = record {
     reply = λ t it other. absurd (other refl);
     moments = told-moments w;
+    onward = told-onward w;
     writes = told-writes all;
     counted = told-counted w;
     failures = inl (refl, dead, w.failures);

@@ -5,6 +5,7 @@ use Rattle.std.specs.Prelude.{nat_lt, ◌==◌, if◌then◌else◌}
 use Rattle.std.proofs.lemmas.Bool.{cases_Bool, cond_both, false≢true}
 use Rattle.d64_image.specs.History.{History}
 use Rattle.d64_image.specs.Images.{Image}
+use Rattle.d64_image.proofs.Moments as devices
 use Rattle.host_session.proofs.lemmas.Held.{changes_weaker, no_change}
 use Rattle.request_cards.specs.declared.reply.Word.{Word}
 use Rattle.request_cards.specs.declared.reply.Word.TheVariants as words
@@ -103,6 +104,7 @@ module _ {D : Type 0} (S : History D) (x : View D) (img : Image) (same : S.image
             (standing-settled img (S.image x.disk) dead l same v alive s h),
         living,
       );
+      onward = λ s h. inr (devices.start S x.disk (λ i. IsShop i s) h);
       moments = λ s h. changes_weaker S x.disk x.disk 0 3618 _ _ (omega arith) (λ i p. p)
           (no_change S x.disk (λ i. IsShop i s ⊎ IsShop i (after_ask s a)) (inl h));
       writes = λ f h. omega arith;

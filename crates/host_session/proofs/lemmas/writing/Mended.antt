@@ -35,7 +35,7 @@ module _ (a c : Image) (f g : File) (e : stays_of c g ≡ stays_of a f) where
   stay-kind : type_byte g.slot ≡ type_byte f.slot
   stay-kind = entry-byte g.slot.bytes f.slot.bytes (ap (λ (s : Stays). s.entry) e) 0 (omega arith)
 
-  stay-length : record_length g.slot ≡ record_length f.slot
+  pub stay-length : record_length g.slot ≡ record_length f.slot
   stay-length = entry-byte g.slot.bytes f.slot.bytes (ap (λ (s : Stays). s.entry) e) 21 (omega arith)
 
   stay-name : slice_range g.slot.bytes 5 21 ≡ slice_range f.slot.bytes 5 21
@@ -51,7 +51,7 @@ module _ (a c : Image) (f g : File) (e : stays_of c g ≡ stays_of a f) where
     sides = (e i).sides;
   }
 
-  stay-records : records c g ≡ records a f
+  pub stay-records : records c g ≡ records a f
   unfolding records
   stay-records =
       let bytes : joined c g.blocks ≡ joined a f.blocks = joined-sectors c g.blocks

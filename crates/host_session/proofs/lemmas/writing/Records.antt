@@ -61,10 +61,10 @@ module _ (old : Image) (f g : Files) (h : HasFiles old f) (k r : ℕ) (same : k 
             (subst (λ (L : ℕ). touched L (suc j) 1 ≤ 1) (sym h.requests_length) (answer-once j))
             (λ i w. writing-files old i f h j le text long w) x
 
-    pub answer-uncounted : {T E : Type 0} (res : Result T E) (P : Type 0)
+    pub answer-one_step : {T E : Type 0} (res : Result T E) (P : Type 0)
         → ((l : Layout) (n : ℕ) (x : File) → IsPlaced old (codes "REQUESTS") k l n x
         → IsInOneBlock (record_length x.slot) k → OnErr res P) → OnErr res P
-    answer-uncounted res P all = all h.layout h.requests_place h.requests_file answer-at
+    answer-one_step res P all = all h.layout h.requests_place h.requests_file answer-at
         (subst (λ (L : ℕ). IsInOneBlock L k) (sym h.requests_length) (subst (λ (j : ℕ). IsInOneBlock 127 j) (sym same)
         (by r low)))
       where

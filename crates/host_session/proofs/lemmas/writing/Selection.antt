@@ -5,10 +5,10 @@ use Rattle.std.specs.Prelude.{OnOk, OnErr, if◌then◌else◌}
 use Rattle.std.proofs.lemmas.Bool.{false≢true}
 use Rattle.std.proofs.lemmas.List.{append-nil}
 use Rattle.std.proofs.lemmas.Option.{same_Some}
-use Rattle.d64_image.specs.History.{History, OnlyReads, TellsFailure}
+use Rattle.d64_image.specs.History.{FailsInOneStep, History, OnlyReads, TellsFailure}
 use Rattle.host_session.specs.Held.{Changes}
 use Rattle.d64_image.specs.Images.{Image}
-use Rattle.d64_image.proofs.Moments.{no_reads, reads_weaker}
+use Rattle.d64_image.proofs.Moments.{no_reads, reads_then_fails, reads_weaker}
 use Rattle.d64_image.specs.History as devices
 use Rattle.host_session.proofs.lemmas.Held.{changes_enrich, writing-whole, changes_then, changes_weaker, reads_change}
 use Rattle.d64_image.proofs.Told.{told_after}
@@ -203,10 +203,10 @@ written-moments {D} S d0 d1 d2 name text number k l n f reads at some p change =
     (changes_enrich S d1.disk d2.disk _ _ w (λ whole i h. writing-whole (S.image d1.disk) l n f 0 number 1 text i
     (placed-on-the-way (S.image d1.disk) text l n number f le some i h) (λ never. refl) whole)))
 
-pub uncounted-after : {D T E : Type 0} (S : History D) (a b c : D) (r : Result T E) → S.writes b ≡ S.writes a
-    → OnErr r (S.writes c ≡ S.writes b) → OnErr r (S.writes c ≡ S.writes a)
-uncounted-after S a b c (Ok x) same h = tt
-uncounted-after S a b c (Err e) same h = h ∙ same
+pub fails-after : {D T E : Type 0} (S : History D) (a b c : D) (r : Result T E) (n : ℕ) → OnlyReads S a b n
+    → OnErr r (FailsInOneStep S b c) → OnErr r (FailsInOneStep S a c)
+fails-after S a b c (Ok x) n reads h = tt
+fails-after S a b c (Err e) n reads h = reads_then_fails S a b c n reads h
 
 -- the record is there in the same image
 pub moved-to : {D : Type 0} (S : History D) (a b : D) (name : List ℕ) (r : ℕ) (l : Layout) (n : ℕ) (f : File)

@@ -51,16 +51,35 @@ module _ {F : Type 0} (L : Lasting F) (old new : F) (p : Place) (bytes : List �
       ⊎ (image_of (L.bytes new) ≡ put_kept (image_of (L.bytes old)) p bytes)
   kept_either x = ⊎_elim (λ e. inl (ap image_of e)) (λ e. inr (ap image_of e ∙ next_image)) x.now
 
-  among : (all : List ℕ) (c : Image) → image_of (Some all) ≡ Some c → (L.bytes old ≡ Some all) ⊎ (next ≡ Some all)
+  -- the bytes of the end are those of the start, or the next ones
+  among : StaysOr L old new next → (all : List ℕ) (c : Image) → image_of (Some all) ≡ Some c
+      → (L.bytes old ≡ Some all) ⊎ (L.bytes new ≡ Some all)
       → (image_of (L.bytes old) ≡ Some c) ⊎ (put_kept (image_of (L.bytes old)) p bytes ≡ Some c)
-  among all c e h = ⊎_elim (λ s. inl (ap image_of s ∙ e)) (λ s. inr (sym next_image ∙ ap image_of s ∙ e)) h
+  among x all c e h = ⊎_elim (λ s. inl (ap image_of s ∙ e))
+      (λ s. ⊎_elim (λ n. inl (ap image_of (sym n ∙ s) ∙ e)) (λ n. inr (sym next_image ∙ ap image_of (sym n ∙ s) ∙ e)) x.now)
+      h
+
+  -- and so are the images
+  at_ends : (all : List ℕ) (c : Image) → image_of (Some all) ≡ Some c
+      → (L.bytes old ≡ Some all) ⊎ (L.bytes new ≡ Some all)
+      → (image_of (L.bytes old) ≡ Some c) ⊎ (image_of (L.bytes new) ≡ Some c)
+  at_ends all c e h = ⊎_elim (λ s. inl (ap image_of s ∙ e)) (λ s. inr (ap image_of s ∙ e)) h
+
+  pub each_at_ends : StaysOr L old new next → (c : Image) → stayed_image L new (L.moment old) c
+      → (image_of (L.bytes old) ≡ Some c) ⊎ (image_of (L.bytes new) ≡ Some c)
+  each_at_ends x c h = at_ends h.0 c h.2 (x.each h.0 h.1)
+
+  pub before_at_ends : StaysOr L old new next → (t : ℕ) (c : Image) → t ≤ L.moment old → stayed_image L new t c
+      → stayed_image L old t c ⊎ ((image_of (L.bytes old) ≡ Some c) ⊎ (image_of (L.bytes new) ≡ Some c))
+  before_at_ends x t c le h =
+      ⊎_elim (λ s. inl (h.0, s, h.2)) (λ s. inr (at_ends h.0 c h.2 s)) (x.before t h.0 le h.1)
 
   pub each_image : StaysOr L old new next → (c : Image) → stayed_image L new (L.moment old) c
       → (image_of (L.bytes old) ≡ Some c) ⊎ (put_kept (image_of (L.bytes old)) p bytes ≡ Some c)
-  each_image x c h = among h.0 c h.2 (x.each h.0 h.1)
+  each_image x c h = among x h.0 c h.2 (x.each h.0 h.1)
 
   pub before_image : StaysOr L old new next → (t : ℕ) (c : Image) → t ≤ L.moment old → stayed_image L new t c
       → stayed_image L old t c
       ⊎ ((image_of (L.bytes old) ≡ Some c) ⊎ (put_kept (image_of (L.bytes old)) p bytes ≡ Some c))
   before_image x t c le h =
-      ⊎_elim (λ s. inl (h.0, s, h.2)) (λ s. inr (among h.0 c h.2 s)) (x.before t h.0 le h.1)
+      ⊎_elim (λ s. inl (h.0, s, h.2)) (λ s. inr (among x h.0 c h.2 s)) (x.before t h.0 le h.1)

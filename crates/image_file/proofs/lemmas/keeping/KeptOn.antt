@@ -29,9 +29,10 @@ seen_stays W false old new stays = record {
 module _ {F : Type 0} {G : Ghosts F} (a b : ImageFile F G) (grows : GrowsOn a b) where
   stays_kept : StaysOr (seen_of a) a.file b.file ((seen_of a).bytes a.file) → KeepsOn a b
   stays_kept stays =
-      let one : (all : List ℕ) → ((seen_of a).bytes a.file ≡ Some all) ⊎ ((seen_of a).bytes a.file ≡ Some all)
+      let same : (seen_of a).bytes b.file ≡ (seen_of a).bytes a.file = ⊎_elim (λ s. s) (λ s. s) stays.now in
+      let one : (all : List ℕ) → ((seen_of a).bytes a.file ≡ Some all) ⊎ ((seen_of a).bytes b.file ≡ Some all)
       → (seen_of a).bytes a.file ≡ Some all =
-      λ all h. ⊎_elim (λ s. s) (λ s. s) h in
+      λ all h. ⊎_elim (λ s. s) (λ s. sym same ∙ s) h in
       record {
         kept = seen_so a b grows (λ M. image_of (M.bytes b.file) ≡ placed.kept a)
             (⊎_elim (λ s. ap image_of s) (λ s. ap image_of s) stays.now);

@@ -4,7 +4,7 @@ use Rattle.std.proofs.Common.{arith, inl, length, refl, subst, sym}
 use Rattle.std.specs.Prelude.{OnErr, OnOk}
 use Rattle.std.proofs.lemmas.Result.{on_ok_weaker}
 use Rattle.d64_image.specs.Images.{IsSector}
-use Rattle.d64_image.specs.Keeps.{KeepsSector, KeptOnly, TellsFileFailure, put_kept}
+use Rattle.d64_image.specs.Keeps.{KeepsSector, KeptInOneStep, KeptOnly, TellsFileFailure, put_kept}
 use Rattle.d64_image.specs.Offsets.{offset_of}
 use Rattle.d64_image.specs.Places.{index_of}
 use Rattle.d64_image.specs.declared.place.Place.{Place}
@@ -22,7 +22,7 @@ use Rattle.image_file.specs.LastingImages.{image_of, stayed_image}
 use Rattle.image_file.specs.ImageFile.{GrowsOn, placed, seen_of}
 use Rattle.image_file.specs.declared.durability.WritesAt.{Ghosts}
 use Rattle.image_file.specs.declared.sectors.ImageFile.{ImageFile}
-use Rattle.image_file.proofs.lemmas.keeping.Kept.{before_image, each_image, kept_either, kept_ok}
+use Rattle.image_file.proofs.lemmas.keeping.Kept.{before_at_ends, before_image, each_at_ends, each_image, kept_either, kept_ok}
 
 -- a sector of a disk lies in the file of its image
 pub sector_in : (o : Option (List ℕ)) (p : Place) (n : ℕ) (bytes : List ℕ) → IsSector bytes → n ≡ offset_of p
@@ -95,6 +95,20 @@ module _ {F : Type 0} {G : Ghosts F} (a b : ImageFile F G) (p : Place) (bytes : 
         (seen_back a b grows (λ M. stayed_image M b.file t c) h);
   }
 
+  step_so : StaysOr L a.file b.file (overwritten_in (L.bytes a.file) (offset_of p) bytes) → KeptInOneStep placed a b
+  step_so stays = record {
+    reached = grows;
+    later = seen_so a b grows (λ M. L.moment a.file ≤ M.moment b.file) stays.later;
+    each = λ c h. seen_so a b grows (λ M. (placed.kept a ≡ Some c) ⊎ (image_of (M.bytes b.file) ≡ Some c))
+        (each_at_ends L a.file b.file p bytes is a.whole stays c
+        (seen_back a b grows (λ M. stayed_image M b.file (L.moment a.file) c) h));
+    before = λ t c le h.
+        seen_so a b grows (λ M. stayed_image L a.file t c
+        ⊎ ((placed.kept a ≡ Some c) ⊎ (image_of (M.bytes b.file) ≡ Some c)))
+        (before_at_ends L a.file b.file p bytes is a.whole stays t c le
+        (seen_back a b grows (λ M. stayed_image M b.file t c) h));
+  }
+
   pub keeps_so : {E : Type 0} (r : Result Unit E) → TakesSector L a.file b.file (offset_of p) bytes r
       → OnOk r (b.taken ≤ a.taken + 1) → OnErr r (b.taken ≡ a.taken) → TellsFileFailure placed a b r
       → KeepsSector placed a b p bytes r
@@ -109,6 +123,7 @@ module _ {F : Type 0} {G : Ghosts F} (a b : ImageFile F G) (p : Place) (bytes : 
         ⊎ (image_of (M.bytes b.file) ≡ put_kept (placed.kept a) p bytes))
         (kept_either L a.file b.file p bytes is a.whole takes.stays));
     held = held_so takes.stays;
+    one_step = step_so takes.stays;
     counted = counted;
     uncounted = uncounted;
     failures = failures;

@@ -8,7 +8,7 @@ returns-in-Ok g c = record {
   err = tt;
   held = c.write_sector.ensures.held;
   writes = c.in-Ok.ensures.counted;
-  uncounted = λ one. tt;
+  one_step = λ one. tt;
   reads = omega (arith, c.write_sector.ensures.reads);
   failures = c.in-Ok.ensures.failures;
 }
@@ -19,7 +19,7 @@ returns-in-Err g c = record {
   err = refl;
   held = c.write_sector.ensures.held;
   writes = omega (arith, c.in-Err.ensures.uncounted);
-  uncounted = λ one. c.in-Err.ensures.uncounted;
+  one_step = λ one. record { uncounted = c.in-Err.ensures.uncounted; one_step = c.in-Err.ensures.one_step };
   reads = omega (arith, c.write_sector.ensures.reads);
   failures = c.in-Err.ensures.failures;
 }

@@ -4,7 +4,7 @@ use Rattle.std.proofs.Common.{length, length-append, refl, sym, ◌≤◌}
 use Rattle.std.proofs.lemmas.Result.{on_ok_weaker}
 use Rattle.std.specs.Prelude.{IfSome, None, Option, Some}
 use Rattle.std.specs.Result.{IsErrAnd}
-use Rattle.d64_image.proofs.Moments.{then, weaker}
+use Rattle.d64_image.proofs.Moments.{read_fails, reads_then_fails, then, weaker}
 use Rattle.d64_image.specs.History.{History, OnlyReads}
 use Rattle.d64_image.specs.Images.{Image, Sector, put}
 use Rattle.d64_image.specs.declared.place.Place.{Place}
@@ -60,7 +60,7 @@ module _ {D : Type 0} (S : History D) (a b : D) where
     held = weaker S a b _ _ (λ c is. subst (IsPutSoFar puts (S.image a)) (sym is) (none-so-far puts (S.image a)))
         h.reads.held;
     writes = omega (arith, h.reads.writes);
-    uncounted = λ one. h.reads.writes;
+    one_step = λ one. read_fails S a b m h.reads;
     reads = omega (arith, h.reads.reads, le);
     failures = h.failures;
   }
@@ -73,7 +73,7 @@ module _ {D : Type 0} (S : History D) (a b : D) where
     err = h.err;
     held = weaker S a b _ _ (so-far-left xs ys (S.image a)) h.held;
     writes = omega (arith, h.writes, length-append xs ys);
-    uncounted = λ one. absurd (omega (arith, one, more));
+    one_step = λ one. absurd (omega (arith, one, more));
     reads = omega (arith, h.reads, le);
     failures = h.failures;
   }
@@ -88,7 +88,7 @@ module _ {D : Type 0} (S : History D) (a b : D) where
         (none-so-far puts (S.image a))) reads.held)
         (weaker S b c _ _ (λ c. subst (λ i. IsPutSoFar puts i c) reads.image) h.held);
     writes = omega (arith, h.writes, reads.writes);
-    uncounted = λ one. error-then r _ _ (λ e. e ∙ reads.writes) (h.uncounted one);
+    one_step = λ one. error-then r _ _ (reads_then_fails S a b c m reads) (h.one_step one);
     reads = omega (arith, h.reads, reads.reads);
     failures = tells-rel-after S a b c told r h.failures;
   }
@@ -104,7 +104,7 @@ module _ {D : Type 0} (S : History D) (a b : D) where
         (weaker S b c _ _ (λ c h. so-far-right xs ys (S.image a) c (subst (λ i. IsPutSoFar ys i c) first.ok h))
         second.held);
     writes = omega (arith, first.writes, second.writes, length-append xs ys);
-    uncounted = λ one. absurd (omega (arith, one, more));
+    one_step = λ one. absurd (omega (arith, one, more));
     reads = omega (arith, first.reads, second.reads);
     failures = tells-rel-after S a b c first.failures r second.failures;
   }

@@ -2,7 +2,7 @@
 use Rattle.std.proofs.Common.{Err, IfErr, List, Ok, Result, arith, inl, inr, length, refl, subst, sym, ℕ, ◌+◌, ◌<◌, ◌∙◌, ◌≡◌, ◌≤◌}
 use Rattle.std.proofs.lemmas.Result.{IfErr-weaker, on_ok_weaker}
 use Rattle.std.specs.Prelude.{OnOk}
-use Rattle.d64_image.proofs.Moments.{at_end}
+use Rattle.d64_image.proofs.Moments.{at_end, read_fails, reads_then_fails}
 use Rattle.d64_image.specs.History.{Changes, History}
 use Rattle.disk_layout.specs.Layout.{File, Layout, record_length}
 use Rattle.rel_records.proofs.lemmas.Told.{cut-tells, device-not-full, device-not-overflow, overflow-not-full}
@@ -37,7 +37,7 @@ growth-refused S a b v w r pos text e g = record {
   same = refused-undone (Err e) e refl g.told;
   told = inr g.told;
   refused = λ ne over. g.refused ne;
-  uncounted = λ le one over. (g.quiet le).2.writes;
+  one_step = λ le one over. read_fails S a b 0 (g.quiet le).2;
   reads = omega (arith, g.reads);
   few = λ le. omega (arith, (g.quiet le).2.reads);
   entry = g.entry;
@@ -85,9 +85,9 @@ module _ {D : Type 0} (S : History D) (a b c : D) (v w : RelFile) (r pos : ℕ) 
     same = undone;
     told = inr (inr (inr h.err));
     refused = λ ne. absurd (ne h.err);
-    uncounted = λ le one over.
+    one_step = λ le one over.
         let P : ℕ → Type 0 = λ s. IsInOneBlock s r in
-        h.uncounted (subst P (sym g.same) one) ∙ (g.quiet le).2.writes;
+        reads_then_fails S a b c 0 (g.quiet le).2 (h.one_step (subst P (sym g.same) one));
     reads = omega (arith, h.reads, g.reads);
     few = λ le. omega (arith, h.reads, (g.quiet le).2.reads);
     entry = g.entry;
@@ -126,7 +126,7 @@ module _ {D : Type 0} (S : History D) (a b c : D) (v w : RelFile) (r pos : ℕ) 
     same = λ done. g.same;
     told = IfErr-weaker told _ _ (λ e o. inl o.0) over;
     refused = IfErr-weaker told _ _ (λ e o ne not. absurd (not o.0)) over;
-    uncounted = λ le one. IfErr-weaker told _ _ (λ e o not. absurd (not o.0)) over;
+    one_step = λ le one. IfErr-weaker told _ _ (λ e o not. absurd (not o.0)) over;
     reads = omega (arith, h.reads, g.reads);
     few = λ le. omega (arith, h.reads, (g.quiet le).2.reads);
     entry = g.entry;

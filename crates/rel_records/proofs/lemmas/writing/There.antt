@@ -3,7 +3,7 @@ use Rattle.std.proofs.Common.{Err, List, Some, ⊎_elim, arith, slice_index, sub
 use Rattle.std.proofs.Common.{Result, length, refl}
 use Rattle.std.proofs.lemmas.Result.{on_ok_weaker}
 use Rattle.std.specs.Prelude.{IfSome, slice_get}
-use Rattle.d64_image.proofs.Moments.{changes_weaker, reads_change, weaker}
+use Rattle.d64_image.proofs.Moments.{changes_weaker, read_fails, reads_change, weaker}
 use Rattle.d64_image.specs.History.{History}
 use Rattle.d64_image.specs.Images.{Image, sector}
 use Rattle.d64_image.specs.declared.place.Place.{Place}
@@ -34,7 +34,7 @@ wrote-none S a b v r pos text m most e P few h = record {
         (IsWriting (S.image a) l n f 0 r pos text) h.reads (old-moment (S.image a) (S.image a) l n f v r pos text of));
   };
   err = h.err;
-  uncounted = λ one. h.reads.writes;
+  one_step = λ one. read_fails S a b m h.reads;
   reads = omega (arith, h.reads.reads, few);
   failures = h.failures;
 }
@@ -74,7 +74,7 @@ module _ {D : Type 0} (S : History D) (a b : D) (v : RelFile) (r pos block : ℕ
           };
         };
     err = put.err;
-    uncounted = λ one. put.uncounted (omega arith);
+    one_step = λ one. put.one_step (omega arith);
     reads = omega (arith, put.reads, few);
     failures = put.failures;
   }
@@ -111,7 +111,7 @@ module _ {D : Type 0} (S : History D) (a b : D) (v : RelFile) (r pos block : ℕ
           };
         };
     err = let (l, n, f, of) = there.of in (both l n f of).2.err;
-    uncounted = λ one. absurd (omega (arith, one, over, inside, one-more r (length_of v) there.low));
+    one_step = λ one. absurd (omega (arith, one, over, inside, one-more r (length_of v) there.low));
     reads = let (l, n, f, of) = there.of in omega (arith, (both l n f of).2.reads, few);
     failures = let (l, n, f, of) = there.of in (both l n f of).2.failures;
   }

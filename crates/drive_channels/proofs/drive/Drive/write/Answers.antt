@@ -1,6 +1,7 @@
 use Rattle.drive_channels.proofs.Steady.{orderly, served, still-dead}
 use Rattle.drive_channels.proofs.Written.{begins, idle}
-use Rattle.d64_image.specs.History.{History}
+use Rattle.d64_image.proofs.Moments.{no_reads, read_fails}
+use Rattle.d64_image.specs.History.{FailsInOneStep, History}
 use Rattle.drive_channels.specs.Calls.{WritesOn}
 use Rattle.drive_channels.specs.Inside.{seen_of}
 use Rattle.drive_channels.specs.declared.faults.Dead.{Dead}
@@ -25,7 +26,7 @@ returns-then-self g c = record {
   refused = tt;
   reads = omega arith;
   moments = λ ch l f on rel. idle g.D.Sectors.history _ _ _ (begins _ _ ch l f rel);
-  uncounted = λ ch l f on rel there one. refl;
+  one_step = λ ch l f on rel there one. read_fails g.D.Sectors.history _ _ 0 (no_reads g.D.Sectors.history _);
 }
 
 pub returns : goal.returns
@@ -47,18 +48,18 @@ returns g c =
       refused = rw (← c.self.view_is) w.refused;
       -- each is that of the call below, in the drive's fields
       moments = rw (← c.self.view_is) (λ ch l f on rel. (w.writes.at ch l f on rel).moments);
-      uncounted = λ ch l f on rel there one. tt;
+      one_step = λ ch l f on rel there one. tt;
     }
 
 pub returns-in_default-clause-moments : goal.returns-in_default-clause-moments
 returns-in_default-clause-moments g c = rw (← c.self.view_is)
     (λ ch l f on rel. (c.write.ensures.writes.at ch l f on rel).moments)
 
-pub returns-in_default-clause-uncounted : goal.returns-in_default-clause-uncounted
-returns-in_default-clause-uncounted g c = rw (← c.self.view_is) (λ ch l f on rel there one.
-    subst (λ (r : Result Status Dead). OnErr r (g.D.Sectors.history.writes c.write.new.disk
-    ≡ g.D.Sectors.history.writes c.self.inside.disk)) c.in_default.is
-    ((c.write.ensures.writes.at ch l f on rel).uncounted there one))
+pub returns-in_default-clause-one_step : goal.returns-in_default-clause-one_step
+returns-in_default-clause-one_step g c = rw (← c.self.view_is) (λ ch l f on rel there one.
+    subst (λ (r : Result Status Dead). OnErr r (FailsInOneStep g.D.Sectors.history c.self.inside.disk c.write.new.disk))
+    c.in_default.is
+    ((c.write.ensures.writes.at ch l f on rel).one_step there one))
 
 pub write-requires : goal.write-requires
 write-requires g c = record { known = c.self.invariant c.if-self.false }

@@ -43,7 +43,8 @@ invariant_of-self g c = (
       c.decide-outcome.result c.decide-outcome.ensures.rule
       c.next_card-card.result c.next_card-card.ensures c.on_hand-before.result
       (c.on_hand-before.ensures.value ∙ ap (nth c.self.inside.ledger.cards) c.item.ensures.value)
-      c.store_answer.new.drive c.store_answer.result c.store_answer.ensures.puts c.store_answer.ensures.counted c.store_answer.ensures.refused,
+      c.store_answer.new.drive c.store_answer.result c.store_answer.ensures.puts c.store_answer.ensures.counted c.store_answer.ensures.refused
+      c.store_answer.ensures.onward,
   λ e. absurd (false≢true (sym e)),
 )
 
@@ -55,6 +56,7 @@ returns-in_default g c =
     c.next_card-card.result c.next_card-card.ensures c.on_hand-before.result
     (c.on_hand-before.ensures.value ∙ ap (nth c.self.inside.ledger.cards) c.item.ensures.value)
     c.store_answer.new.drive c.store_answer.result c.store_answer.ensures.puts c.store_answer.ensures.counted c.store_answer.ensures.refused
+    c.store_answer.ensures.onward
     c.in_default.field-0 c.in_default.is
 
 pub invariant_of-self-2 : goal.invariant_of-self-2
@@ -65,6 +67,7 @@ invariant_of-self-2 g c = (
       c.next_card-card.result c.next_card-card.ensures c.on_hand-before.result
       (c.on_hand-before.ensures.value ∙ ap (nth c.self.inside.ledger.cards) c.item.ensures.value)
       c.store_answer.new.drive c.store_answer.result c.store_answer.ensures.puts c.store_answer.ensures.counted c.store_answer.ensures.refused
+      c.store_answer.ensures.onward
       c.in-Ok.field-0 c.in-Ok.is c.answered.result c.answered.ensures _ c.renew.ensures.state c.renew.ensures.limits,
   λ _. ready-after g.D.Sectors.history c.self.inside.drive c.args.self.now c.self.inside.dead c.self.inside.ledger
       c.self.view_is c.self.invariant.0 c.args.request.now c.requires.ask c.requires.alive c.requires.next
@@ -72,6 +75,7 @@ invariant_of-self-2 g c = (
       c.next_card-card.result c.next_card-card.ensures c.on_hand-before.result
       (c.on_hand-before.ensures.value ∙ ap (nth c.self.inside.ledger.cards) c.item.ensures.value)
       c.store_answer.new.drive c.store_answer.result c.store_answer.ensures.puts c.store_answer.ensures.counted c.store_answer.ensures.refused
+      c.store_answer.ensures.onward
       c.in-Ok.field-0 c.in-Ok.is,
 )
 
@@ -83,4 +87,5 @@ returns g c =
     c.next_card-card.result c.next_card-card.ensures c.on_hand-before.result
     (c.on_hand-before.ensures.value ∙ ap (nth c.self.inside.ledger.cards) c.item.ensures.value)
     c.store_answer.new.drive c.store_answer.result c.store_answer.ensures.puts c.store_answer.ensures.counted c.store_answer.ensures.refused
+    c.store_answer.ensures.onward
     c.in-Ok.field-0 c.in-Ok.is

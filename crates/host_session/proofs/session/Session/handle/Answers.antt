@@ -4,9 +4,9 @@ use Rattle.request_cards.specs.Ledgers.{reply_in}
 use Rattle.host_session.specs.session.Handling.{media}
 use Rattle.host_session.specs.shop.Shop.{start_of}
 use Rattle.host_session.specs.session.Standing.{View}
-use Rattle.host_session.proofs.lemmas.session.Handled.{media-word, no-moments, no-request, one-bool, one-option}
+use Rattle.host_session.proofs.lemmas.session.Handled.{media-word, no-moments, no-onward, no-request, one-bool, one-option}
 use Rattle.host_session.proofs.lemmas.session.Handled.{syntax-other, told-counted, told-failures, told-media}
-use Rattle.host_session.proofs.lemmas.session.Handled.{told-moments, told-quiet, told-reply, told-writes}
+use Rattle.host_session.proofs.lemmas.session.Handled.{told-moments, told-onward, told-quiet, told-reply, told-writes}
 use Rattle.host_session.proofs.lemmas.shop.Shops.{standing-settled}
 use Rattle.host_session.proofs.session.Session.handle.Given.{Over}
 use Rattle.host_session.proofs.session.Session.handle.Goals as goal
@@ -24,6 +24,7 @@ returns-in_default g c =
           (standing-settled _ _ _ _ (sym (ap (λ (v : View _). S.image v.disk) c.self.view_is))
           c.self.invariant.0 (ap (λ (v : View _). v.dead) c.self.view_is ∙ alive) s h) alive;
       moments = λ s h. no-moments S c.args.self.now.disk s _ h;
+      onward = λ s h. no-onward S c.args.self.now.disk s _ h;
       writes = λ f h. omega arith;
       counted = λ s h lt. absurd (omega (arith, lt));
       media = λ m. syntax-other m;
@@ -46,6 +47,7 @@ returns-then-dead g c =
       quiet = λ s h alive _. one-bool (was_dead g c) alive;
       reply = λ s h alive _. one-bool (was_dead g c) alive;
       moments = λ s h. no-moments S c.args.self.now.disk s _ h;
+      onward = λ s h. no-onward S c.args.self.now.disk s _ h;
       writes = λ f h. omega arith;
       counted = λ s h lt. absurd (omega (arith, lt));
       media = λ _. told;
@@ -68,6 +70,7 @@ returns-else-dead g c =
           told-reply S c.args.self.now c.word_on.new.self _ c.in-Some.request c.word_on.result some answered
           c.till.result c.number.result c.till.ensures.value c.number.ensures.value s h;
       moments = told-moments S c.args.self.now c.word_on.new.self _ c.in-Some.request c.word_on.result some answered;
+      onward = told-onward S c.args.self.now c.word_on.new.self _ c.in-Some.request c.word_on.result some answered;
       writes = told-writes S c.args.self.now c.word_on.new.self _ c.in-Some.request c.word_on.result some answered;
       counted = told-counted S c.args.self.now c.word_on.new.self _ c.in-Some.request c.word_on.result some answered;
       media = λ m. told-media _ c.in-Some.request some c.till.result c.number.result c.till.ensures.value

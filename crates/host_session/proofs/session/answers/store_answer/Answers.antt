@@ -27,6 +27,7 @@ returns-then-not-pending g c =
       };
       counted = λ _. c.write_refusal.ensures.counted;
       refused = λ _. c.write_refusal.ensures.counted;
+      onward = c.write_refusal.ensures.onward;
     }
 
 pub write_first_set-requires : goal.write_first_set-requires
@@ -41,7 +42,7 @@ write_first_set-requires g c =
 
 pub returns-in-None : goal.returns-in-None
 returns-in-None g c =
-    let set = c.write_first_set.ensures in
+    let set = c.write_first_set.ensures.puts in
     record {
       puts = record {
         ready = set.ready;
@@ -55,6 +56,7 @@ returns-in-None g c =
       };
       counted = λ old. absurd (false≢true (sym (ap is_some c.in-None.is) ∙ old));
       refused = λ no. absurd (false≢true (sym no ∙ sym c.pending.ensures ∙ c.if-not-pending.false));
+      onward = c.write_first_set.ensures.onward;
     }
 
 pub write_intent-requires : goal.write_intent-requires
@@ -91,4 +93,5 @@ returns-in-Some g c =
       };
       counted = λ _. c.write_intent.ensures.counted;
       refused = λ no. absurd (false≢true (sym no ∙ sym c.pending.ensures ∙ c.if-not-pending.false));
+      onward = c.write_intent.ensures.onward;
     }

@@ -1,9 +1,9 @@
 -- The intent, whose record is written at once, and its completion, during which the shop is the one after the request.
 use Rattle.std.proofs.Common.{arith, refl}
 use Rattle.host_session.proofs.lemmas.session.Keepings.{open-items}
-use Rattle.host_session.proofs.lemmas.session.KeepingCalls.{answer-named, intent-counted, intent-moments}
+use Rattle.host_session.proofs.lemmas.session.KeepingCalls.{answer-named, intent-counted, intent-moments, intent-onward}
 use Rattle.host_session.proofs.lemmas.session.KeepingCalls.{intent-settled, items-for, named-intent, put-counted}
-use Rattle.host_session.proofs.lemmas.session.KeepingCalls.{put-moments}
+use Rattle.host_session.proofs.lemmas.session.KeepingCalls.{put-moments, put-onward}
 use Rattle.std.proofs.lemmas.Result.{err_from_is_err_and}
 use Rattle.host_session.proofs.lemmas.writing.Selection.{told-after}
 use Rattle.host_session.proofs.session.answers.write_intent.Goals as goal
@@ -46,7 +46,13 @@ returns-in_err-write_answer g c =
           let items = items-for (S.image c.args.drive.now.disk) f' f card h' h all in
           put-counted f a card c.till-till.result c.print-text.result c.till-till.ensures.value c.print-text.ensures k
           S (open-items f a card k c.requires.intent items) c.args.drive.now.disk c.write_answer.new.drive.disk
-          c.write_answer.result (c.write_answer.ensures.puts.ok f h) c.write_answer.ensures.uncounted;
+          c.write_answer.result (c.write_answer.ensures.puts.ok f h) c.write_answer.ensures.one_step;
+      onward = λ f h k.
+          let items = items-for (S.image c.args.drive.now.disk) f' f card h' h all in
+          put-onward f a card c.till-till.result c.print-text.result c.till-till.ensures.value c.print-text.ensures k
+          S (open-items f a card k c.requires.intent items) c.args.drive.now.disk c.write_answer.new.drive.disk _
+          c.write_answer.result h (c.write_answer.ensures.puts.ok f h) c.write_answer.ensures.one_step
+          (c.write_answer.ensures.puts.moments f h);
     }
 
 pub returns : goal.returns
@@ -88,6 +94,15 @@ returns g c =
           let kept = named-intent f a card c.till-till.result c.print-text.result c.till-till.ensures.value
           c.print-text.ensures k S c.requires.intent items in
           intent-counted f a card c.till-till.result c.print-text.result c.till-till.ensures.value
+          c.print-text.ensures k S c.args.drive.now.disk c.write_answer.new.drive.disk c.complete_with.new.drive.disk _
+          (c.complete_with.ensures.moments _ (has, kept));
+      onward = λ f h k.
+          let items = items-for (S.image c.args.drive.now.disk) f' f card h' h all in
+          let has = answer-named f a card c.till-till.result c.print-text.result c.till-till.ensures.value
+          c.print-text.ensures _ (c.in_ok-write_answer.ensures.puts.ok f h) in
+          let kept = named-intent f a card c.till-till.result c.print-text.result c.till-till.ensures.value
+          c.print-text.ensures k S c.requires.intent items in
+          intent-onward f a card c.till-till.result c.print-text.result c.till-till.ensures.value
           c.print-text.ensures k S c.args.drive.now.disk c.write_answer.new.drive.disk c.complete_with.new.drive.disk _
           (c.complete_with.ensures.moments _ (has, kept));
     }

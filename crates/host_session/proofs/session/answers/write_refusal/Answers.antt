@@ -1,7 +1,7 @@
 -- The card is written at once.
 use Rattle.std.proofs.Common.{arith}
 use Rattle.host_session.proofs.lemmas.session.Keepings.{closed-items}
-use Rattle.host_session.proofs.lemmas.session.KeepingCalls.{put-counted, put-moments, put-settled}
+use Rattle.host_session.proofs.lemmas.session.KeepingCalls.{put-counted, put-moments, put-onward, put-settled}
 use Rattle.host_session.proofs.session.answers.write_refusal.Goals as goal
 
 pub returns : goal.returns
@@ -26,5 +26,9 @@ returns g c =
       counted = λ f h k.
           put-counted f a card c.till.result c.print.result c.till.ensures.value c.print.ensures k S
           (closed-items f a card k c.requires.refused) c.args.drive.now.disk c.write_answer.new.drive.disk
-          c.write_answer.result (put.ok f h) c.write_answer.ensures.uncounted;
+          c.write_answer.result (put.ok f h) c.write_answer.ensures.one_step;
+      onward = λ f h k.
+          put-onward f a card c.till.result c.print.result c.till.ensures.value c.print.ensures k S
+          (closed-items f a card k c.requires.refused) c.args.drive.now.disk c.write_answer.new.drive.disk _
+          c.write_answer.result h (put.ok f h) c.write_answer.ensures.one_step (put.moments f h);
     }

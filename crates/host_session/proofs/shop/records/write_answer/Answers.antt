@@ -1,5 +1,5 @@
 use Rattle.std.proofs.Common.{refl}
-use Rattle.host_session.proofs.lemmas.writing.Records.{answer-changes, answer-ok, answer-there, answer-uncounted}
+use Rattle.host_session.proofs.lemmas.writing.Records.{answer-changes, answer-ok, answer-there, answer-one_step}
 use Rattle.host_session.proofs.shop.records.write_answer.Goals as goal
 
 pub write_record-requires-clause-placed : goal.write_record-requires-clause-placed
@@ -26,6 +26,6 @@ returns g c =
         failures = put.failures;
         dies = put.dies;
       };
-      uncounted = answer-uncounted (S.image c.args.drive.now.disk) k k has c.from.result c.args.till c.from.ensures
-          c.args.text.now c.requires.long has low high there c.write_record.result _ c.write_record.ensures.uncounted;
+      one_step = answer-one_step (S.image c.args.drive.now.disk) k k has c.from.result c.args.till c.from.ensures
+          c.args.text.now c.requires.long has low high there c.write_record.result _ c.write_record.ensures.one_step;
     }

@@ -1,8 +1,9 @@
 use Rattle.std.proofs.Common.{refl, arith}
+use Rattle.d64_image.proofs.Moments.{read_fails}
 use Rattle.host_session.proofs.lemmas.Held.{changes_weaker, reads_change}
 use Rattle.rel_records.specs.Written.{IsWriting}
 use Rattle.host_session.proofs.lemmas.writing.Selection.{moved-to, ok-ready, ok-records, told-after}
-use Rattle.host_session.proofs.lemmas.writing.Selection.{uncounted-after, writing-same, written-moments, written-ok}
+use Rattle.host_session.proofs.lemmas.writing.Selection.{fails-after, writing-same, written-moments, written-ok}
 use Rattle.host_session.proofs.lemmas.writing.Positions.{placed-count, placed-reach, placed-rel}
 use Rattle.host_session.specs.shop.Selecting.{channel_at}
 use Rattle.host_session.specs.shop.Channels.{name_of}
@@ -31,7 +32,8 @@ returns-in_err-select g c =
         failures = rw e.1 c.in_err-select.ensures.failures;
         dies = rw e.1 (λ is. c.in_err-select.ensures.dies refl);
       };
-      uncounted = rw e.1 (λ l n f p one. c.in_err-select.ensures.reads.writes);
+      one_step = rw e.1 (λ l n f p one. read_fails S c.args.drive.now.disk c.select.new.self.disk 2817
+          c.in_err-select.ensures.reads);
     }
 
 pub returns : goal.returns
@@ -61,11 +63,11 @@ returns g c =
             (c.in_ok-select.ensures.at p.0 p.1 p.2 (placed-reach S old.disk p.3)).alive);
         dies = c.write.ensures.serves.dies.1;
       };
-      uncounted = λ l n f p one.
+      one_step = λ l n f p one.
           let at = c.in_ok-select.ensures.at l n f (placed-reach S old.disk p) in
           let q = moved-to S old.disk c.select.new.self.disk name c.args.number l n f c.select.ensures.reads.image p in
-          uncounted-after S old.disk c.select.new.self.disk c.write.new.self.disk c.write.result
-          c.select.ensures.reads.writes
-          (c.write.ensures.uncounted (channel_at n c.args.number) l f (at.on, refl)
+          fails-after S old.disk c.select.new.self.disk c.write.new.self.disk c.write.result 2817
+          c.select.ensures.reads
+          (c.write.ensures.one_step (channel_at n c.args.number) l f (at.on, refl)
           (placed-rel _ name c.args.number l n f q) (placed-count _ name c.args.number l n f q) one);
     }

@@ -13,5 +13,5 @@ returns-clause-row g c = rw (← c.self.view_is) c.write.ensures.row
 pub returns-clause-moments : goal.returns-clause-moments
 returns-clause-moments g c = rw (← c.self.view_is) c.write.ensures.moments
 
-pub returns-clause-uncounted : goal.returns-clause-uncounted
-returns-clause-uncounted g c = rw (← c.self.view_is) c.write.ensures.uncounted
+pub returns-clause-one_step : goal.returns-clause-one_step
+returns-clause-one_step g c = rw (← c.self.view_is) c.write.ensures.one_step

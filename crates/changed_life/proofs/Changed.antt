@@ -1,0 +1,425 @@
+-- What the changes leave of the first closed relative file of a name.
+use Rattle.std.proofs.Common.{◌≡◌, ◌≢◌, ◌≤◌, ◌+◌, ◌-◌, ◌∙◌, ◌++◌, ◌∷◌, ℕ, Bool, false, List, [], Some, ap, append_assoc, length-append, arith, drop, inl, inr, length, map, option_map, refl, slice_get, subst, suc, sym, take}
+use Rattle.std.specs.Prelude.{Contains, codes, filter, flat_map, replicate, slice_range}
+use Rattle.std.proofs.lemmas.Bool.{cases_lt, false≢true}
+use Rattle.std.proofs.lemmas.List.{drop_at, length-drop, length-replicate, length-take, length-take-le, map-append, set_split, take_at}
+use Rattle.std.proofs.lemmas.Option.{same_Some, slice_get-map}
+use Rattle.std.proofs.lemmas.List.Elements.{Contains-append_left, Contains-append_right, filter-append}
+use Rattle.d64_image.specs.History.{History}
+use Rattle.d64_image.specs.Images.{Image, sector}
+use Rattle.d64_image.specs.Offsets.{overwritten}
+use Rattle.d64_image.specs.declared.place.Place.{Place}
+use Rattle.d64_image.specs.Memory.{disk_image, sectors_in}
+use Rattle.damaged_files.specs.declared.sides.planning.Loss.{Loss}
+use Rattle.damaged_files.specs.declared.sides.planning.Loss.TheVariants.{Refused}
+use Rattle.disk_changes.proofs.UnsoundArt.{sound-artless}
+use Rattle.disk_changes.specs.Changes.{IsChanged, IsDone}
+use Rattle.disk_changes.specs.Deletes.{IsDeleted}
+use Rattle.disk_changes.specs.Makes.{IsMade}
+use Rattle.disk_changes.specs.Puts.{IsPut}
+use Rattle.disk_changes.specs.Renames.{IsRenamed}
+use Rattle.disk_changes.specs.Repairs.{IsRepaired}
+use Rattle.disk_changes.specs.ShopFiles.{HasShopFile, IsRelativeOf, IsShopSlot}
+use Rattle.disk_changes.specs.Stores.{IsStored}
+use Rattle.disk_changes.specs.Titles.{IsTitled}
+use Rattle.disk_changes.specs.declared.changes.Change.{Change}
+use Rattle.disk_changes.specs.declared.changes.Change.TheVariants as changes
+use Rattle.disk_changes.specs.declared.changes.Changed.{Changed}
+use Rattle.disk_layout.proofs.lemmas.chains.Chains.{AgreeAt}
+use Rattle.disk_layout.proofs.lemmas.layouts.Agree.{IsLayout-put_map, map-unowned, owned-block, stays-agree}
+use Rattle.disk_layout.proofs.lemmas.layouts.Exact.{get-lt}
+use Rattle.disk_layout.proofs.lemmas.layouts.Frames.{unless-same}
+use Rattle.disk_layout.proofs.lemmas.layouts.Layouts.{IsLayout-one, get-contains}
+use Rattle.disk_layout.proofs.lemmas.lists.Once.{Contains-cases, Contains-here, Contains-there, flat_map-in}
+use Rattle.disk_layout.specs.Directory.{map_place}
+use Rattle.disk_layout.specs.Layout.{File, IsLayout, Layout, file_owns, is_rel_type, owners, record_length}
+use Rattle.disk_layout.specs.Records.{records}
+use Rattle.disk_layout.specs.Rest.{IsFirst, IsNamed, slot_name}
+use Rattle.disk_layout.specs.Same.{AddsFile, Stays, stays_of}
+use Rattle.disk_layout.specs.declared.slot.Slot.{Slot}
+use Rattle.file_changes.proofs.Renamed.{length-name}
+use Rattle.file_changes.proofs.Reslotted.{split, unowned}
+use Rattle.file_changes.specs.Deletes.{HasLost}
+use Rattle.file_changes.specs.Entries.{IsFirstNamed, entries_of, renamed, with_file, without_file}
+use Rattle.file_changes.specs.Puts.{type_number}
+use Rattle.file_changes.specs.declared.file_type.FileType.{FileType}
+use Rattle.file_changes.specs.declared.file_type.FileType.TheVariants.{Prg, Seq, Usr}
+use Rattle.host_session.proofs.lemmas.writing.SameEntries.{first-kept as still-first, records-same}
+use Rattle.host_session.proofs.lemmas.writing.Mended.{on-repair, stay-length, stay-records}
+use Rattle.host_session.proofs.lemmas.shop.Shops.{IsShop-one}
+use Rattle.host_session.specs.shop.Shop.{IsShop, Shop}
+use Rattle.layout_check.specs.Mended.{IsMended}
+use Rattle.shop_life.proofs.Kept.{kept}
+use Rattle.shop_life.proofs.Later.{at_the_end, begins_at}
+use Rattle.shop_life.specs.Chapters.{IsChapter, KeepsCards}
+use Rattle.shop_life.specs.Lives.{IsLife, Step, disk_at, off, shop_after, went_all}
+use Rattle.shop_life.specs.Lives as lives
+use Rattle.shop_life.specs.OneList.{counted_from}
+use Rattle.changed_life.specs.Changes.{IsJoined, KeepsRecords, KeepsShops}
+use Rattle.changed_life.proofs.Firsts.{first-kept, is_of, not-of}
+use Rattle.changed_life.proofs.Shops.{kept-shop}
+
+-- where the files of the name are the same
+records-kept : (a c : Image) (l m : Layout) (name : List ℕ) (L : ℕ) (n : ℕ) (f : File)
+    → filter (is_of name) (map (stays_of c) m.files) ≡ filter (is_of name) (map (stays_of a) l.files) → IsFirst l name n f
+    → record_length f.slot ≡ L
+    → (k : ℕ) × (g : File) × IsFirst m name k g × (record_length g.slot ≡ L) × (records c g ≡ records a f)
+records-kept a c l m name L n f same first long =
+    let r = first-kept a c l m name same n f first in
+    (r.0, r.1, r.2, stay-length a c f r.1 r.3 ∙ long, stay-records a c f r.1 r.3)
+
+-- one more among them
+one-more : (p : Stays → Bool) (before after : List Stays) (x : Stays) → p x ≡ false
+    → filter p (before ++ x ∷ after) ≡ filter p (before ++ after)
+one-more p before after x out = filter-append p before (x ∷ after)
+    ∙ ap (λ (zs : List Stays). filter p before ++ zs) (rw out refl) ∙ sym (filter-append p before after)
+
+added : (a c : Image) (l m : Layout) (x : File) (name : List ℕ) → AddsFile a c l m x → ¬ (IsNamed name x)
+    → filter (is_of name) (map (stays_of c) m.files) ≡ filter (is_of name) (map (stays_of a) l.files)
+added a c l m x name adds other = ap (filter (is_of name)) adds.has
+    ∙ one-more (is_of name) adds.before adds.after (stays_of c x) (not-of c name x other)
+    ∙ sym (ap (filter (is_of name)) adds.had)
+
+-- a file that is put isn't relative
+plain-type : (kind : FileType) → is_rel_type (type_number kind) ≡ false
+plain-type Seq = refl
+plain-type Prg = refl
+plain-type Usr = refl
+
+pub put-keeps : (image name : List ℕ) (kind : FileType) (content : List ℕ) (cut : Loss) (made : Changed)
+    → IsPut image name kind content cut made → KeepsShops (sectors_in image) (disk_image made.disk)
+put-keeps image name kind content cut made x =
+    kept-shop (sectors_in image) (disk_image made.disk) x.before.layout x.after.layout x.before.usable.clean.layout
+    x.after.sound (keeps (codes "STOCK") 18) (keeps (codes "REQUESTS") 127)
+  where
+    other : (of : List ℕ) → ¬ (IsNamed of x.after.file)
+    other of named = false≢true (sym (ap is_rel_type x.after.kind_is ∙ plain-type kind) ∙ named.0)
+
+    keeps : (of : List ℕ) (L : ℕ) → KeepsRecords (sectors_in image) (disk_image made.disk) x.before.layout x.after.layout of L
+    keeps of L n f first long = records-kept (sectors_in image) (disk_image made.disk) x.before.layout x.after.layout of L
+        n f (added (sectors_in image) (disk_image made.disk) x.before.layout x.after.layout x.after.file of x.after.adds
+        (other of)) first long
+
+pub make-keeps : (image name : List ℕ) (size : ℕ) (cut : Loss) (made : Changed) → IsMade image name size cut made
+    → KeepsShops (sectors_in image) (disk_image made.disk)
+make-keeps image name size cut made x =
+    kept-shop (sectors_in image) (disk_image made.disk) x.before.layout x.after.layout x.before.usable.clean.layout
+    x.after.sound (keeps (codes "STOCK") 18) (keeps (codes "REQUESTS") 127)
+  where
+    -- its name was free, and the other isn't
+    other : (of : List ℕ) (n : ℕ) (f : File) → IsFirst x.before.layout of n f → ¬ (IsNamed of x.after.file)
+    other of n f first named = x.free (
+      f,
+      get-contains x.before.layout.files n f first.file,
+      first.named.1 ∙ sym named.1 ∙ x.after.named.1,
+    )
+
+    keeps : (of : List ℕ) (L : ℕ) → KeepsRecords (sectors_in image) (disk_image made.disk) x.before.layout x.after.layout of L
+    keeps of L n f first long = records-kept (sectors_in image) (disk_image made.disk) x.before.layout x.after.layout of L
+        n f (added (sectors_in image) (disk_image made.disk) x.before.layout x.after.layout x.after.file of x.after.adds
+        (other of n f first)) first long
+
+-- a repair that accepts no loss leaves the same shop
+pub repair-stays : (image : List ℕ) (free : Bool) (made : Changed) (s : Shop) → IsRepaired image free Refused made
+    → IsShop (sectors_in image) s → IsShop (disk_image made.disk) s
+repair-stays image free made s x shop =
+    let mended = x.2.mended in
+    let old = sectors_in image in
+    let new = disk_image made.disk in
+    let h = shop.has in
+    let same : mended.before ≡ h.layout = IsLayout-one old mended.before h.layout mended.sound h.is_layout in
+    let from : IsMended old h.layout new = subst (λ (l : Layout). IsMended old l new) same (record {
+      layout = mended.after;
+      sound = mended.clean.layout;
+      same = mended.same;
+    }) in
+    record { files = shop.files; has = on-repair old new shop.files h from; records = shop.records; is = shop.is }
+
+pub repair-keeps : (image : List ℕ) (free : Bool) (made : Changed) → IsRepaired image free Refused made
+    → KeepsShops (sectors_in image) (disk_image made.disk)
+repair-keeps image free made x s shop = (s, repair-stays image free made s x shop, (refl, refl))
+
+-- files whose sectors are the same stay
+stays-all : (a c : Image) (fs : List File) → ((g : File) → Contains fs g → AgreeAt a c g.blocks)
+    → map (stays_of c) fs ≡ map (stays_of a) fs
+stays-all a c [] same = refl
+stays-all a c (f ∷ fs) same =
+    let here : stays_of a f ≡ stays_of c f = stays-agree a c f (same f (Contains-here f fs)) in
+    let rest = stays-all a c fs (λ g own. same g (Contains-there g f fs own)) in
+    λ i. sym here i ∷ rest i
+
+-- a disk with another name: no file owns 18/0
+pub title-keeps : (image name id : List ℕ) (made : Changed) → IsTitled image name id made
+    → KeepsShops (sectors_in image) (disk_image made.disk)
+title-keeps image name id made x =
+    let a = sectors_in image in
+    let c = disk_image made.disk in
+    let l = x.before.layout in
+    let bytes = overwritten (overwritten (sector a map_place) 144 (slot_name name)) 162 id in
+    let is : IsLayout c l = subst (λ (i : Image). IsLayout i l) (sym x.after) (IsLayout-put_map a l bytes x.before.sound) in
+    let same : (g : File) → Contains l.files g → AgreeAt a c g.blocks =
+    λ g own p there. unless-same a map_place p bytes (λ e. map-unowned a l x.before.sound
+    (subst (λ (q : Place). Contains (owners l) q) (sym e) (owned-block l g p own there)))
+    ∙ ap (λ (i : Image). sector i p) (sym x.after) in
+    let stays = stays-all a c l.files same in
+    kept-shop a c l l x.before.sound is
+    (λ n f first long. records-kept a c l l (codes "STOCK") 18 n f (ap (filter (is_of (codes "STOCK"))) stays) first long)
+    (λ n f first long. records-kept a c l l (codes "REQUESTS") 127 n f (ap (filter (is_of (codes "REQUESTS"))) stays) first
+    long)
+
+-- The first entry of a name that isn't one of a shop's files: no file of a shop has that entry.
+module _ (image from : List ℕ) (l : Layout) (size : length image ≡ 174848) (sound : IsLayout (sectors_in image) l)
+    (other : ¬ (HasShopFile image from)) (n : ℕ) (f : File) (at : slice_get l.files n ≡ Some f)
+    (named : IsFirstNamed (entries_of l) (slot_name from) n f.slot) where
+  entry-at : (k : ℕ) (g : File) → slice_get l.files k ≡ Some g → slice_get (entries_of l) k ≡ Some g.slot
+  entry-at k g there = slice_get-map (λ (x : File). x.slot) l.files k ∙ ap (option_map (λ (x : File). x.slot)) there
+
+  pub not-shops : (name : List ℕ) (L : ℕ) → ((s : Slot) → IsRelativeOf name L s → IsShopSlot s) → (k : ℕ) (g : File)
+      → IsFirst l name k g → record_length g.slot ≡ L → ¬ (IsNamed name f)
+  not-shops name L shops k g first long is = elim (cases_lt k n) [
+    | inl lt ↦ named.first k g.slot lt (entry-at k g first.file) (first.named.1 ∙ sym is.1 ∙ named.named)
+    | inr le ↦ elim (cases_lt n k) [
+      | inl lt ↦ first.first n f lt at is
+      | inr ge ↦
+          let same : k ≡ n = omega (arith, le, ge) in
+          let one : g ≡ f = same_Some g f (sym first.file ∙ ap (slice_get l.files) same ∙ at) in
+          other (record {
+            size = size;
+            sectors = l.directory;
+            entries = entries_of l;
+            directory = sound.directory;
+            number = n;
+            slot = f.slot;
+            there = entry-at n f at;
+            shop = (
+              named.named,
+              shops f.slot (is.0, sym (ap (λ (x : File). record_length x.slot) one) ∙ long, is.1),
+            );
+          })
+    ]
+  ]
+
+-- among these and one more
+with-one : (g : File) (before : List File) (f : File) (behind : List File) → Contains (before ++ behind) g
+    → Contains (before ++ f ∷ behind) g
+with-one g [] f behind own = Contains-there g f behind own
+with-one g (b ∷ before) f behind own = elim (Contains-cases g b (before ++ behind) own) [
+  | inl e ↦ subst (λ (y : File). Contains (y ∷ before ++ f ∷ behind) g) (sym e) (Contains-here g (before ++ f ∷ behind))
+  | inr rest ↦ Contains-there g b (before ++ f ∷ behind) (with-one g before f behind rest)
+]
+
+-- a file less
+module _ (image name : List ℕ) (cut : Loss) (made : Changed) (x : IsDeleted image name cut made) where
+  abbrev a : Image
+  a = sectors_in image
+
+  abbrev c : Image
+  c = disk_image made.disk
+
+  abbrev l : Layout
+  l = x.before.layout
+
+  abbrev lost : HasLost (sectors_in image) x.before.layout name (disk_image made.disk)
+  lost = x.after.lost
+
+  abbrev m : Layout
+  m = without_file x.before.layout x.after.lost.number
+
+  sound : IsLayout (sectors_in image) x.before.layout
+  sound = x.before.usable.clean.layout
+
+  abbrev front : List File
+  front = take x.after.lost.number x.before.layout.files
+
+  abbrev behind : List File
+  behind = drop (suc x.after.lost.number) x.before.layout.files
+
+  same : (g : File) → Contains l.files g → AgreeAt a c g.blocks
+  same g own p there = sym (lost.without.elsewhere p
+      (λ e. map-unowned a l sound (subst (λ (q : Place). Contains (owners l) q) e (owned-block l g p own there)))
+      (λ e. unowned a l lost.number lost.file sound lost.of.file
+      (subst (λ (q : Place). Contains (flat_map file_owns l.files) q) e
+      (flat_map-in file_owns l.files g p own (Contains-append_left g.blocks g.sides p there)))))
+
+  parts : l.files ≡ front ++ lost.file ∷ behind
+  parts = split a l lost.number lost.file sound lost.of.file
+
+  had : map (stays_of a) l.files ≡ map (stays_of a) front ++ stays_of a lost.file ∷ map (stays_of a) behind
+  had = ap (map (stays_of a)) parts ∙ map-append (stays_of a) front (lost.file ∷ behind)
+
+  has : map (stays_of c) m.files ≡ map (stays_of a) front ++ map (stays_of a) behind
+  has = stays-all a c m.files (λ g own. same g (subst (λ (fs : List File). Contains fs g) (sym parts)
+      (with-one g front lost.file behind own)))
+      ∙ map-append (stays_of a) front behind
+
+  keeps : (of : List ℕ) (L : ℕ) → ((s : Slot) → IsRelativeOf of L s → IsShopSlot s) → KeepsRecords a c l m of L
+  keeps of L shops n f first long =
+      let out = not-of a of lost.file (not-shops image name l x.before.taken.0 sound x.other lost.number lost.file
+      lost.of.file lost.of.first of L shops n f first long) in
+      records-kept a c l m of L n f (ap (filter (is_of of)) has
+      ∙ sym (one-more (is_of of) (map (stays_of a) front) (map (stays_of a) behind) (stays_of a lost.file) out)
+      ∙ sym (ap (filter (is_of of)) had)) first long
+
+  pub delete-keeps : KeepsShops (sectors_in image) (disk_image made.disk)
+  delete-keeps = kept-shop a c l m sound lost.without.layout (keeps (codes "STOCK") 18 (λ s is. inl is))
+      (keeps (codes "REQUESTS") 127 (λ s is. inr is))
+
+-- the name in an entry that was written over
+name-now : (bytes ys : List ℕ) → 5 ≤ length bytes → length ys ≡ 16 → slice_range (overwritten bytes 5 ys) 5 21 ≡ ys
+name-now bytes ys long size =
+    ap (λ (zs : List ℕ). take 16 (drop 5 zs)) (append_assoc (take 5 bytes) ys (drop (5 + length ys) bytes))
+    ∙ ap (take 16) (drop_at (take 5 bytes) (ys ++ drop (5 + length ys) bytes) 5 (length-take-le 5 bytes long))
+    ∙ take_at ys (drop (5 + length ys) bytes) 16 size
+
+-- an entry with a padded name is long enough for one
+entry-long : (bytes from : List ℕ) → slice_range bytes 5 21 ≡ slot_name from → 5 ≤ length bytes
+entry-long bytes from e =
+    let size : length (take 16 (drop 5 bytes)) ≡ length from + (16 - length from) = ap length e
+    ∙ length-append from (replicate (16 - length from) 160)
+    ∙ ap (λ (n : ℕ). length from + n) (length-replicate {A = ℕ} (16 - length from) 160) in
+    omega (arith, size, length-take 16 (drop 5 bytes), length-drop 5 bytes)
+
+-- a file with another name
+module _ (image from to : List ℕ) (few : length to ≤ 16) (made : Changed) (x : IsRenamed image from to made) where
+  abbrev old-image : Image
+  old-image = sectors_in image
+
+  abbrev new-image : Image
+  new-image = disk_image made.disk
+
+  abbrev old-layout : Layout
+  old-layout = x.before.layout
+
+  abbrev one : File
+  one = x.after.file
+
+  abbrev now : File
+  now = renamed x.after.file to
+
+  abbrev new-layout : Layout
+  new-layout = with_file x.before.layout x.after.number (renamed x.after.file to)
+
+  abbrev those-before : List File
+  those-before = take x.after.number x.before.layout.files
+
+  abbrev those-behind : List File
+  those-behind = drop (suc x.after.number) x.before.layout.files
+
+  split-old : old-layout.files ≡ those-before ++ one ∷ those-behind
+  split-old = split old-image old-layout x.after.number one x.before.sound x.after.of.file
+
+  split-new : new-layout.files ≡ those-before ++ now ∷ those-behind
+  split-new = set_split old-layout.files x.after.number now
+      (get-lt old-layout.files x.after.number one x.after.of.file)
+
+  kept-at : (g : File) → Contains (those-before ++ those-behind) g → AgreeAt old-image new-image g.blocks
+  kept-at g own p there = sym (x.after.done.files g p
+      (subst (λ (fs : List File). Contains fs g) (sym split-old) (with-one g those-before one those-behind own))
+      (Contains-append_left g.blocks g.sides p there))
+
+  stays-new : map (stays_of new-image) new-layout.files ≡ map (stays_of old-image) those-before
+      ++ stays_of new-image now ∷ map (stays_of old-image) those-behind
+  stays-new = ap (map (stays_of new-image)) split-new
+      ∙ map-append (stays_of new-image) those-before (now ∷ those-behind)
+      ∙ ap (λ (ss : List Stays). ss ++ stays_of new-image now ∷ map (stays_of new-image) those-behind)
+      (stays-all old-image new-image those-before (λ g own. kept-at g (Contains-append_left those-before those-behind g own)))
+      ∙ ap (λ (ss : List Stays). map (stays_of old-image) those-before ++ stays_of new-image now ∷ ss)
+      (stays-all old-image new-image those-behind (λ g own. kept-at g (Contains-append_right those-before those-behind g own)))
+
+  stays-old : map (stays_of old-image) old-layout.files ≡ map (stays_of old-image) those-before
+      ++ stays_of old-image one ∷ map (stays_of old-image) those-behind
+  stays-old = ap (map (stays_of old-image)) split-old ∙ map-append (stays_of old-image) those-before (one ∷ those-behind)
+
+  -- its new name
+  is-named : slice_range now.slot.bytes 5 21 ≡ slot_name to
+  is-named = name-now one.slot.bytes (slot_name to) (entry-long one.slot.bytes from x.after.of.first.named)
+      (length-name to few)
+
+  kept-files : (of : List ℕ) (L : ℕ) → ((s : Slot) → IsRelativeOf of L s → IsShopSlot s)
+      → KeepsRecords old-image new-image old-layout new-layout of L
+  kept-files of L shops n f first long =
+      let was = not-of old-image of one (not-shops image from old-layout x.before.size x.before.sound x.other x.after.number
+      one x.after.of.file x.after.of.first of L shops n f first long) in
+      let is = not-of new-image of now (λ named. x.after.of.free n f.slot
+      (slice_get-map (λ (y : File). y.slot) old-layout.files n ∙ ap (option_map (λ (y : File). y.slot)) first.file)
+      (first.named.1 ∙ sym named.1 ∙ is-named)) in
+      let xs = map (stays_of old-image) those-before in
+      let ys = map (stays_of old-image) those-behind in
+      records-kept old-image new-image old-layout new-layout of L n f (ap (filter (is_of of)) stays-new
+      ∙ one-more (is_of of) xs ys (stays_of new-image now) is
+      ∙ sym (one-more (is_of of) xs ys (stays_of old-image one) was) ∙ sym (ap (filter (is_of of)) stays-old)) first long
+
+  pub rename-keeps : KeepsShops (sectors_in image) (disk_image made.disk)
+  rename-keeps = kept-shop old-image new-image old-layout new-layout x.before.sound x.after.done.layout
+      (kept-files (codes "STOCK") 18 (λ s is. inl is)) (kept-files (codes "REQUESTS") 127 (λ s is. inr is))
+
+-- records stored in a file of another name
+pub store-keeps : (image name given : List ℕ) (cut : Loss) (made : Changed) → IsStored image name given cut made
+    → slot_name name ≢ slot_name (codes "STOCK") → slot_name name ≢ slot_name (codes "REQUESTS")
+    → KeepsShops (sectors_in image) (disk_image made.disk)
+store-keeps image name given cut made x no-stock no-requests =
+    kept-shop (sectors_in image) (disk_image made.disk) x.before.layout x.has.layout x.before.usable.clean.layout
+    x.has.is_layout (keeps (codes "STOCK") 18 no-stock) (keeps (codes "REQUESTS") 127 no-requests)
+  where
+    keeps : (of : List ℕ) (L : ℕ) → slot_name name ≢ slot_name of
+        → KeepsRecords (sectors_in image) (disk_image made.disk) x.before.layout x.has.layout of L
+    keeps of L ne n f first long =
+        let o = x.has.others in
+        let away : n ≢ x.number = λ e. ne (sym x.first.named.1
+        ∙ ap (λ (g : File). slice_range g.slot.bytes 5 21) (same_Some x.file f (sym x.first.file
+        ∙ ap (slice_get x.before.layout.files) (sym e) ∙ first.file))
+        ∙ first.named.1) in (
+          n,
+          f,
+          still-first x.before.layout x.has.layout of n f f o.entries first (o.files n f away first.file),
+          long,
+          records-same (sectors_in image) (disk_image made.disk) f (o.bytes n f away first.file),
+        )
+
+-- What comes of a change that is joined.
+joined-keeps : (what : Change) (image : List ℕ) (made : Changed) → IsJoined what → IsDone what image made
+    → KeepsShops (sectors_in image) (disk_image made.disk)
+joined-keeps (changes.Rename from to) image made joined done = rename-keeps image from.now to.now joined made done
+joined-keeps (changes.Title id name) image made joined done = title-keeps image name.now id made done
+joined-keeps (changes.Lock lock name) image made joined done = absurd joined
+joined-keeps (changes.Delete name cut) image made joined done = delete-keeps image name.now cut made done
+joined-keeps (changes.Undelete kind name cut) image made joined done = absurd joined
+joined-keeps changes.Sort image made joined done = absurd joined
+joined-keeps (changes.Put name kind content cut) image made joined done =
+    put-keeps image name.now kind content.now cut made done
+joined-keeps (changes.CopyFile source name to cut) image made joined done = absurd joined
+joined-keeps (changes.Make name L cut) image made joined done = make-keeps image name.now L cut made done
+joined-keeps (changes.Store name text cut) image made joined done =
+    store-keeps image name.now text.now cut made done joined.0 joined.1
+joined-keeps (changes.Repair free cut) image made joined done = repair-keeps image free made
+    (subst (λ (x : Loss). IsRepaired image free x made) joined done)
+joined-keeps (changes.Rebuild free cut) image made joined done = absurd joined
+
+-- a shop's disk has no art that would be put aside
+pub changes-keep : (what : Change) (image : List ℕ) (made : Changed) → IsJoined what → IsChanged what image made
+    → KeepsShops (sectors_in image) (disk_image made.disk)
+changes-keep what image made joined (inl done) s shop = joined-keeps what image made joined done s shop
+changes-keep what image made joined (inr beside) s shop = absurd
+    (sound-artless image beside.1.aside.entries (shop.has.layout, shop.has.is_layout) beside.1.aside.art)
+
+-- a chapter that ends with it
+pub chapter : {D : Type 0} (hist : History D) (s : Shop) (disk last next : D) (steps : List (Step D)) (what : Change)
+    (image : List ℕ) (made : Changed) → IsShop (hist.image disk) s → IsLife hist (off disk) steps
+    → went_all (off disk) steps ≡ off last → hist.image last ≡ sectors_in image → IsJoined what → IsChanged what image made
+    → hist.image next ≡ disk_image made.disk
+    → (t : Shop) × IsChapter hist disk (record { steps = steps; next = next; shop = t })
+chapter hist s disk last next steps what image made shop life ended is joined changed after =
+    let k = kept hist s [] (off disk) steps (begins_at hist s disk shop) life in
+    let u = shop_after s (counted_from [] k.0) in
+    let at : IsShop (hist.image last) u = subst (λ (p : lives.Place _). IsShop (hist.image (disk_at p)) u) ended
+    (at_the_end hist s [] (off disk) steps k.0 (begins_at hist s disk shop) k.1).shop in
+    let r = changes-keep what image made joined changed u (subst (λ (i : Image). IsShop i u) is at) in (
+      r.0,
+      record {
+        life = life;
+        last = last;
+        ended = ended;
+        kept = λ t here. subst (λ (v : Shop). KeepsCards v r.0) (IsShop-one (hist.image last) u t at here) r.2;
+        changed = subst (λ (i : Image). IsShop i r.0) (sym after) r.1;
+      },
+    )
