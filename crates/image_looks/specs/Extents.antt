@@ -1,10 +1,10 @@
--- Of which images a look is printed. Our own.
+-- Which images a look is printed of. Our own.
 use Rattle.image_looks.specs.declared.kinds.Look.{Look}
 use Rattle.image_looks.specs.declared.kinds.Look.TheVariants as looks
 use Rattle.opened_files.specs.declared.extents.Extent.{Extent}
 use Rattle.opened_files.specs.declared.extents.Extent.TheVariants.{Disk, FirstTracks}
 
--- a directory, a check and a shop of a disk of 35 tracks alone; all else of the first 35 tracks of an image of 40 or 42, too
+-- a directory, a check and a shop of a disk of 35 tracks alone; everything besides of the first 35 tracks of a longer image, too
 abbrev pub extent_of : Look → Extent
 extent_of (looks.List form) = Disk
 extent_of looks.Check = Disk

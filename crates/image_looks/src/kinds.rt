@@ -50,7 +50,7 @@ pub enum Look {
 }
 
 impl Look {
-    /// Of which images this is printed. The directory, checks and a shop are those of a disk of 35 tracks alone, so that a file of
+    /// Which images this is printed of. The directory, checks and a shop are those of a disk of 35 tracks alone, so that a file of
     /// another size is refused.
     pub(crate) fn extent(&self) -> Extent
         ensures { result ≡ extent_of self.now }

@@ -116,8 +116,8 @@ pub fn look<W: Write>(
     }
 }
 
-/// Prints what is asked of the image at a path, as its shop is now. Of an image of 40 or 42 tracks, or with error bytes, it is what
-/// stands on the first 35 tracks, unless this look takes a disk of 35 tracks alone.
+/// Prints what is asked of the image at a path, as its shop is now. If the image has 40 or 42 tracks, or error bytes, this is what
+/// stands on the first 35 tracks, unless the look takes a disk of 35 tracks alone.
 pub fn do_look<F, R, W>(
     rt: &R,
     what: &Look,
