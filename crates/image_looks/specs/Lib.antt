@@ -1,6 +1,7 @@
 pub mod Comparisons
 pub mod Descriptions
 pub mod EachImage
+pub mod Extents
 pub mod Extracts
 pub mod LookRuns
 pub mod Looks

@@ -17,7 +17,7 @@ use disk_reports::{
     DescriptionForm, PlanForm, describe_image, describe_refusal, heading, plan_heading,
 };
 use image_file::{HostFiles, Locks};
-use opened_files::size_of;
+use opened_files::{Extent, size_of};
 use std::alloc::Global;
 use std::fs::OpenFile;
 use std::io::{Read, Write};
@@ -228,6 +228,6 @@ where
     ensures { AreDescribed R.rights R.stands W.contents rt.now form (map (λ path. path.now) paths.now) out.old out.new result }
 {
     print_heading(form, out)?;
-    let greatest = print_each(rt, &Listed(form), paths, out)?;
+    let greatest = print_each(rt, &Listed(form), Extent::Disk, paths, out)?;
     several_end(greatest, out)
 }
