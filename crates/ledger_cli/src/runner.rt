@@ -172,16 +172,13 @@ where
 
 /// Whether a job shows a shop that another program has alone, as a service does for a moment while it starts.
 fn is_kept_out(job: &Job<'_>, ended: Result<Option<Fault>, CommandFault>) -> bool {
-    matches!(
-        (job, ended),
-        (
-            Job::Look {
-                what: Look::Show(_),
-                ..
-            },
-            Err(CommandFault::InUse)
-        )
-    )
+    match job {
+        Job::Look {
+            what: Look::Show(_),
+            ..
+        } => matches!(ended, Err(CommandFault::InUse)),
+        _ => false,
+    }
 }
 
 /// Whether a job prints what a person looks through: one who has seen enough closes the pipe.
