@@ -14,6 +14,7 @@ use image_edits::do_trim;
 use image_file::{EndedFile, Failure, Failures, LimitedErrors, Locks, NotedRuntime, Subject};
 use ledger_jobs::{Job, announce, do_job, explain, files_of, meaning_of, tell_verdict};
 use opened_files::end;
+use shop_jobs::JobOutput;
 use std::alloc::{AllocError, Global};
 use std::env;
 use std::fs::OpenFile;
@@ -73,7 +74,7 @@ fn run_with_progress<F, R, W, E>(
 where
     F: EndedFile + Read + Locks + OpenFile + Drop,
     R: Files<File = F> + Input + AllocGlobal,
-    W: Write,
+    W: JobOutput,
     E: Write,
     requires { IsFit job.now }
 {
