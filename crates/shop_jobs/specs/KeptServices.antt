@@ -76,7 +76,7 @@ module _ {F D : Type 0} {G : Ghosts F} (h : FolderHistory D) where
     -- lines with its own among them.
     pub safe : (s : Shop) → IsShopOf image s → (of_live h).stands_for begun (sectors_in image)
         → IsSafe (of_live h) s (sectors_in image) (lines handled) (turns ++ option_to_list last) begun left
-    -- so it does to the end of the job, while the log is landed too
+    -- so it does while the log is landed, too
     pub stays : (s : Shop) → IsShopOf image s → (of_live h).stands_for begun (sectors_in image)
         → IfSome folder (λ d. StayIn d s (lines handled) 0 (turns ++ option_to_list last))
     -- a power loss while the log was landed leaves the image for which the log stood

@@ -68,7 +68,8 @@ module _ (g : HostGhosts Snapshot SnapshotFile) (r : ReadGhosts SnapshotFile) (s
       (record { history = snapshot_logs g r s })
 
   -- However a job ended, the first lines of an input were handled, and these replies were printed, each over the log as it was
-  -- then. From there to the end of the job a power loss at any moment left the shop of first lines with that line among them.
+  -- then. From there until the log was landed or left, a power loss at any moment left the shop of first lines with that line
+  -- among them.
   pub record KeepsAnswers {W : Type 0} (contents : W → Option (List ℕ)) (o : OverLogs W) (old new : W) : Type 0 where
     pub handled : List ℕ
     pub rest : List ℕ
