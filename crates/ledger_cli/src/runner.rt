@@ -16,6 +16,7 @@ use image_file::{EndedFile, Failure, Failures, LimitedErrors, Locks, NotedRuntim
 use image_looks::{ImageForm, Look};
 use ledger_jobs::{Job, announce, do_job, explain, files_of, meaning_of, tell_verdict};
 use opened_files::end;
+use shop_jobs::JobOutput;
 use std::alloc::{AllocError, Global};
 use std::fs::OpenFile;
 use std::io::{self, BufWriter, ErrorKind, Read, Write};
@@ -82,7 +83,7 @@ fn run_with_progress<F, R, W, E>(
 where
     F: EndedFile + Read + Locks + OpenFile + Drop,
     R: Files<File = F> + Input + AllocGlobal,
-    W: Write,
+    W: JobOutput,
     E: Write,
     requires { IsFit job.now }
 {
