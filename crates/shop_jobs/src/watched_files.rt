@@ -82,8 +82,10 @@ impl<N: NameStays, T> RepliesWhileNamed<'_, N, T> {
     }
 }
 
-impl<'a, L: ImageLog, N: NameStays, T: BatchReplies<L>> BatchReplies<L>
-    for RepliesWhileNamed<'a, N, T> {
+impl<L: ImageLog, N: NameStays, T> BatchReplies<L> for RepliesWhileNamed<'_, N, T>
+where
+    T: BatchReplies<L>,
+{
     ghost output = { while_there T.output };
 
     fn report(
