@@ -16,8 +16,8 @@ import sys
 from pathlib import Path
 
 TOP = Path(__file__).resolve().parent.parent
-PAGES = ("WHY", "KEEPERS", "SHOP_OWNER", "OPERATIONS", "TRUST", "LOG", "MESSAGES", "CARDS", "DISK", "DRIVE", "POWER_CUTS", "SPEED", "TRIALS",
-         "FAQ", "GLOSSARY")
+PAGES = ("WHY", "KEEPERS", "SHOP_OWNER", "OPERATIONS", "TRUST", "LOG", "MESSAGES", "CARDS", "DISK", "DRIVE", "POWER_CUTS", "SPEED",
+         "TRIALS", "FAQ", "GLOSSARY")
 # folders whose files nobody needs who runs a shop
 LEFT_OUT = {"__pycache__", "tests", ".mypy_cache", ".pytest_cache"}
 LINK = re.compile(r"(!?)\[([^\]]*)\]\(([^)\s]+)\)")
@@ -88,11 +88,11 @@ class Links:
 def readme(text):
     """The README, of which the package's licence is the file `copyright`, and whose program is on the path."""
     text = text.replace("(LICENSE)", "(copyright)")
-    text = re.sub(r"(?m)^In a clone.*$", "With the program on the path as `ledger` ([docs/KEEPERS.md](docs/KEEPERS.md) says how), in a copy of "
-                  "this folder:", text, count=1)
+    begins = "With the program on the path as `ledger` ([docs/KEEPERS.md](docs/KEEPERS.md) says how), in a copy of this folder:"
+    tests = "The repository has all proofs and all trials, and its README says how to run them.\n"
+    text = re.sub(r"(?m)^In a clone.*$", begins, text, count=1)
     text = re.sub(r"(?m)^This runs the \[released\].*\n\n", "", text, count=1)
-    text = re.sub(r"(?ms)^\*\*Without the kit\*\*.*?^```sh.*?^```\n", "The repository has all proofs and all trials, and its README says how to "
-                  "run them.\n", text, count=1)
+    text = re.sub(r"(?ms)^\*\*Without the kit\*\*.*?^```sh.*?^```\n", tests, text, count=1)
     return re.sub(r"(?m)^\./test .*\n", "", re.sub(r"(?m)(^|`)\./ledger ", r"\1ledger ", text))
 
 
@@ -105,7 +105,8 @@ def for_users(file, text, name):
     """What the package has of a file."""
     if file.name == "QUICK_START.md":
         text = re.sub(r"(?m)^install .* /usr/bin/ledger\n", "", text)
-        text = re.sub(r"Do it at the top of the repository; .*", f"Install the package first, and do this in its folder `/usr/share/doc/{name}`.", text)
+        place = f"Install the package first, and do this in its folder `/usr/share/doc/{name}`."
+        text = re.sub(r"Do it at the top of the repository; .*", place, text)
     if str(file) == "shop/README.md":
         text = text.replace("with `ledger` in `/usr/bin`", f"with `{name}` in `/usr/bin`")
     if str(file) == "README.md":
