@@ -65,10 +65,10 @@ class Links:
 
     def note(self, text):
         """What a page says of the files that it names and that the package doesn't have."""
-        for path in PATH.findall(LINK.sub(lambda it: it[2], text)):
+        for path in {it.rstrip("/.") for it in PATH.findall(LINK.sub(lambda it: it[2], text))}:
             # a form, such as `crates/NAME`, or what is built, is no file of the repository either
-            if list(TOP.glob(path.rstrip("/."))) and not any(it in self.files for it in TOP.glob(path.rstrip("/."))):
-                self.missing.add(path.rstrip("/."))
+            there = set(TOP.glob(path))
+            self.missing |= {path} if there and not there & self.files else set()
         tops = {it.partition("/")[0] for it in self.missing}
         names = sorted(it for it in self.missing if it.startswith(("docs/", "examples/", "shop/")))
         names += [f"{it}/" for it in sorted(tops - {"docs", "examples", "shop"})]

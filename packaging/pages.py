@@ -223,7 +223,7 @@ def blocks(text, name):
 
 def rows_of(heading):
     """The first cells of the rows of a section's tables: its words, without the sector or the number after them."""
-    return {re.sub(r" (t/s|n)$", "", word) for word in re.findall(r"(?m)^\| `([A-Z][^`]*)` \|", section(heading, "##"))}
+    return {re.sub(r"( t/s| n)+$", "", word) for word in re.findall(r"(?m)^\| `([A-Z][^`]*)` \|", section(heading, "##"))}
 
 
 def explained_words(program, name):
