@@ -31,7 +31,8 @@ def imports(text, keyword):
 
 def ends_head(line, is_first):
     """Whether a function's contract ends with this line: its body begins, or it has none."""
-    return line.strip() in ("{", "{}") or line.endswith(";") or is_first and line.endswith(("{", "}"))
+    bare = line.strip()
+    return bare in ("{", "{}") or line.endswith(";") or (is_first or bare.startswith(")")) and line.endswith(("{", "}"))
 
 
 def side_table():

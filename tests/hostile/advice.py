@@ -10,10 +10,14 @@ disk, `check --explain` is asked, and each command that its sentence names is ru
   - after `--accept-loss` no change refuses the disk for a file that is cut short: a file is put there, renamed and deleted;
   - `extract` makes its folder.
 
+The next command that `plan` names for the disk is run in the same way, as a shell runs it.
+
 Whatever `check` says, there is a way: a series of such commands leads to a disk that takes a file, or `extract` is named. A failure prints the seed, the number of the disk, and what was said."""
 
+import json
 import random
 import re
+import shlex
 import shutil
 import subprocess
 import sys
@@ -171,6 +175,31 @@ def takes_a_file(program, image, folder):
     return ""
 
 
+def planned(program, folder, image, said):
+    """What isn't so of the next command that `plan` names for an image of which `check` says this; it is run as a shell runs it."""
+    row = json.loads(ran(program, "plan", "--json", image)[1])
+    line = ran(program, "plan", image)[1]
+    words = row["next"]
+    if (words is None) == line.rstrip().endswith(str(words)) or bool(row["lost"]) != ("may be lost" in line):
+        return f"the line and the object of `plan` differ: {line}{row}"
+    if words is None:
+        return "" if row["verdict"] == "OK" or "does no harm" in said else f"`plan` names nothing: {line}"
+    if not words.startswith(("ledger repair ", "ledger extract ")):
+        return f"`plan` names another command: {line}"
+    copy = folder / "planned.d64"
+    shutil.copy(image, copy)
+    words = words.replace(str(image), str(copy))
+    shutil.rmtree(f"{copy}-files", ignore_errors=True)
+    done = subprocess.run(words.replace("ledger", shlex.quote(program), 1), shell=True, capture_output=True, timeout=60)
+    if words.startswith("ledger extract "):
+        return "" if Path(f"{copy}-files").is_dir() else f"the next command makes nothing: {line}"
+    printed = done.stdout.decode("latin1")
+    if done.returncode and not re.search(r"KEPT \d+\n\Z", printed):
+        return f"the next command ends with {done.returncode} {printed}{done.stderr.decode('latin1')}: {line}"
+    fault = takes_a_file(program, copy, folder)
+    return f"after it the disk takes no file ({fault}): {line}" if fault else ""
+
+
 def followed(program, folder, data):
     """What isn't so of what is advised for a disk."""
     image = folder / "odd.d64"
@@ -178,8 +207,11 @@ def followed(program, folder, data):
     status, verdict, told = ran(program, "check", "--explain", image)
     said = " ".join(told.split())
     commands = re.findall(r"`((?:repair|extract)[a-z -]*)`", said)
+    fault = planned(program, folder, image, said)
     if image.read_bytes() != data:
-        return "check changed the image"
+        return "check or plan changed the image"
+    if fault:
+        return f"{fault}: {verdict}{said}"
     if status == 0 and "SHORT" not in said:
         # nothing was advised but what FEWER says
         return "" if verdict.startswith("OK") else f"{verdict}{said}"

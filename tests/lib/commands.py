@@ -67,6 +67,9 @@ COMMANDS = [
     command(LOOKS, f"check {IMAGE} --all"),
     command(LOOKS, f"check {IMAGE} --json"),
     command(LOOKS, f"check {IMAGE} --csv"),
+    command(LOOKS, f"plan {IMAGE}"),
+    command(LOOKS, f"plan {IMAGE} --json"),
+    command(LOOKS, f"plan {IMAGE} --csv"),
     command(LOOKS, f"map {IMAGE}"),
     command(LOOKS, f"picture {IMAGE}"),
     command(LOOKS, f"picture {IMAGE} --svg"),
@@ -119,7 +122,7 @@ COMMANDS = [
 ]
 
 # these print why an image is refused, where others report it on standard error
-PRINT_REFUSALS = ("check --json", "check --csv", "picture --sheet")
+PRINT_REFUSALS = ("check --json", "check --csv", "plan", "plan --json", "plan --csv", "picture --sheet")
 
 
 def those_that(*does):

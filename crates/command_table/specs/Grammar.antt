@@ -56,6 +56,10 @@ abbrev pub check : App
 check = with_rule (with_rule (with_rule (over_images (codes "check")) (flag (codes "json"))) (flag (codes "csv")))
     (flag (codes "all"))
 
+-- plan IMAGE.. [--json] [--csv]
+abbrev pub plan : App
+plan = with_rule (with_rule (over_images (codes "plan")) (flag (codes "json"))) (flag (codes "csv"))
+
 -- a subcommand that goes on where a disk has lost a part of a file, or an image its log, if --accept-loss is given
 abbrev pub may_accept_loss : App → App
 may_accept_loss a = with_rule a (flag (codes "accept-loss"))
@@ -217,8 +221,8 @@ with_command a command = with_subcommand a (explainable command).top
 
 -- a program that has the subcommands that look at disks too
 abbrev pub with_looks : App → App
-with_looks a = with_command (with_command (with_command (with_command (with_command (with_command
-    a list) check) map) picture) free) sector
+with_looks a = with_command (with_command (with_command (with_command (with_command (with_command (with_command
+    a list) check) plan) map) picture) free) sector
 
 -- a program that has those that rescue files and disks too
 abbrev pub with_rescue : App → App

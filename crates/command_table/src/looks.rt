@@ -3,7 +3,7 @@ use crate::subcommands::Subcommand;
 use crate::values::{Count, IMAGE, IMAGES, MIXED, TEXT, Value};
 
 /// The subcommands that look at disks, in the order in which help lists them.
-pub(crate) const LOOKS: &[Subcommand] = &[LIST, CHECK, MAP, PICTURE, FREE, SECTOR];
+pub(crate) const LOOKS: &[Subcommand] = &[LIST, CHECK, PLAN, MAP, PICTURE, FREE, SECTOR];
 
 /// `list IMAGE.. [--text] [--mixed]`
 const LIST: Subcommand = Subcommand {
@@ -86,6 +86,31 @@ Exit status:
 
 Example: ledger check ./*.[dD]64",
     values: &[IMAGES, JSON, CSV, ALL],
+};
+
+/// `plan IMAGE.. [--json] [--csv]`
+const PLAN: Subcommand = Subcommand {
+    name: "plan",
+    about: "Print what can be done for damaged disks: the next command of each",
+    more: "\
+It writes nothing, and prints a line for each image: what check finds, the files
+that are hurt, what may be lost, and the next command as it is typed:
+  old.d64: BADSIDE 19/9 \"CARDS\"; next: ledger repair --sides old.d64
+A repair that it names was tried in memory on this very image, and ends well
+unless another program changes the image or the system fails. Where no repair is
+possible, the next command is extract. If nothing is to be done, none is named.
+An image that is refused has its word, and the command that may help. IMAGE
+stands for standard input. The exit status is the highest of check's.
+With --json each image has an object, where what isn't there is null. With --csv
+each has a row of a table. --json goes before --csv.
+
+Exit status:
+  0  OK
+  1  a fault, IMAGE SIZE, LOG
+  3  FILE, NO MEMORY, IN USE
+
+Example: ledger plan ./*.[dD]64",
+    values: &[IMAGES, JSON, CSV],
 };
 
 /// `map IMAGE..`

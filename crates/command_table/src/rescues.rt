@@ -177,11 +177,11 @@ Example: ledger repair --dry-run old.d64",
 /// `trim IMAGE`
 const TRIM: Subcommand = Subcommand {
     name: "trim",
-    about: "Print tracks 1 to 35 of an image with 40, or with error bytes",
+    about: "Print tracks 1 to 35 of an image with 40 or 42, or with error bytes",
     more: "\
-It prints an image of 174848 bytes, as every other command takes it, from one of
-35 or 40 tracks with or without error bytes. On standard error it prints a line
-for each sector that the drive couldn't read, with the file that has it, such as
+It prints an image of 174848 bytes, as checks and changes take it, from one of
+35, 40 or 42 tracks with or without error bytes. On standard error is a line for
+each sector that the drive couldn't read, with the file that has it, such as
 ERROR 23 17/4 \"MENU\". A file that goes on past track 35 has a line too: BEYOND,
 the sector whose link leads there, and the file's name.
 

@@ -52,9 +52,9 @@ error_line p entry (Some e) =
 abbrev pub errors_text : List ℕ → Option Layout → List ℕ
 errors_text image drawn = each_place (λ p. error_line p (entry_at drawn p) (error_of image p))
 
--- a track from 36 to 40
+-- a track from 36 to 42
 abbrev pub is_past : ℕ → Bool
-is_past t = nat_le 36 t && nat_le t 40
+is_past t = nat_le 36 t && nat_le t 42
 
 -- where a chain goes on past track 35: at its last sector, or at its entry's, whose byte i has the first track
 abbrev pub past_from : List ℕ → Slot → ℕ → Option Place → Option Place

@@ -3,7 +3,8 @@ use Rattle.std.proofs.Common.{◌≡◌, ◌≢◌, ◌+◌, ◌*◌, ◌/◌, �
 use Rattle.std.proofs.lemmas.Bool.{cases_eq, cases_lt, le-ltb, lt-ltb}
 use Rattle.std.specs.Prelude.{codes, flat_map}
 use Rattle.line_text.specs.bytes.Texts.{digit}
-use Rattle.disk_reports.specs.Json.{Spells, json_char, itself, marked, none, numbered}
+use Rattle.disk_reports.specs.Rows.{field_char}
+use Rattle.disk_reports.specs.Json.{Spells, digits, json_char, itself, marked, none, numbered}
 
 control-spells : (b : ℕ) (text bytes : List ℕ) → b < 32 → Spells text bytes
     → Spells (codes "\\u00" ++ (digit (b / 16) ∷ (digit (b % 16) ∷ text))) (b ∷ bytes)
@@ -44,14 +45,26 @@ unfolding json_char
 quoted-char b (inl e) = rw e refl
 quoted-char b (inr e) = rw e refl
 
-pub control-char : (b high low : ℕ) → b ≢ 34 → b ≢ 92 → (b < 32) ⊎ (b ≡ 127) → high ≡ digit (b / 16)
-    → low ≡ digit (b % 16) → json_char b ≡ 92 ∷ 117 ∷ 48 ∷ 48 ∷ high ∷ low ∷ []
+pub control-char : (b : ℕ) → b ≢ 34 → b ≢ 92 → (b < 32) ⊎ (b ≡ 127) → json_char b ≡ codes "\\u00" ++ digits b
 unfolding json_char
-control-char b high low quote slash (inl few) h l =
-    rw (ne_eqb b 34 quote, ne_eqb b 92 slash, lt-ltb b 32 few, h, l) refl
-control-char b high low quote slash (inr e) h l = rw (h, l, e) refl
+control-char b quote slash (inl few) = rw (ne_eqb b 34 quote, ne_eqb b 92 slash, lt-ltb b 32 few) refl
+control-char b quote slash (inr e) = rw e refl
 
 pub plain-char : (b : ℕ) → b ≢ 34 → b ≢ 92 → 32 ≤ b → b ≢ 127 → json_char b ≡ b ∷ []
 unfolding json_char
 plain-char b quote slash high other =
     rw (ne_eqb b 34 quote, ne_eqb b 92 slash, le-ltb b 32 high, ne_eqb b 127 other) refl
+
+-- a byte of a field, as it is written
+pub quoted-field : (b : ℕ) → b ≡ 34 → field_char b ≡ codes "\"\""
+unfolding field_char
+quoted-field b e = rw e refl
+
+pub control-field : (b : ℕ) → b ≢ 34 → (b < 32) ⊎ (b ≡ 127) → field_char b ≡ codes "\\u00" ++ digits b
+unfolding field_char
+control-field b quote (inl few) = rw (ne_eqb b 34 quote, lt-ltb b 32 few) refl
+control-field b quote (inr e) = rw e refl
+
+pub plain-field : (b : ℕ) → b ≢ 34 → 32 ≤ b → b ≢ 127 → field_char b ≡ b ∷ []
+unfolding field_char
+plain-field b quote high other = rw (ne_eqb b 34 quote, le-ltb b 32 high, ne_eqb b 127 other) refl

@@ -5,6 +5,7 @@ pub mod NearNames
 pub mod Objects
 pub mod Descriptions
 pub mod Outcomes
+pub mod Plans
 pub mod Rows
 pub mod SideLaws
 pub mod Texts

@@ -1,6 +1,6 @@
 -- What is printed of an image as a row of a table: comma-separated values (RFC 4180), a line for each. Our own.
 use Rattle.std.specs.Prelude.{ℕ, List, [], ◌∷◌, ◌++◌, None, Option, Some, codes, decimal, flat_map, slice_range}
-use Rattle.std.specs.Prelude.{if◌then◌else◌, nat_eq}
+use Rattle.std.specs.Prelude.{◌||◌, if◌then◌else◌, nat_eq, nat_lt}
 use Rattle.d64_image.specs.Images.{Sector}
 use Rattle.line_text.specs.bytes.Texts.{text_of}
 use Rattle.disk_layout.specs.Number.{place_of}
@@ -18,9 +18,10 @@ use Rattle.reached_disk.specs.Names.{disk_name}
 abbrev pub heading : List ℕ
 heading = codes "name,size,verdict,track,sector,free,disk,id,short,fewer,sha1,sha256\n"
 
--- a byte of a field: a quotation mark stands twice
-abbrev pub field_char : ℕ → List ℕ
-field_char b = if nat_eq b 34 then codes "\"\"" else b ∷ []
+-- a byte of a field: a quotation mark stands twice, and a control byte is written by its number, as \u001b
+unfoldable pub field_char : ℕ → List ℕ
+field_char b =
+    if nat_eq b 34 then codes "\"\"" else (if nat_lt b 32 || nat_eq b 127 then codes "\\u00" ++ digits b else b ∷ [])
 
 -- bytes between quotation marks
 abbrev pub field : List ℕ → List ℕ

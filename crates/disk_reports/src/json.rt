@@ -1,5 +1,5 @@
 //! Strings of JSON.
-ghost use Rattle.std.specs.Prelude.{◌≡◌, ◌<◌, OnOk, flat_map};
+ghost use Rattle.std.specs.Prelude.{◌≡◌, ◌<◌, ◌++◌, OnOk, codes, flat_map};
 ghost use Rattle.std.specs.Io.KnownBytes.{Appends};
 ghost use Rattle.line_text.specs.bytes.Texts.{digit as digit_of};
 ghost use Rattle.disk_reports.specs.Json.{digits, json_char, json_string};
@@ -21,6 +21,14 @@ fn digit(number: u8) -> u8
     }
 }
 
+/// Writes a byte by its number.
+pub(crate) fn print_control<W: Write>(out: &mut W, byte: u8) -> io::Result<()>
+    ensures { OnOk result (Appends (W.contents out.old) (W.contents out.new) (codes "\\u00" ++ digits byte)) }
+{
+    let (high, low) = (digit(byte / 16), digit(byte % 16));
+    out.write_all(&[b'\\', b'u', b'0', b'0', high, low])
+}
+
 /// Writes a byte of a string, with an escape if it needs one.
 fn print_char<W: Write>(out: &mut W, byte: u8) -> io::Result<()>
     ensures { OnOk result (Appends (W.contents out.old) (W.contents out.new) (json_char byte)) }
@@ -29,8 +37,7 @@ fn print_char<W: Write>(out: &mut W, byte: u8) -> io::Result<()>
         return out.write_all(&[b'\\', byte]);
     }
     if byte < 32 || byte == 127 {
-        let (high, low) = (digit(byte / 16), digit(byte % 16));
-        return out.write_all(&[b'\\', b'u', b'0', b'0', high, low]);
+        return print_control(out, byte);
     }
     out.write_all(&[byte])
 }

@@ -36,7 +36,7 @@ pub(crate) fn print_name<W: Write>(out: &mut W, slot: &Slot) -> io::Result<()>
 }
 
 /// Writes the names of entries.
-fn print_names<W: Write>(out: &mut W, slots: &[Slot]) -> io::Result<()>
+pub(crate) fn print_names<W: Write>(out: &mut W, slots: &[Slot]) -> io::Result<()>
     ensures { OnOk result (Appends (W.contents out.old) (W.contents out.new) (flat_map spaced_name slots.now)) }
 {
     for slot in slots {

@@ -13,7 +13,7 @@ use sha2::{Digest, Sha256};
 use std::io::{self, Write};
 
 /// Writes what an object begins with.
-fn print_head<W: Write>(out: &mut W, name: &[u8]) -> io::Result<()>
+pub(crate) fn print_head<W: Write>(out: &mut W, name: &[u8]) -> io::Result<()>
     ensures { OnOk result (Appends (W.contents out.old) (W.contents out.new) (head_text name.now)) }
 {
     out.write_all(b"{\"name\":")?;
@@ -64,7 +64,7 @@ fn print_names<W: Write>(out: &mut W, slots: &[Slot]) -> io::Result<()>
 }
 
 /// Writes the files that a fault concerns.
-fn print_files<W: Write>(out: &mut W, files: &[Slot]) -> io::Result<()>
+pub(crate) fn print_files<W: Write>(out: &mut W, files: &[Slot]) -> io::Result<()>
     ensures { OnOk result (Appends (W.contents out.old) (W.contents out.new) (files_text files.now)) }
 {
     out.write_all(b",\"files\":[")?;
@@ -101,7 +101,7 @@ fn print_shortfall<W: Write>(out: &mut W, lack: Shortfall) -> io::Result<()>
 }
 
 /// The same, if a file lacks something.
-fn print_end<W: Write>(out: &mut W, lack: Option<Shortfall>) -> io::Result<()>
+pub(crate) fn print_end<W: Write>(out: &mut W, lack: Option<Shortfall>) -> io::Result<()>
     ensures { OnOk result (Appends (W.contents out.old) (W.contents out.new) (end_text lack)) }
 {
     match lack {

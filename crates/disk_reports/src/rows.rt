@@ -4,7 +4,7 @@ ghost use Rattle.std.specs.Io.KnownBytes.{Appends};
 ghost use Rattle.disk_reports.specs.Rows.{disk_cells, field, field_char, lack_cells, refused_row, row_hashes, row_head, row_text};
 ghost use Rattle.disk_reports.specs.Rows.{size_cell, verdict_cells};
 
-use crate::json::print_hex;
+use crate::json::{print_control, print_hex};
 use damaged_files::Shortfall;
 use disk_layout::{BamView, Fault};
 use line_text::Text;
@@ -53,7 +53,7 @@ impl<'a> Display for DiskCells<'a> {
 
 /// Where the file ends that is cut short, or that has fewer blocks than its entry says.
 #[derive(Clone, Copy)]
-struct LackCells(Option<Shortfall>);
+pub(crate) struct LackCells(pub(crate) Option<Shortfall>);
 
 impl Display for LackCells {
     ghost output = { λ cells. Some (lack_cells cells.0) };
@@ -67,18 +67,21 @@ impl Display for LackCells {
     }
 }
 
-/// Writes a byte of a field. A quotation mark stands twice.
+/// Writes a byte of a field. A quotation mark stands twice, and a control byte is written by its number, as in JSON.
 fn print_field_char<W: Write>(out: &mut W, byte: u8) -> io::Result<()>
     ensures { OnOk result (Appends (W.contents out.old) (W.contents out.new) (field_char byte)) }
 {
     if byte == b'"' {
         return out.write_all(b"\"\"");
     }
+    if byte < 32 || byte == 127 {
+        return print_control(out, byte);
+    }
     out.write_all(&[byte])
 }
 
 /// Writes the bytes of a field.
-fn print_field_chars<W: Write>(out: &mut W, bytes: &[u8]) -> io::Result<()>
+pub(crate) fn print_field_chars<W: Write>(out: &mut W, bytes: &[u8]) -> io::Result<()>
     ensures { OnOk result (Appends (W.contents out.old) (W.contents out.new) (flat_map field_char bytes.now)) }
 {
     for &byte in bytes {
@@ -88,7 +91,7 @@ fn print_field_chars<W: Write>(out: &mut W, bytes: &[u8]) -> io::Result<()>
 }
 
 /// Writes bytes as a field between quotation marks.
-fn print_field<W: Write>(out: &mut W, bytes: &[u8]) -> io::Result<()>
+pub(crate) fn print_field<W: Write>(out: &mut W, bytes: &[u8]) -> io::Result<()>
     ensures { OnOk result (Appends (W.contents out.old) (W.contents out.new) (field bytes.now)) }
 {
     out.write_all(b"\"")?;

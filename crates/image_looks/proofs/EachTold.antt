@@ -10,7 +10,9 @@ use Rattle.command_faults.specs.declared.faults.CommandFault.TheVariants as faul
 use Rattle.std.specs.declared.alloc.Global.{Global}
 use Rattle.image_file.specs.paths.Rights.{Rights}
 use Rattle.image_file.specs.paths.Standing.{Stands}
+use Rattle.opened_files.specs.Extents.{taken_as}
 use Rattle.opened_files.specs.HostFiles.{OfImage}
+use Rattle.opened_files.specs.declared.extents.Extent.{Extent}
 use Rattle.command_faults.specs.declared.faults.CommandFault.{CommandFault}
 
 -- what was done with a greatest status comes to something else
@@ -92,9 +94,9 @@ loaded (Ok image) front is = is
 loaded (Err refusal) front is = tt
 
 -- what was read of an image, as a job over several holds it
-pub read-at : {H : Type 0} (rights : Rights H) (stands : H → List ℕ → Stands) (host : H) (path : List ℕ)
+pub read-at : {H : Type 0} (rights : Rights H) (stands : H → List ℕ → Stands) (host : H) (extent : Extent) (path : List ℕ)
     (read : Result (Vec ℕ Global) CommandFault)
-    → OfImage rights stands host path (λ all. IfOk read (λ image. vec_items image ≡ take 174849 all))
-    → IsReadAt rights stands host path (as_loaded read)
-read-at rights stands host path read is =
-    λ other none all holds. loaded read (take 174849 all) (is other none all holds)
+    → OfImage rights stands host path (λ all. IfOk read (λ image. vec_items image ≡ taken_as extent all))
+    → IsReadAt rights stands host extent path (as_loaded read)
+read-at rights stands host extent path read is =
+    λ other none all holds. loaded read (taken_as extent all) (is other none all holds)

@@ -2,28 +2,51 @@
 use Rattle.std.specs.Prelude.{◌≡◌, ◌⊎◌, ℕ, List, Option, Ok, Err}
 use Rattle.std.specs.Io.KnownBytes.{Appends}
 use Rattle.command_faults.specs.declared.faults.CommandFault.{CommandFault}
-use Rattle.disk_reports.specs.Descriptions.{refusal_text}
-use Rattle.disk_reports.specs.declared.describing.DescriptionForm.{DescriptionForm}
+use Rattle.disk_reports.specs.Descriptions.{heading_text, refusal_text}
 use Rattle.disk_reports.specs.Outcomes.{IsDescribeFault, IsDescribed}
+use Rattle.disk_reports.specs.Plans.{plan_heading}
+use Rattle.image_looks.specs.Plans.{IsPlanFault, IsPlanOf, IsPlanRefusal}
+use Rattle.image_looks.specs.declared.descriptions.ImageForm.{ImageForm}
+use Rattle.image_looks.specs.declared.descriptions.ImageForm.TheVariants as forms
 use Rattle.disk_layout.specs.declared.faults.Fault.{Fault}
 use Rattle.image_looks.specs.EachImage.{Loaded}
 use Rattle.opened_files.specs.Ends.{end_status}
 use Rattle.command_faults.specs.Faults.{command_status, command_text}
 
--- an image at this path that is refused was described: by why, and by the size that the system says
-abbrev pub IsRefusalDescribed : {W : Type 0} → (W → Option (List ℕ)) → DescriptionForm → List ℕ → CommandFault → W → W → ℕ → Type 0
+-- what stands before the first image
+abbrev pub heading_of : ImageForm → List ℕ
+heading_of (forms.Described form) = heading_text form
+heading_of (forms.Planned form) = plan_heading form
+
+-- an image at this path that is refused was printed: by why, and by the size that the system says
+abbrev pub IsRefusalPrinted : {W : Type 0} → (W → Option (List ℕ)) → ImageForm → List ℕ → CommandFault → W → W → Type 0
+IsRefusalPrinted contents (forms.Described form) path refusal old new =
+    (size : Option ℕ) × Appends (contents old) (contents new) (refusal_text form path size (command_text refusal))
+IsRefusalPrinted contents (forms.Planned form) path refusal old new = IsPlanRefusal contents form path refusal old new
+
+-- and its status is that of the refusal
+abbrev pub IsRefusalDescribed : {W : Type 0} → (W → Option (List ℕ)) → ImageForm → List ℕ → CommandFault → W → W → ℕ → Type 0
 IsRefusalDescribed contents form path refusal old new status =
-    ((size : Option ℕ) × Appends (contents old) (contents new) (refusal_text form path size (command_text refusal)))
-    × (status ≡ command_status refusal)
+    IsRefusalPrinted contents form path refusal old new × (status ≡ command_status refusal)
+
+-- an image at this path with these bytes was described, and a check of it finds this
+abbrev pub IsOneDescribed : {W : Type 0} → (W → Option (List ℕ)) → ImageForm → (path image : List ℕ) → W → W → Option Fault → Type 0
+IsOneDescribed contents (forms.Described form) path image old new found = IsDescribed contents form path image old new found
+IsOneDescribed contents (forms.Planned form) path image old new found = IsPlanOf contents form path image old new found
+
+-- why it isn't
+abbrev pub IsDescribingFault : ImageForm → (image : List ℕ) → CommandFault → Type 0
+IsDescribingFault (forms.Described form) image fault = IsDescribeFault image fault
+IsDescribingFault (forms.Planned form) image fault = IsPlanFault image fault
 
 -- an image at this path that has these bytes was described, with the status of its check
-abbrev pub IsImageDescribed : {W : Type 0} → (W → Option (List ℕ)) → DescriptionForm → List ℕ → (image : List ℕ) → W → W → ℕ → Type 0
+abbrev pub IsImageDescribed : {W : Type 0} → (W → Option (List ℕ)) → ImageForm → List ℕ → (image : List ℕ) → W → W → ℕ → Type 0
 IsImageDescribed contents form path image old new status =
-    ((found : Option Fault) × IsDescribed contents form path image old new found × (status ≡ end_status (Ok found)))
-    ⊎ ((fault : CommandFault) × IsDescribeFault image fault
+    ((found : Option Fault) × IsOneDescribed contents form path image old new found × (status ≡ end_status (Ok found)))
+    ⊎ ((fault : CommandFault) × IsDescribingFault form image fault
     × IsRefusalDescribed contents form path fault old new status)
 
 -- an image at this path from which this was read was described
-abbrev pub IsDescribedFrom : {W : Type 0} → (W → Option (List ℕ)) → DescriptionForm → List ℕ → Loaded → W → W → ℕ → Type 0
+abbrev pub IsDescribedFrom : {W : Type 0} → (W → Option (List ℕ)) → ImageForm → List ℕ → Loaded → W → W → ℕ → Type 0
 IsDescribedFrom contents form path (Ok image) old new status = IsImageDescribed contents form path image old new status
 IsDescribedFrom contents form path (Err refusal) old new status = IsRefusalDescribed contents form path refusal old new status

@@ -1,5 +1,5 @@
 -- What comes of several images, one after another. All of it is our own.
-use Rattle.std.specs.Prelude.{◌≡◌, ◌≢◌, ⊤, ℕ, List, [], ◌∷◌, IfOk, None, Option, Some, Result, Ok, Err, Vec, max, take, vec_items}
+use Rattle.std.specs.Prelude.{◌≡◌, ◌≢◌, ⊤, ℕ, List, [], ◌∷◌, IfOk, None, Option, Some, Result, Ok, Err, Vec, max, vec_items}
 use Rattle.std.specs.declared.alloc.Global.{Global}
 use Rattle.std.specs.Io.KnownBytes.{Keeps}
 use Rattle.opened_files.specs.Ends.{JobEnd}
@@ -7,7 +7,9 @@ use Rattle.command_faults.specs.declared.faults.CommandFault.{CommandFault}
 use Rattle.command_faults.specs.declared.faults.CommandFault.TheVariants as faults
 use Rattle.image_file.specs.paths.Rights.{Rights}
 use Rattle.image_file.specs.paths.Standing.{Stands}
+use Rattle.opened_files.specs.Extents.{taken_as}
 use Rattle.opened_files.specs.HostFiles.{OfImage}
+use Rattle.opened_files.specs.declared.extents.Extent.{Extent}
 
 -- what was read of an image: its bytes, or why there are none
 abbrev pub Loaded : Type 0
@@ -19,8 +21,8 @@ as_loaded (Ok image) = Ok (vec_items image)
 as_loaded (Err refusal) = Err refusal
 
 -- if an image was read, it is what is needed of a file's bytes
-abbrev pub IsLoadedOf : List ℕ → Loaded → Type 0
-IsLoadedOf all read = IfOk read (λ image. image ≡ take 174849 all)
+abbrev pub IsLoadedOf : Extent → List ℕ → Loaded → Type 0
+IsLoadedOf extent all read = IfOk read (λ image. image ≡ taken_as extent all)
 
 -- what is printed of an image was printed of what a source gave at this path, with this status
 pub record IsOneFrom {W : Type 0} (gives : List ℕ → Loaded → Type 0) (prints : List ℕ → Loaded → W → W → ℕ → Type 0)
@@ -59,5 +61,5 @@ IsSeveralEnd Done (Err fault) = IsCutOff fault
 
 module _ {H : Type 0} (rights : Rights H) (stands : H → List ℕ → Stands) (host : H) where
   -- what was read of the image at a path is of the bytes that the host says
-  abbrev pub IsReadAt : List ℕ → Loaded → Type 0
-  IsReadAt path read = OfImage rights stands host path (λ all. IsLoadedOf all read)
+  abbrev pub IsReadAt : Extent → List ℕ → Loaded → Type 0
+  IsReadAt extent path read = OfImage rights stands host path (λ all. IsLoadedOf extent all read)

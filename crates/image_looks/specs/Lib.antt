@@ -1,9 +1,11 @@
 pub mod Comparisons
 pub mod Descriptions
 pub mod EachImage
+pub mod Extents
 pub mod Extracts
 pub mod LookRuns
 pub mod Looks
 pub mod NewFolders
 pub mod Overviews
+pub mod Plans
 pub mod SheetPages

@@ -7,7 +7,7 @@ use command_faults::CommandFault;
 use disk_layout::Fault;
 use disk_pictures::compare_images;
 use image_file::{HostFiles, Locks};
-use opened_files::image_at;
+use opened_files::{Extent, image_as};
 use std::alloc::Global;
 use std::fs::OpenFile;
 use std::io::{Read, Write};
@@ -45,8 +45,8 @@ where
     requires after { MayReadImage R.rights rt.now after.now }
     ensures { IsComparedOver R.rights R.stands W.contents rt.now before.now after.now out.old out.new result }
 {
-    let first = image_at(rt, before)?;
-    let second = image_at(rt, after)?;
+    let first = image_as(rt, Extent::FirstTracks, before)?;
+    let second = image_as(rt, Extent::FirstTracks, after)?;
     comparing_run(
         rt.alloc(),
         before,

@@ -1,34 +1,59 @@
-//! Images that are read, each described by an object of JSON or a row of a table.
-ghost use Rattle.std.specs.Prelude.{All, IfOk, map, IfErr, OnOk};
+//! Images that are read, each described in a line of its own: what is known of it, or what can be done for it.
+ghost use Rattle.std.specs.Prelude.{◌≡◌, ◌≢◌, All, IfOk, map, IfErr, OnOk};
 ghost use Rattle.std.specs.Io.KnownBytes.{Appends};
-ghost use Rattle.disk_reports.specs.Descriptions.{heading_text};
-ghost use Rattle.image_looks.specs.Descriptions.{IsImageDescribed, IsDescribedFrom, IsRefusalDescribed};
+ghost use Rattle.command_faults.specs.declared.faults.CommandFault.TheVariants as faults;
+ghost use Rattle.image_looks.specs.Descriptions.{IsDescribedFrom, IsDescribingFault, IsImageDescribed, IsOneDescribed};
+ghost use Rattle.image_looks.specs.Descriptions.{IsRefusalDescribed, IsRefusalPrinted, heading_of as heading_text};
 ghost use Rattle.image_looks.specs.EachImage.{IsCutOff, as_loaded};
 ghost use Rattle.image_looks.specs.LookRuns.{AreDescribed};
 ghost use Rattle.opened_files.specs.Rights.{MayLook, MayReadImage};
+ghost use Rattle.image_looks.specs.declared.descriptions.ImageForm.TheVariants as forms;
 
 use crate::each_image::{PrintsImage, print_each, several_end};
+use crate::plans::{plan_against, plan_of};
 use command_faults::CommandFault;
 use disk_layout::Fault;
-use disk_reports::{DescriptionForm, describe_image, describe_refusal, heading};
+use disk_reports::{
+    DescriptionForm, PlanForm, describe_image, describe_refusal, heading, plan_heading,
+};
 use image_file::{HostFiles, Locks};
-use opened_files::size_of;
+use opened_files::{Extent, size_of};
+use std::alloc::Global;
 use std::fs::OpenFile;
 use std::io::{Read, Write};
 
-/// Describes the image at a path that is refused, by what the command would print of it alone. Returns its exit status.
-fn print_refusal<R, W>(
+/// How images are described.
+#[derive(Clone, Copy, Debug, PartialEq, Eq)]
+pub enum ImageForm {
+    /// By what is known of each.
+    Described(DescriptionForm),
+    /// By what can be done for each.
+    Planned(PlanForm),
+}
+
+/// What stands before the first image.
+fn heading_of(form: ImageForm) -> &'static [u8]
+    ensures { result.now ≡ heading_text form }
+{
+    match form {
+        ImageForm::Described(form) => heading(form),
+        ImageForm::Planned(form) => plan_heading(form),
+    }
+}
+
+/// Prints what is known of an image that is refused.
+fn print_refused<R, W>(
     rt: &R,
     form: DescriptionForm,
     path: &str,
     refusal: CommandFault,
     out: &mut W,
-) -> Result<u8, CommandFault>
+) -> Result<(), CommandFault>
 where
     R: HostFiles + AllocGlobal,
     W: Write,
     requires { MayLook R.rights rt.now path.now }
-    ensures ok { IfOk result (IsRefusalDescribed W.contents form path.now refusal out.old out.new) }
+    ensures ok { OnOk result (IsRefusalPrinted W.contents (forms.Described form) path.now refusal out.old out.new) }
     ensures err { IfErr result IsCutOff }
 {
     let Ok(why) = format!(in rt.alloc(); "{refusal}") else {
@@ -40,8 +65,72 @@ where
         size_of(rt, path),
         why.as_bytes(),
         out,
-    )?;
+    )
+}
+
+/// Prints of the image at a path that is refused what the command would print of it alone.
+fn print_refusal_in<R, W>(
+    rt: &R,
+    form: ImageForm,
+    path: &str,
+    refusal: CommandFault,
+    out: &mut W,
+) -> Result<(), CommandFault>
+where
+    R: HostFiles + AllocGlobal,
+    W: Write,
+    requires { MayLook R.rights rt.now path.now }
+    ensures ok { OnOk result (IsRefusalPrinted W.contents form path.now refusal out.old out.new) }
+    ensures err { IfErr result IsCutOff }
+{
+    match form {
+        ImageForm::Described(form) => print_refused(rt, form, path, refusal, out),
+        ImageForm::Planned(form) => plan_against(
+            rt.alloc(),
+            form,
+            path,
+            refusal,
+            size_of(rt, path),
+            out,
+        ),
+    }
+}
+
+/// Describes the image at a path that is refused, by what the command would print of it alone. Returns its exit status.
+fn print_refusal<R, W>(
+    rt: &R,
+    form: ImageForm,
+    path: &str,
+    refusal: CommandFault,
+    out: &mut W,
+) -> Result<u8, CommandFault>
+where
+    R: HostFiles + AllocGlobal,
+    W: Write,
+    requires { MayLook R.rights rt.now path.now }
+    ensures ok { IfOk result (IsRefusalDescribed W.contents form path.now refusal out.old out.new) }
+    ensures err { IfErr result IsCutOff }
+{
+    print_refusal_in(rt, form, path, refusal, out)?;
     Ok(refusal.status())
+}
+
+/// Describes an image with these bytes. Returns the fault that a check of it finds.
+fn describe_one<W: Write>(
+    alloc: Global,
+    form: ImageForm,
+    path: &str,
+    image: &[u8],
+    out: &mut W,
+) -> Result<Option<Fault>, CommandFault>
+    ensures ok { IfOk result (IsOneDescribed W.contents form path.now image.now out.old out.new) }
+    ensures err { IfErr result (IsDescribingFault form image.now) }
+    ensures untouched { IfErr result (λ fault. (fault ≢ faults.File) → out.new ≡ out.old) }
+{
+    match form {
+        ImageForm::Described(form) => describe_image(alloc, form, path.as_bytes(), image, out),
+        ImageForm::Planned(form) => plan_of(alloc, form, path, image, out),
+    }
 }
 
 /// Describes the image at a path that has these bytes, and returns the exit status that a check of it alone would have.
@@ -49,7 +138,7 @@ where
 #[inline(never)]
 fn describe<R, W>(
     rt: &R,
-    form: DescriptionForm,
+    form: ImageForm,
     path: &str,
     image: &[u8],
     out: &mut W,
@@ -61,7 +150,7 @@ where
     ensures ok { IfOk result (IsImageDescribed W.contents form path.now image.now out.old out.new) }
     ensures err { IfErr result IsCutOff }
 {
-    match describe_image(rt.alloc(), form, path.as_bytes(), image, out) {
+    match describe_one(rt.alloc(), form, path, image, out) {
         Ok(None) => Ok(0),
         Ok(Some(_)) => Ok(1),
         Err(CommandFault::File) => Err(CommandFault::File),
@@ -73,7 +162,7 @@ where
 /// have.
 fn describe_read<R, W>(
     rt: &R,
-    form: DescriptionForm,
+    form: ImageForm,
     path: &str,
     read: Result<Vec<u8>, CommandFault>,
     out: &mut W,
@@ -92,22 +181,22 @@ where
 }
 
 /// Prints what stands before the first image. `File` if the output failed.
-fn print_heading<W: Write>(form: DescriptionForm, out: &mut W) -> Result<(), CommandFault>
+fn print_heading<W: Write>(form: ImageForm, out: &mut W) -> Result<(), CommandFault>
     ensures ok { OnOk result (Appends (W.contents out.old) (W.contents out.new) (heading_text form)) }
     ensures err { IfErr result IsCutOff }
 {
-    match out.write_all(heading(form)) {
+    match out.write_all(heading_of(form)) {
         Ok(()) => Ok(()),
         Err(_) => Err(CommandFault::File),
     }
 }
 
-/// Images that are described in this form.
+/// Images that are described in this form, one after another.
 #[derive(Clone, Copy)]
-struct Described(DescriptionForm);
+struct Listed(ImageForm);
 
-impl<R: HostFiles + AllocGlobal, W: Write> PrintsImage<R, W> for Described {
-    ghost prints = { λ described. IsDescribedFrom W.contents described.0 };
+impl<R: HostFiles + AllocGlobal, W: Write> PrintsImage<R, W> for Listed {
+    ghost prints = { λ listed. IsDescribedFrom W.contents listed.0 };
 
     fn print(
         &self,
@@ -127,7 +216,7 @@ impl<R: HostFiles + AllocGlobal, W: Write> PrintsImage<R, W> for Described {
 /// images after that one aren't read.
 pub fn do_describing<F, R, W>(
     rt: &R,
-    form: DescriptionForm,
+    form: ImageForm,
     paths: &[&str],
     out: &mut W,
 ) -> Result<Option<Fault>, CommandFault>
@@ -139,6 +228,6 @@ where
     ensures { AreDescribed R.rights R.stands W.contents rt.now form (map (λ path. path.now) paths.now) out.old out.new result }
 {
     print_heading(form, out)?;
-    let greatest = print_each(rt, &Described(form), paths, out)?;
+    let greatest = print_each(rt, &Listed(form), Extent::Disk, paths, out)?;
     several_end(greatest, out)
 }

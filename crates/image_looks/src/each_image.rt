@@ -7,7 +7,7 @@ ghost use Rattle.std.specs.Io.KnownBytes.{Keeps};
 use command_faults::CommandFault;
 use disk_layout::Fault;
 use image_file::{HostFiles, Locks};
-use opened_files::image_at;
+use opened_files::{Extent, image_as};
 use std::fs::OpenFile;
 use std::io::{self, Read, Write};
 
@@ -30,8 +30,14 @@ pub(crate) trait PrintsImage<R: HostFiles + AllocGlobal, W: Write> {
         ensures err { IfErr result IsCutOff };
 }
 
-/// Prints what is asked of the image at a path, and returns its exit status.
-fn print_one<F, R, W, P>(rt: &R, what: &P, path: &str, out: &mut W) -> Result<u8, CommandFault>
+/// Prints what is asked of the image at a path, of which this extent is taken, and returns its exit status.
+fn print_one<F, R, W, P>(
+    rt: &R,
+    what: &P,
+    extent: Extent,
+    path: &str,
+    out: &mut W,
+) -> Result<u8, CommandFault>
 where
     F: Read + Locks + OpenFile + Drop,
     R: HostFiles<File = F> + Input + AllocGlobal,
@@ -39,18 +45,19 @@ where
     P: PrintsImage<R, W>,
     requires { MayReadImage R.rights rt.now path.now }
     ensures ok { IfOk result
-        (IsOneFrom (IsReadAt R.rights R.stands rt.now) (P.prints what.now) path.now out.old out.new) }
+        (IsOneFrom (IsReadAt R.rights R.stands rt.now extent) (P.prints what.now) path.now out.old out.new) }
     ensures err { IfErr result IsCutOff }
 {
-    what.print(rt, path, image_at(rt, path), out)
+    what.print(rt, path, image_as(rt, extent, path), out)
 }
 
 /// Prints what is asked of each of several images, in their order, and returns the greatest exit status of theirs. An image
-/// is locked with others that read it while it is read. `File` if the output failed, and `NoMemory`: the images after that
+/// is locked with others that read it while it is read, and this extent is taken of each. `File` if the output failed, and `NoMemory`: the images after that
 /// one aren't read.
 pub(crate) fn print_each<F, R, W, P>(
     rt: &R,
     what: &P,
+    extent: Extent,
     paths: &[&str],
     out: &mut W,
 ) -> Result<u8, CommandFault>
@@ -60,13 +67,13 @@ where
     W: Write,
     P: PrintsImage<R, W>,
     requires { All (λ path. MayReadImage R.rights rt.now path.now) paths.now }
-    ensures ok { IfOk result (AreEach (IsReadAt R.rights R.stands rt.now) (P.prints what.now)
+    ensures ok { IfOk result (AreEach (IsReadAt R.rights R.stands rt.now extent) (P.prints what.now)
         (map (λ path. path.now) paths.now) out.old out.new) }
     ensures err { IfErr result IsCutOff }
 {
     let mut greatest = 0;
     for path in paths {
-        let status = print_one(rt, what, path, out)?;
+        let status = print_one(rt, what, extent, path, out)?;
         greatest = status.max(greatest);
     }
     Ok(greatest)

@@ -1,10 +1,12 @@
 //! All files of an image, taken out to a folder that is new.
-ghost use Rattle.std.specs.Prelude.{◌≡◌, ◌++◌, IfErr, IfOk, IfSome, IsErr, IsOk, OnOk, codes, take, true};
+ghost use Rattle.std.specs.Prelude.{◌≡◌, ◌++◌, IfErr, IfOk, IfSome, IsErr, IsOk, OnOk, codes, true};
 ghost use Rattle.std.specs.Io.KnownBytes.{Appends};
 ghost use Rattle.line_text.specs.Handed.{AppendsPart};
 ghost use Rattle.command_faults.specs.declared.faults.CommandFault.TheVariants as faults;
 ghost use Rattle.image_looks.specs.Extracts.{IsExtractRun, IsExtractTold, IsExtractedTo, IsUnmade, extracted_text, refusal_found, refusal_of};
 ghost use Rattle.image_looks.specs.LookRuns.{IsExtractedFrom};
+ghost use Rattle.opened_files.specs.Extents.{taken_as};
+ghost use Rattle.opened_files.specs.declared.extents.Extent.TheVariants as extents;
 ghost use Rattle.opened_files.specs.HostFiles.{IsUnbegun, OfImage, RunEnds};
 ghost use Rattle.opened_files.specs.Rights.{MayFill, MayFillAt, MayReadImage};
 
@@ -15,7 +17,7 @@ use damaged_files::Shortfall;
 use disk_layout::Fault;
 use file_rescues::{Choice, extract_image};
 use image_file::{EndedFile, HostFiles, Locks};
-use opened_files::{image_at, run_end, short_refusal, shortfall_in};
+use opened_files::{Extent, image_as, run_end, short_refusal, shortfall_in};
 use shop_commands::print_whole;
 use std::alloc::Global;
 use std::fs::OpenFile;
@@ -137,9 +139,9 @@ where
     requires image { MayReadImage R.rights rt.now path.now }
     requires folder { MayFill R.rights rt.now folder.now }
     ensures { OfImage R.rights R.stands rt.now path.now (λ all. RunEnds out.old out.new result (IsExtractedTo
-        F.EndedFile.remains R.traces W.contents rt.now choice folder.now (take 174849 all) out.old out.new result)) }
+        F.EndedFile.remains R.traces W.contents rt.now choice folder.now (taken_as extents.FirstTracks all) out.old out.new result)) }
 {
-    let image = image_at(rt, path)?;
+    let image = image_as(rt, Extent::FirstTracks, path)?;
     let place = SystemFolder::new(rt, folder);
     extract_run(rt.alloc(), choice, image.as_slice(), &place, out)
 }

@@ -1,9 +1,11 @@
 //! The kinds of looks at an image.
+ghost use Rattle.std.specs.Prelude.{◌≡◌};
+ghost use Rattle.image_looks.specs.Extents.{extent_of};
 
 use d64_image::Place;
 use disk_reports::NameForm;
 use file_rescues::{Candidates, FileForm, RecordForm};
-use opened_files::{Loss, Name};
+use opened_files::{Extent, Loss, Name};
 
 /// What is printed of one image, which isn't written.
 #[derive(Drop)]
@@ -45,4 +47,17 @@ pub enum Look {
         /// The name of the file, of which the first is taken.
         name: Name,
     },
+}
+
+impl Look {
+    /// Which images this is printed of. The directory, checks and a shop are those of a disk of 35 tracks alone, so that a file of
+    /// another size is refused.
+    pub(crate) fn extent(&self) -> Extent
+        ensures { result ≡ extent_of self.now }
+    {
+        match self {
+            Look::List(_) | Look::Check | Look::Faults | Look::Show(_) => Extent::Disk,
+            _ => Extent::FirstTracks,
+        }
+    }
 }

@@ -1,4 +1,4 @@
-//! Looks at images: what is printed of one, of several, and what is taken out.
+//! Looks at images: what is printed of one, of several, what can be done for them, and what is taken out.
 #![tactic(auto)]
 
 mod comparisons;
@@ -9,10 +9,11 @@ mod kinds;
 mod looks;
 mod new_folders;
 mod overviews;
+mod plans;
 mod sheets;
 
 pub use comparisons::{comparing_run, do_comparing};
-pub use descriptions::do_describing;
+pub use descriptions::{ImageForm, do_describing};
 pub use extracting::{do_extracting, extract_run};
 pub use kinds::Look;
 pub use looks::{do_look, look};

@@ -15,7 +15,7 @@ use disk_pictures::{free_image, map_image, picture_image, poster_image, sector_i
 use disk_reports::{check_image, list_faults, list_image};
 use file_rescues::{Candidates, RecordForm, bytes_image, records_image, unclosed_records_image};
 use image_file::{HostFiles, Locks};
-use opened_files::{Loss, image_at, run_end, see_log_away};
+use opened_files::{Loss, image_as, run_end, see_log_away};
 use shop_commands::show_image;
 use std::alloc::Global;
 use std::fs::OpenFile;
@@ -116,7 +116,8 @@ pub fn look<W: Write>(
     }
 }
 
-/// Prints what is asked of the image at a path, as its shop is now.
+/// Prints what is asked of the image at a path, as its shop is now. If the image has 40 or 42 tracks, or error bytes, this is what
+/// stands on the first 35 tracks, unless the look takes a disk of 35 tracks alone.
 pub fn do_look<F, R, W>(
     rt: &R,
     what: &Look,
@@ -130,6 +131,6 @@ where
     requires { MayReadImage R.rights rt.now path.now }
     ensures { IsLookedAt R.rights R.stands W.contents rt.now what.now path.now out.old out.new result }
 {
-    let image = image_at(rt, path)?;
+    let image = image_as(rt, what.extent(), path)?;
     look(rt.alloc(), what, image.as_slice(), out)
 }

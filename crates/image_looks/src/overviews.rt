@@ -151,6 +151,6 @@ where
     ensures { AreOverviewed R.rights R.stands W.contents rt.now what.now (map (λ path. path.now) paths.now)
         out.old out.new result }
 {
-    let greatest = print_each(rt, &Named(what), paths, out)?;
+    let greatest = print_each(rt, &Named(what), what.extent(), paths, out)?;
     several_end(greatest, out)
 }

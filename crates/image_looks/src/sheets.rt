@@ -4,12 +4,14 @@ ghost use Rattle.image_looks.specs.EachImage.{IsCutOff, as_loaded, IsReadAt};
 ghost use Rattle.image_looks.specs.SheetPages.{IsSheetPrinted, IsTileOf, IsUnreadTile};
 ghost use Rattle.image_looks.specs.LookRuns.{AreDrawnOnSheet};
 ghost use Rattle.opened_files.specs.Rights.{MayReadImage};
+ghost use Rattle.opened_files.specs.declared.extents.Extent.TheVariants as extents;
 
 use crate::each_image::{PrintsImage, print_each, status_end};
 use command_faults::CommandFault;
 use disk_layout::Fault;
 use disk_pictures::{sheet_begin, sheet_finish, sheet_refusal, sheet_tile};
 use image_file::{HostFiles, Locks};
+use opened_files::Extent;
 use std::alloc::Global;
 use std::fs::OpenFile;
 use std::io::{Read, Write};
@@ -76,12 +78,12 @@ where
     R: HostFiles<File = F> + Input + AllocGlobal,
     W: Write,
     requires { All (λ path. MayReadImage R.rights rt.now path.now) paths.now }
-    ensures ok { IfOk result (IsSheetPrinted (IsReadAt R.rights R.stands rt.now) W.contents
+    ensures ok { IfOk result (IsSheetPrinted (IsReadAt R.rights R.stands rt.now extents.FirstTracks) W.contents
         (map (λ path. path.now) paths.now) out.old out.new) }
     ensures err { IfErr result IsCutOff }
 {
     sheet_begin(out, paths.len())?;
-    let greatest = print_each(rt, &Tiled, paths, out)?;
+    let greatest = print_each(rt, &Tiled, Extent::FirstTracks, paths, out)?;
     sheet_finish(out)?;
     Ok(greatest)
 }

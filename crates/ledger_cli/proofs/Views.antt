@@ -8,7 +8,7 @@ use Rattle.ledger_jobs.specs.declared.jobs.Job.{Job}
 use Rattle.image_looks.specs.declared.kinds.Look.{Look}
 use Rattle.image_looks.specs.declared.kinds.Look.TheVariants as looks
 use Rattle.ledger_cli.specs.Flags.{is_given}
-use Rattle.ledger_cli.specs.Images.{IsCheckJob, IsLookJob}
+use Rattle.ledger_cli.specs.Images.{IsCheckJob, IsLookJob, IsPlanJob}
 use Rattle.ledger_cli.specs.Looks.{IsAlone, IsAskedBy, IsOne, check_in, description_in, word_of}
 use Rattle.ledger_cli.specs.Jobs.{IsJob, IsNoJob}
 use Rattle.ledger_cli.specs.declared.faults.JobFault.{JobFault}
@@ -65,5 +65,18 @@ checking-met o found name at r told some is (inr (inl (form, images, same, are))
     let P : Result Job JobFault → Type 0 = λ j. MatchResult j (IsJob found) (IsNoJob [] found) × IfOk j IsFit in
     subst P (sym same) (met-has o found name at (codes "check") _ told some is are, tt)
 checking-met o found name at r told some is (inr (inr (e, same, kind))) =
+    let P : Result Job JobFault → Type 0 = λ j. MatchResult j (IsJob found) (IsNoJob [] found) × IfOk j IsFit in
+    subst P (sym same) (kind, tt)
+
+-- what plans what can be done for images is the job of `plan`
+pub planning-met : (o : Option (Bor Text × Bor ArgMatches)) (found : Option (Text × List Row)) (name : Bor Text)
+    (at : Bor ArgMatches) (r : Result Job JobFault)
+    → option_map (λ (p : Bor Text × Bor ArgMatches). (p.0.now, rows_of (found_of p.1.now))) o ≡ found
+    → o ≡ Some (name, at) → name.now ≡ codes "plan"
+    → IsPlanJob (rows_of (found_of at.now)) r → MatchResult r (IsJob found) (IsNoJob [] found) × IfOk r IsFit
+planning-met o found name at r told some is (inl (images, same, are)) =
+    let P : Result Job JobFault → Type 0 = λ j. MatchResult j (IsJob found) (IsNoJob [] found) × IfOk j IsFit in
+    subst P (sym same) (met-has o found name at (codes "plan") _ told some is are, tt)
+planning-met o found name at r told some is (inr (e, same, kind)) =
     let P : Result Job JobFault → Type 0 = λ j. MatchResult j (IsJob found) (IsNoJob [] found) × IfOk j IsFit in
     subst P (sym same) (kind, tt)

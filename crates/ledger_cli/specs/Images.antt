@@ -7,11 +7,14 @@ use Rattle.clap.specs.declared.error.Error.{Error}
 use Rattle.clap.specs.Words.{HasKind, Row, Text}
 use Rattle.command_table.specs.Grammar.{value, values}
 use Rattle.disk_reports.specs.declared.describing.DescriptionForm.{DescriptionForm}
+use Rattle.disk_reports.specs.declared.plans.PlanForm.{PlanForm}
 use Rattle.ledger_jobs.specs.declared.jobs.Job.{Job}
+use Rattle.image_looks.specs.declared.descriptions.ImageForm.{ImageForm}
+use Rattle.image_looks.specs.declared.descriptions.ImageForm.TheVariants as forms
 use Rattle.image_looks.specs.declared.kinds.Look.{Look}
 use Rattle.image_looks.specs.declared.kinds.Look.TheVariants as looks
 use Rattle.ledger_cli.specs.declared.faults.JobFault.{JobFault}
-use Rattle.ledger_cli.specs.Looks.{IsForOne, IsOne, check_in, description_in}
+use Rattle.ledger_cli.specs.Looks.{IsForOne, IsOne, check_in, description_in, plan_in}
 use Rattle.ledger_cli.specs.Flags.{is_given}
 use Rattle.ledger_jobs.specs.declared.jobs.Job.TheVariants as jobs
 use Rattle.ledger_cli.specs.declared.faults.JobFault.TheVariants as faults
@@ -70,7 +73,7 @@ IsLookJob rows what result =
     ⊎ ((e : Error) × (result ≡ Err (faults.Words e)) × HasKind [] e))
 
 -- the job that describes these images; or there was no memory for it
-abbrev pub IsDescribing : DescriptionForm → List (Bor Text) → Result Job JobFault → Type 0
+abbrev pub IsDescribing : ImageForm → List (Bor Text) → Result Job JobFault → Type 0
 IsDescribing form images result =
     ((all : Vec (Bor Text) Global) × (result ≡ Ok (jobs.Describe form all)) × (vec_items all ≡ images))
     ⊎ ((e : Error) × (result ≡ Err (faults.Words e)) × HasKind [] e)
@@ -79,9 +82,20 @@ IsDescribing form images result =
 abbrev pub IsCheckJob : List Row → Result Job JobFault → Type 0
 IsCheckJob rows result =
     ((description_in rows ≡ None) × IsLookJob rows (check_in rows) result)
-    ⊎ (((form : DescriptionForm) × (images : Vec (Bor Text) Global) × (result ≡ Ok (jobs.Describe form images))
-    × AreDescribed rows form (vec_items images))
+    ⊎ (((form : DescriptionForm) × (images : Vec (Bor Text) Global)
+    × (result ≡ Ok (jobs.Describe (forms.Described form) images)) × AreDescribed rows form (vec_items images))
     ⊎ ((e : Error) × (result ≡ Err (faults.Words e)) × HasKind [] e))
+
+-- they are to be planned in this form, and these are the images, in their order
+abbrev pub ArePlanned : List Row → PlanForm → List (Bor Text) → Type 0
+ArePlanned rows form images = (plan_in rows ≡ form) × (map (λ image. image.now) images ≡ values (codes "IMAGE") rows)
+
+-- the job, or why there is none, of the subcommand that plans what can be done for images
+abbrev pub IsPlanJob : List Row → Result Job JobFault → Type 0
+IsPlanJob rows result =
+    ((images : Vec (Bor Text) Global) × (result ≡ Ok (jobs.Describe (forms.Planned (plan_in rows)) images))
+    × ArePlanned rows (plan_in rows) (vec_items images))
+    ⊎ ((e : Error) × (result ≡ Err (faults.Words e)) × HasKind [] e)
 
 -- the sheet of these images; or there are too many for it, or there was no memory
 abbrev pub IsSheet : List (Bor Text) → Result Job JobFault → Type 0

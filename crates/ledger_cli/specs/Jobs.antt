@@ -13,12 +13,13 @@ use Rattle.opened_files.specs.Names.{IsNameOf, name_bytes}
 use Rattle.ledger_cli.specs.declared.faults.JobFault.{JobFault}
 use Rattle.ledger_cli.specs.Numbers.{tills_in, length_in, place_in}
 use Rattle.ledger_cli.specs.Forms.{AreColumns, choice_in, effect_in, loss_in, unowned_in}
-use Rattle.ledger_cli.specs.Images.{AreCompared, AreDescribed, AreImages, AreOnSheet, IsNoPicture}
+use Rattle.ledger_cli.specs.Images.{AreCompared, AreDescribed, AreImages, AreOnSheet, ArePlanned, IsNoPicture}
 use Rattle.ledger_cli.specs.Looks.{IsAlone, IsAskedBy, word_of}
 use Rattle.ledger_cli.specs.Names.{HasNoName, HasNoNewName, HasName, HasNewName, IsIdOf, HasNoId, HasNoFileCopying, HasNoRenaming, copy_name, entry_type_in, type_in}
 use Rattle.ledger_cli.specs.Flags.{is_given}
 use Rattle.ledger_cli.specs.Positions.{HasNoColumns}
 use Rattle.ledger_jobs.specs.declared.jobs.Job.TheVariants as jobs
+use Rattle.image_looks.specs.declared.descriptions.ImageForm.TheVariants as forms
 use Rattle.ledger_cli.specs.declared.faults.JobFault.TheVariants as faults
 
 -- the subcommand is this one, and of its values this holds
@@ -95,7 +96,10 @@ IsJob found (jobs.FormatNew image tills) = Has found (codes "format")
     × (is_given (codes "new") rows ≡ true))
 IsJob found (jobs.Look image what) = Has found (word_of what)
     (λ rows. (image.now ≡ value (codes "IMAGE") rows) × IsAlone what rows × IsAskedBy what rows)
-IsJob found (jobs.Describe form images) = Has found (codes "check") (λ rows. AreDescribed rows form (vec_items images))
+IsJob found (jobs.Describe (forms.Described form) images) = Has found (codes "check")
+    (λ rows. AreDescribed rows form (vec_items images))
+IsJob found (jobs.Describe (forms.Planned form) images) = Has found (codes "plan")
+    (λ rows. ArePlanned rows form (vec_items images))
 IsJob found (jobs.Sheet images) = Has found (codes "picture") (λ rows. AreOnSheet rows (vec_items images))
 IsJob found (jobs.Compare before after) = Has found (codes "picture") (λ rows. AreCompared rows before.now after.now)
 IsJob found (jobs.Trim image) = Has found (codes "trim") (λ rows. image.now ≡ value (codes "IMAGE") rows)

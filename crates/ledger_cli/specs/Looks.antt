@@ -5,6 +5,8 @@ use Rattle.command_table.specs.Grammar.{value, values}
 use Rattle.opened_files.specs.Names.{IsNameOf, name_bytes}
 use Rattle.disk_reports.specs.declared.describing.DescriptionForm.{DescriptionForm}
 use Rattle.disk_reports.specs.declared.describing.DescriptionForm.TheVariants as forms
+use Rattle.disk_reports.specs.declared.plans.PlanForm.{PlanForm}
+use Rattle.disk_reports.specs.declared.plans.PlanForm.TheVariants as plans
 use Rattle.file_rescues.specs.declared.forms.FileForm.TheVariants as files
 use Rattle.image_looks.specs.declared.kinds.Look.{Look}
 use Rattle.image_looks.specs.declared.kinds.Look.TheVariants as looks
@@ -36,6 +38,16 @@ abbrev pub description_in : List Row → Option DescriptionForm
 description_in rows =
     if is_given (codes "json") rows then Some forms.Json
     else (if is_given (codes "csv") rows then Some forms.Csv else None)
+
+-- how a plan is to be printed: in lines, unless --json or --csv is given
+abbrev pub plan_of : Option DescriptionForm → PlanForm
+plan_of None = plans.Lines
+plan_of (Some forms.Json) = plans.Json
+plan_of (Some forms.Csv) = plans.Csv
+
+-- the same, as the flags ask for it
+abbrev pub plan_in : List Row → PlanForm
+plan_in rows = plan_of (description_in rows)
 
 -- the values and the flags ask for this; with --json or --csv `check` describes images in place of it
 abbrev pub IsAskedBy : Look → List Row → Type 0

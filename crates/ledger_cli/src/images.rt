@@ -2,16 +2,16 @@
 ghost use Rattle.std.specs.Prelude.{◌≡◌};
 ghost use Rattle.clap.specs.Words.{found_of, rows_of};
 ghost use Rattle.ledger_cli.specs.Images.{IsCheckJob, IsDescribing, IsLookJob, IsComparing, IsPictureJob};
-ghost use Rattle.ledger_cli.specs.Images.{IsSeveral, IsSheet, picture_job, has_two_forms as two_forms};
-ghost use Rattle.ledger_cli.specs.Looks.{description_in};
+ghost use Rattle.ledger_cli.specs.Images.{IsPlanJob, IsSeveral, IsSheet, picture_job, has_two_forms as two_forms};
+ghost use Rattle.ledger_cli.specs.Looks.{description_in, plan_in};
 
 use crate::faults::JobFault;
 use crate::forms::checked;
 use crate::values::{is_given, value_of, values_of};
 use clap::{ArgMatches, Error};
 use disk_pictures::MOST_TILES;
-use disk_reports::DescriptionForm;
-use image_looks::Look;
+use disk_reports::{DescriptionForm, PlanForm};
+use image_looks::{ImageForm, Look};
 use ledger_jobs::Job;
 use std::alloc::{AllocError, Global};
 
@@ -134,11 +134,7 @@ fn description_of<'a>(matches: &ArgMatches<'a>) -> Option<DescriptionForm>
 }
 
 /// The job that describes these images in a form.
-fn described<'a>(
-    alloc: Global,
-    form: DescriptionForm,
-    images: &[&'a str],
-) -> Result<Job<'a>, JobFault>
+fn described<'a>(alloc: Global, form: ImageForm, images: &[&'a str]) -> Result<Job<'a>, JobFault>
     ensures { IsDescribing form images.now result }
 {
     let mut all = Vec::new(alloc);
@@ -159,5 +155,27 @@ pub(crate) fn checking<'a>(alloc: Global, matches: &ArgMatches<'a>) -> Result<Jo
         // A parse without an image is refused.
         return Err(JobFault::Words(Error::from(AllocError)));
     };
-    described(alloc, form, images)
+    described(alloc, ImageForm::Described(form), images)
+}
+
+/// How a plan is to be printed.
+fn plan_form<'a>(matches: &ArgMatches<'a>) -> PlanForm
+    ensures { result ≡ plan_in (rows_of (found_of matches.now)) }
+{
+    match description_of(matches) {
+        Some(DescriptionForm::Json) => PlanForm::Json,
+        Some(DescriptionForm::Csv) => PlanForm::Csv,
+        None => PlanForm::Lines,
+    }
+}
+
+/// The job that plans what can be done for images.
+pub(crate) fn planning<'a>(alloc: Global, matches: &ArgMatches<'a>) -> Result<Job<'a>, JobFault>
+    ensures { IsPlanJob (rows_of (found_of matches.now)) result }
+{
+    let Some(images) = values_of(matches, "IMAGE") else {
+        // A parse without an image is refused.
+        return Err(JobFault::Words(Error::from(AllocError)));
+    };
+    described(alloc, ImageForm::Planned(plan_form(matches)), images)
 }

@@ -1,6 +1,12 @@
 //! How far long work is, for a person who waits for it.
+ghost use Rattle.shop_jobs.specs.JobOutputs.{of_no_log};
+
 use image_edits::Edit;
+use image_log::ImageLog;
 use ledger_jobs::Job;
+use line_text::NotTaken;
+use request_cards::Reply;
+use shop_jobs::{JobOutput, print_to_writer};
 use std::io::{self, Write};
 
 /// After how many more lines the count is printed again.
@@ -68,5 +74,20 @@ impl<W: Write, E: Write> Write for Watched<'_, W, E> {
 
     fn flush(&mut self) -> io::Result<()> {
         self.out.flush()
+    }
+}
+
+impl<W: Write, E: Write> JobOutput for Watched<'_, W, E> {
+    ghost replies = { λ L. of_no_log };
+
+    fn print_reply<L: ImageLog>(&mut self, reply: &Reply, log: &L) -> Result<(), NotTaken> {
+        print_to_writer(self, reply, log)
+    }
+
+    fn hand_on_replies<L: ImageLog>(&mut self) -> Result<(), NotTaken> {
+        match self.flush() {
+            Ok(()) => Ok(()),
+            Err(_) => Err(NotTaken),
+        }
     }
 }

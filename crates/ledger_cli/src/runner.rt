@@ -5,6 +5,7 @@ ghost use Rattle.command_faults.specs.declared.faults.CommandFault.TheVariants a
 ghost use Rattle.ledger_jobs.specs.Jobs.{IsFit};
 ghost use Rattle.ledger_cli.specs.declared.runner.Audience.TheVariants.{Person, Program, Waiting};
 
+use crate::faults::JobFault;
 use crate::progress::{Watched, is_long};
 use crate::word_refusals::{print_meaning, refuse, refuse_words};
 use crate::words::command_line;
@@ -12,16 +13,25 @@ use command_faults::CommandFault;
 use disk_layout::Fault;
 use image_edits::do_trim;
 use image_file::{EndedFile, Failure, Failures, LimitedErrors, Locks, NotedRuntime, Subject};
+use image_looks::{ImageForm, Look};
 use ledger_jobs::{Job, announce, do_job, explain, files_of, meaning_of, tell_verdict};
 use opened_files::end;
+use shop_jobs::JobOutput;
 use std::alloc::{AllocError, Global};
-use std::env;
 use std::fs::OpenFile;
 use std::io::{self, BufWriter, ErrorKind, Read, Write};
 use std::rt::{Env, Files};
+use std::time::{Clock, Duration};
+use std::{env, thread};
 
 /// The exit status of words that are refused.
 const WORDS: u8 = 2;
+
+/// How often a job that shows a shop is tried before the last time while another program has the image.
+const TRIES: u32 = 20;
+
+/// How many milliseconds it waits after each of these tries.
+const PAUSE: u64 = 50;
 
 /// How many bytes of output are gathered before they are written.
 const OUTPUT_ROOM: usize = 32768;
@@ -73,7 +83,7 @@ fn run_with_progress<F, R, W, E>(
 where
     F: EndedFile + Read + Locks + OpenFile + Drop,
     R: Files<File = F> + Input + AllocGlobal,
-    W: Write,
+    W: JobOutput,
     E: Write,
     requires { IsFit job.now }
 {
@@ -161,28 +171,93 @@ where
     }
 }
 
+/// Whether a job shows a shop that another program has alone, as a service does for a moment while it starts.
+fn is_kept_out(job: &Job<'_>, ended: Result<Option<Fault>, CommandFault>) -> bool {
+    match job {
+        Job::Look {
+            what: Look::Show(_),
+            ..
+        } => matches!(ended, Err(CommandFault::InUse)),
+        _ => false,
+    }
+}
+
+/// Whether a job prints what a person looks through: one who has seen enough closes the pipe.
+fn is_looked_through(job: &Job<'_>) -> bool {
+    match job {
+        Job::Look { what, .. } | Job::Several { what, .. } => !matches!(
+            what,
+            Look::List(_) | Look::Check | Look::Faults | Look::Show(_)
+        ),
+        Job::Sheet { .. } | Job::Compare { .. } | Job::Trim { .. } => true,
+        Job::Describe { form, .. } => matches!(form, ImageForm::Planned(_)),
+        _ => false,
+    }
+}
+
+/// Whether a job failed because nobody reads its output any more.
+fn is_unread(ended: Result<Option<Fault>, CommandFault>, cause: Option<Failure<'_>>) -> bool {
+    let Some(Failure { subject, error, .. }) = cause else {
+        return false;
+    };
+    let is_closed = subject == Subject::Output && error.kind() == ErrorKind::BrokenPipe;
+    is_closed && matches!(ended, Err(CommandFault::File))
+}
+
 /// Does a job over an output that is gathered, and returns the exit status. If the job isn't done, a person reads more
-/// about why.
-fn obey_job<F, R, E>(rt: &R, job: &Job<'_>, told: Audience, err: &mut E) -> u8
+/// about why. None if it isn't the last try, and the job is kept out for a moment: then nothing was printed.
+fn obey_once<F, R, E>(
+    rt: &R,
+    job: &Job<'_>,
+    told: Audience,
+    is_last: bool,
+    err: &mut E,
+) -> Option<u8>
 where
     F: EndedFile + Read + Locks + OpenFile + Drop,
     R: Files<File = F> + Input + Print + AllocGlobal,
     E: Write,
     requires { IsFit job.now }
 {
-    if told != Audience::Program {
-        announce_job(rt, job, err);
-    }
     let failures = Failures::none();
     let ended = awaited(
         run_keeping_causes(rt, job, told, &failures, err),
         failures.cause(),
     );
+    if !is_last && is_kept_out(job, ended) {
+        return None;
+    }
+    if is_looked_through(job) && is_unread(ended, failures.cause()) {
+        return Some(CommandFault::File.status());
+    }
     let status = end(ended, err).status;
     if told != Audience::Program {
         explain_end(rt, job, ended, failures.cause(), err);
     }
-    status
+    Some(status)
+}
+
+/// Does a job, and returns the exit status. One that shows a shop waits a second for a service that is starting.
+fn obey_job<F, R, E>(rt: &R, job: &Job<'_>, told: Audience, err: &mut E) -> u8
+where
+    F: EndedFile + Read + Locks + OpenFile + Drop,
+    R: Files<File = F> + Clock + Input + Print + AllocGlobal,
+    E: Write,
+    requires { IsFit job.now }
+{
+    if told != Audience::Program {
+        announce_job(rt, job, err);
+    }
+    for _ in 0..TRIES {
+        if let Some(status) = obey_once(rt, job, told, false, err) {
+            return status;
+        }
+        thread::sleep(rt, Duration::from_millis(PAUSE));
+    }
+    match obey_once(rt, job, told, true, err) {
+        Some(status) => status,
+        None => CommandFault::InUse.status(),
+    }
 }
 
 /// An argument as `clap` takes it. Directly after `help` the flag `--help` asks for the help of `help` itself.
@@ -226,7 +301,7 @@ fn word_after_help(alloc: Global, texts: &[&str]) -> Result<String, AllocError> 
 fn obey_words<F, R, E>(rt: &R, texts: &[&str], told: Audience, err: &mut E) -> u8
 where
     F: EndedFile + Read + Locks + OpenFile + Drop,
-    R: Files<File = F> + Input + Print + AllocGlobal,
+    R: Files<File = F> + Clock + Input + Print + AllocGlobal,
     E: Write,
 {
     let line = command_line(rt.alloc(), texts);
@@ -241,17 +316,33 @@ where
     }
 }
 
+/// Prints that a command is wanted, and the program's help, for a person who typed its name alone. Returns the exit status of refused
+/// words.
+fn tell_help<E: Write>(alloc: Global, name: &str, err: &mut E) -> u8 {
+    let _ = writeln!(
+        err,
+        "error: 'ledger' requires a subcommand but one was not provided\n"
+    );
+    if let Err(JobFault::Words(help)) = command_line(alloc, &[name, "--help"]).job {
+        let _ = write!(err, "{help}");
+    }
+    WORDS
+}
+
 /// Does what these words ask for, or prints what one means that the program prints, and returns the exit status.
 fn obey<F, R, E>(rt: &R, words: &[String], told: Audience, err: &mut E) -> u8
 where
     F: EndedFile + Read + Locks + OpenFile + Drop,
-    R: Files<File = F> + Input + Print + AllocGlobal,
+    R: Files<File = F> + Clock + Input + Print + AllocGlobal,
     E: Write,
 {
     let texts = match texts_of(rt.alloc(), words) {
         Ok(texts) => texts,
         Err(error) => return refuse(err, &io::Error::from(error)),
     };
+    if let [name] = texts.as_slice() {
+        return tell_help(rt.alloc(), name, err);
+    }
     let word = match word_after_help(rt.alloc(), texts.as_slice()) {
         Ok(word) => word,
         Err(error) => return refuse(err, &io::Error::from(error)),
@@ -286,7 +377,7 @@ fn words_of<R: Env + AllocGlobal, E: Write>(rt: &R, err: &mut E) -> Result<Vec<S
 pub fn program<F, R, E>(rt: &R, told: Audience, err: &mut E) -> u8
 where
     F: EndedFile + Read + Locks + OpenFile + Drop,
-    R: Files<File = F> + Env + Input + Print + AllocGlobal,
+    R: Files<File = F> + Clock + Env + Input + Print + AllocGlobal,
     E: Write,
 {
     let err = &mut LimitedErrors::new(rt, err);

@@ -9,7 +9,7 @@ use crate::faults::JobFault;
 use crate::file_copies::copying_file;
 use crate::file_types::entry_type_named;
 use crate::forms::{byte_form, choice, loss, name_form, repairing};
-use crate::images::{checking, picturing, viewing};
+use crate::images::{checking, picturing, planning, viewing};
 use crate::names::{
     deleting, empty_disk, locking, making, putting, renaming, sorting, storing, taking_file,
     taking_records, titling, undeleting,
@@ -44,6 +44,7 @@ fn job_of<'a>(alloc: Global, matches: &ArgMatches<'a>) -> Result<Job<'a>, JobFau
         },
         "list" => viewing(alloc, found, Look::List(name_form(found))),
         "check" => checking(alloc, found),
+        "plan" => planning(alloc, found),
         "show" => Ok(Job::Look {
             what: Look::Show(loss(found)),
             image,

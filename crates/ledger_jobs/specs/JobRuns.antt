@@ -23,6 +23,7 @@ use Rattle.image_edits.specs.NewDisks.{IsNewDiskEnd}
 use Rattle.shop_jobs.specs.Formats.{IsFormattedEnd}
 use Rattle.shop_jobs.specs.NewShops.{IsNewShopEnd}
 use Rattle.image_edits.specs.EditRuns.{IsSalvagedFrom, IsCopiedFrom, IsEditOver}
+use Rattle.shop_jobs.specs.JobOutputs.{OverLogs}
 use Rattle.shop_jobs.specs.KeptServices.{IsPlayKept, IsServiceKept}
 use Rattle.shop_jobs.specs.ServiceEnds.{IsNearEnd}
 use Rattle.shop_jobs.specs.ShopRuns.{IsDryOver, IsLeftPlayed, IsPlayedOverFile, IsPlayedOverLog}
@@ -34,7 +35,8 @@ paths_of images = map (λ image. image.now) (vec_items images)
 module _ {H F W : Type 0} (g : HostGhosts H F) (r : ReadGhosts F) (s : SeekGhosts F) (G : Ghosts F) (logs : LogHistories H F)
     (folders : FolderHistories H F) (rights : Rights H) (stands : H → List ℕ → Stands) (traces : Traces H F)
     (remains : Remains F) (changed : H → (path image : List ℕ) → Changed → Type 0)
-    (replaced : H → (path image : List ℕ) → Type 0) (given : H → Option (List ℕ)) (contents : W → Option (List ℕ)) (host : H) where
+    (replaced : H → (path image : List ℕ) → Type 0) (given : H → Option (List ℕ)) (contents : W → Option (List ℕ))
+    (o : OverLogs W) (host : H) where
   -- a job ended so, over the bytes that the host has at the paths of its words, and left this
   abbrev pub IsJobOver : Job → W → W → JobEnd → Type 0
   IsJobOver (jobs.Look image what) old new end = IsLookedAt rights stands contents host what image.now old new end
@@ -61,8 +63,8 @@ module _ {H F W : Type 0} (g : HostGhosts H F) (r : ReadGhosts F) (s : SeekGhost
   IsJobOver (jobs.Several what images) old new end = AreOverviewed rights stands contents host what (paths_of images) old new end
   IsJobOver (jobs.PlayLogged image script loss) old new end =
       IsPlayedOverLog rights stands contents host image.now script.now old new end
-      × IsPlayKept g r s logs folders stands rights traces contents host image.now script.now old new end
+      × IsPlayKept g r s logs folders stands rights traces contents o host image.now script.now old new end
   IsJobOver (jobs.Serve image loss) old new end = IsLoggedService contents (IsShopAt stands host image.now) old new end
-      × IsServiceKept g r s logs folders stands rights traces contents (given host) host image.now old new end
+      × IsServiceKept g r s logs folders stands rights traces contents o (given host) host image.now old new end
   -- `do_trim` does that job
   IsJobOver (jobs.Trim image) old new end = (new ≡ old) × (end ≡ Err faults.File)

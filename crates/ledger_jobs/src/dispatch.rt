@@ -12,10 +12,10 @@ use image_edits::{do_copying, do_edit, do_new, do_salvaging};
 use image_file::{EndedFile, HostFiles, HostInput, Locks};
 use image_looks::{do_comparing, do_describing, do_extracting, do_look, do_several, do_sheet};
 use shop_jobs::{
-    do_dry, do_format, do_format_new, do_logged_playing, do_logged_serving, do_playing,
+    JobOutput, do_dry, do_format, do_format_new, do_logged_playing, do_logged_serving, do_playing,
 };
 use std::fs::OpenFile;
-use std::io::{Read, Write};
+use std::io::Read;
 
 /// Opens or reads the job's files and does it. What is printed goes to `out`, which is flushed at the end. An image is
 /// locked before anything of it is read or changed; if it is written, this program has it alone. If a log stands beside
@@ -37,11 +37,11 @@ pub fn do_job<F, R, W>(rt: &R, job: &Job<'_>, out: &mut W) -> Result<Option<Faul
 where
     F: EndedFile + Read + Locks + OpenFile + Drop,
     R: HostFiles<File = F> + HostImages + HostInput + Input + AllocGlobal,
-    W: Write,
+    W: JobOutput,
     requires rights { MayDo R.rights rt.now job.now }
     requires fit { IsFit job.now }
     ensures { IsJobOver R.HostFiles F.Read F.Seek F.WritesAt.own (asked_logs R.logs) (untagged_folders R.folders) R.rights R.stands R.traces
-        F.EndedFile.remains R.changed R.replaced R.given W.contents rt.now job.now out.old out.new result }
+        F.EndedFile.remains R.changed R.replaced R.given W.contents W.replies rt.now job.now out.old out.new result }
 {
     match *job {
         Job::Format { image, tills } => do_format(rt, image, tills, out),

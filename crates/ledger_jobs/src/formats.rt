@@ -47,9 +47,10 @@ fn said_of_size(bytes: u64) -> Option<&'static str> {
         197_376 => Some(
             "40 tracks and error bytes; `ledger trim OLD > NEW` takes the first 35, then check NEW",
         ),
-        205_312 | 206_114 => {
-            Some("42 tracks; `head -c 174848 OLD > NEW` takes the first 35, then check NEW")
-        }
+        205_312 => Some("42 tracks; `ledger trim OLD > NEW` takes the first 35, then check NEW"),
+        206_114 => Some(
+            "42 tracks and error bytes; `ledger trim OLD > NEW` takes the first 35, then check NEW",
+        ),
         349_696 | 351_062 => Some("a D71 image; cbmconvert puts its files on a disk of 35 tracks"),
         819_200 | 822_400 => Some("a D81 image; cbmconvert puts its files on a disk of 35 tracks"),
         _ => None,

@@ -1,9 +1,8 @@
 //! What the program can be asked to do.
 
-use disk_reports::DescriptionForm;
 use file_rescues::Choice;
 use image_edits::{Edit, Effect};
-use image_looks::Look;
+use image_looks::{ImageForm, Look};
 use opened_files::{Loss, Name};
 
 /// What the words of a command line ask for.
@@ -117,7 +116,7 @@ pub enum Job<'a> {
     /// Images that are read, in their order, each described in a line of its own.
     Describe {
         /// How they are described.
-        form: DescriptionForm,
+        form: ImageForm,
         /// The images' paths.
         images: Vec<&'a str>,
     },

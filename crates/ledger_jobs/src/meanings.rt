@@ -114,9 +114,67 @@ const MEANINGS: &[(&str, &str)] = &[
         "OWNER",
         "the file, the directory or the BAM has this sector",
     ),
+    ("OWNER MAP", "the BAM has this sector"),
+    ("OWNER DIRECTORY", "the directory has this sector"),
+    (
+        "OWNER BLOCK",
+        "this file has the sector, as one of its blocks",
+    ),
+    (
+        "OWNER SIDE",
+        "this relative file has the sector, as one of its side sectors",
+    ),
+    (
+        "OWNER NONE",
+        "no file has this sector; FREE or TAKEN is what the BAM calls it",
+    ),
+    (
+        "OWNER UNKNOWN",
+        "the directory's chain has a fault, so it isn't known which file has this sector",
+    ),
     (
         "LINK",
         "the next sector of the chain; END and a number: the chain ends here with this byte",
+    ),
+    ("LINK END", "the chain ends in this sector, with this byte"),
+    (
+        "LINK OFF THE DISK",
+        "the link of this sector names no sector of the disk",
+    ),
+    ("END", "the chain ends in this sector, with this byte"),
+    (
+        "TRACK",
+        "a track, and how many of its sectors the BAM calls free",
+    ),
+    (
+        "FREE",
+        "the BAM calls this sector, or so many of a track, free",
+    ),
+    (
+        "TAKEN",
+        "the BAM calls this sector taken, so that no drive writes a new file there",
+    ),
+    (
+        "BLOCKS FREE",
+        "so many sectors are free for files, as the BAM counts them; track 18 isn't counted",
+    ),
+    (
+        "RECORDS",
+        "so many records has the relative file, each of the bytes after LENGTH",
+    ),
+    ("PRG", "a program"),
+    ("SEQ", "a sequential file: a text, for example"),
+    (
+        "USR",
+        "a user file: its program decides what its bytes mean",
+    ),
+    (
+        "REL",
+        "a relative file: records of one length, which a program reads by their numbers",
+    ),
+    (
+        "DEL",
+        "an entry of the type DEL, mostly a line or a picture in the directory",
     ),
     (
         "ERROR",
@@ -133,6 +191,18 @@ const MEANINGS: &[(&str, &str)] = &[
     ("EXTRACTED", "all files were taken out whole"),
     ("COPIED", "the copy is on the disk"),
     ("COMMITS", "so many commits of the log were whole"),
+    (
+        "LEFT",
+        "so many blocks of the log stand after its whole commits; the copy has nothing of them",
+    ),
+    (
+        "BYTE",
+        "the error byte of this sector, which stands for none of the drive's errors",
+    ),
+    (
+        "STATUS",
+        "the highest exit status of several images; what is wrong with each stands after its name",
+    ),
     ("FORMATTED", "the image is on the disk"),
     ("MADE", "the relative file is on the disk"),
     ("PUT", "the file is on the disk"),
@@ -173,6 +243,18 @@ const MEANINGS: &[(&str, &str)] = &[
     (
         "CLASH",
         "the till has asked with this number and other words: nothing was done",
+    ),
+    (
+        "72,DISK FULL",
+        "the disk has no room for this item's card: nothing was done; use a smaller item number",
+    ),
+    (
+        "52,FILE TOO LARGE",
+        "no disk has room for this item's card: nothing was done; use an item number up to TOP",
+    ),
+    (
+        "30,SYNTAX ERROR",
+        "the line is no request: nothing was done",
     ),
     ("SYNTAX ERROR", "the line is no request: nothing was done"),
     (
@@ -218,7 +300,7 @@ fn is_word(typed: &str, word: &str) -> bool {
 
 /// Whether it is the name of a command, of which help has more to say.
 fn is_command(typed: &str) -> bool {
-    typed == "put" || typed == "format"
+    typed == "put" || typed == "format" || typed == "free" || typed == "records"
 }
 
 /// What a word means that a command prints, in any case, also with the sector or the number after it, and what to do. None of any

@@ -6,6 +6,8 @@ use Rattle.std.specs.declared.io.traits.Take.{Take}
 use Rattle.image_file.specs.paths.Rights.{Rights}
 use Rattle.image_file.specs.paths.Standing.{AreOf, Holds, Stands}
 use Rattle.opened_files.specs.Ends.{JobEnd}
+use Rattle.opened_files.specs.Extents.{taken_as}
+use Rattle.opened_files.specs.declared.extents.Extent.{Extent}
 use Rattle.opened_files.specs.HostFiles.{OfImage, OfText, OfWritten, RunEnds, TrimEnds}
 
 -- what holds of the bytes that are left of a file holds of those that the host says
@@ -21,6 +23,14 @@ pub over-image : {H W : Type 0} (rights : Rights H) (stands : H → List ℕ →
     → OfImage rights stands host path (λ all. items ≡ take 174849 all) → slice ≡ items → P slice
     → OfImage rights stands host path (λ all. RunEnds old new end (P (take 174849 all)))
 over-image rights stands host path old new end items slice P is same run =
+    λ other none all holds. inl (subst P (same ∙ is other none all holds) run)
+
+-- the same of what is taken of it
+pub over-taken : {H W : Type 0} (rights : Rights H) (stands : H → List ℕ → Stands) (host : H) (path : List ℕ)
+    (extent : Extent) (old new : W) (end : JobEnd) (items slice : List ℕ) (P : List ℕ → Type 0)
+    → OfImage rights stands host path (λ all. items ≡ taken_as extent all) → slice ≡ items → P slice
+    → OfImage rights stands host path (λ all. RunEnds old new end (P (taken_as extent all)))
+over-taken rights stands host path extent old new end items slice P is same run =
     λ other none all holds. inl (subst P (same ∙ is other none all holds) run)
 
 -- the same of an image that is written
@@ -42,8 +52,8 @@ over-text stands host path old new end items slice P is same run =
 -- and of a longer one, and of two outputs
 pub over-long : {H W E : Type 0} (rights : Rights H) (stands : H → List ℕ → Stands) (host : H) (path : List ℕ)
     (old new : W) (err new_err : E) (end : JobEnd) (items slice : List ℕ) (P : List ℕ → Type 0)
-    → OfImage rights stands host path (λ all. items ≡ take 197377 all) → slice ≡ items → P slice
-    → OfImage rights stands host path (λ all. TrimEnds old new err new_err end (P (take 197377 all)))
+    → OfImage rights stands host path (λ all. items ≡ take 206115 all) → slice ≡ items → P slice
+    → OfImage rights stands host path (λ all. TrimEnds old new err new_err end (P (take 206115 all)))
 over-long rights stands host path old new err new_err end items slice P is same run =
     λ other none all holds. inl (subst P (same ∙ is other none all holds) run)
 
@@ -65,12 +75,12 @@ taken {R} remaining t reader n bytes limit inner given =
 -- the same of two images
 pub over-images : {H W : Type 0} (rights : Rights H) (stands : H → List ℕ → Stands) (host : H)
     (before after : List ℕ) (old new : W) (end : JobEnd) (first second one_slice other_slice : List ℕ)
-    (P : List ℕ → List ℕ → Type 0) → OfImage rights stands host before (λ all. first ≡ take 174849 all)
-    → OfImage rights stands host after (λ all. second ≡ take 174849 all) → one_slice ≡ first → other_slice ≡ second
+    (extent : Extent) (P : List ℕ → List ℕ → Type 0) → OfImage rights stands host before (λ all. first ≡ taken_as extent all)
+    → OfImage rights stands host after (λ all. second ≡ taken_as extent all) → one_slice ≡ first → other_slice ≡ second
     → P one_slice other_slice
     → OfImage rights stands host before (λ one. OfImage rights stands host after (λ other.
-    RunEnds old new end (P (take 174849 one) (take 174849 other))))
-over-images rights stands host before after old new end first second one_slice other_slice P is are same same_too run =
+    RunEnds old new end (P (taken_as extent one) (taken_as extent other))))
+over-images rights stands host before after old new end first second one_slice other_slice extent P is are same same_too run =
     λ named none one holds named_too none_too other holds_too.
-    inl (subst (λ (xs : List ℕ). P xs (take 174849 other)) (same ∙ is named none one holds)
+    inl (subst (λ (xs : List ℕ). P xs (taken_as extent other)) (same ∙ is named none one holds)
     (subst (λ (ys : List ℕ). P one_slice ys) (same_too ∙ are named_too none_too other holds_too) run))

@@ -1,4 +1,5 @@
 pub mod Ends
+pub mod Extents
 pub mod HostFiles
 pub mod Losses
 pub mod Makings

@@ -3,6 +3,7 @@
 
 mod asides;
 mod endings;
+mod extents;
 mod files;
 mod image_logs;
 mod locks;
@@ -15,6 +16,7 @@ mod readings;
 
 pub use asides::Aside;
 pub use endings::{Ending, end, tell};
+pub use extents::Extent;
 pub use files::{STANDARD_INPUT, metadata_of, script_to_play, size_of};
 pub use image_logs::{
     accept_loss, log_refusal, logged_image, opened_alone, opened_and_landed, opened_shared,
@@ -26,4 +28,4 @@ pub use names::Name;
 pub use new_images::make_image;
 pub use outcomes::run_end;
 pub use put_images::put_image;
-pub use readings::{image_at, image_of_file};
+pub use readings::{image_as, image_at, image_of_file, long_image_at};

@@ -17,5 +17,5 @@ pub use nearness::near_entries;
 pub use owning::owners_of;
 pub use reaching::{Reach, reach_blocks, reach_file};
 pub use sharing::Owners;
-pub use sizes::{error_at, first_tracks};
+pub use sizes::{LARGEST_IMAGE, disk_in, error_at, first_tracks};
 pub use types::{TypeText, type_name};

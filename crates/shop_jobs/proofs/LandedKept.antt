@@ -1,6 +1,6 @@
 -- What was left of a log and of its folder, from how lines were served over it and how it was landed.
-use Rattle.std.proofs.Common.{◌≡◌, ◌∙◌, ◌++◌, [], ℕ, Bool, true, false, List, Option, None, Some, Result, Ok, Err, ap, append-nil, inl, inr, length, refl, subst, sym}
-use Rattle.std.specs.Prelude.{IsErr, IsOk, OnOk, OnSome, option_to_list}
+use Rattle.std.proofs.Common.{◌≡◌, ◌∙◌, ◌++◌, [], ℕ, Bool, true, false, List, Option, None, Some, Result, Ok, Err, ap, append-nil, arith, inl, inr, length, refl, subst, sym}
+use Rattle.std.specs.Prelude.{IfSome, IsErr, IsOk, IsSome, OnOk, OnSome, option_to_list}
 use Rattle.std.specs.Io.KnownBytes.{Consumes, IsAtEnd}
 use Rattle.std.proofs.lemmas.Bool.{false≢true}
 use Rattle.std.proofs.lemmas.Option.{none-some, same_Some}
@@ -15,9 +15,8 @@ use Rattle.image_log.specs.life.Folders.{FolderHistory}
 use Rattle.image_log.specs.life.LiveLogs.{of_live}
 use Rattle.image_log.specs.declared.life.live_log.LiveLog.{LiveLog}
 use Rattle.image_log.specs.declared.log_file.LogFile.{Ghosts}
-use Rattle.line_server.proofs.lemmas.logged.UnderWay.{as_many_replies}
 use Rattle.line_server.specs.logged.Reporting.{IsToldTo, LogOutput}
-use Rattle.line_server.specs.logged.Serves.{IsSafe, shop_behind}
+use Rattle.line_server.specs.logged.Serves.{AreFirst, IsSafe, shop_behind}
 use Rattle.line_text.specs.scripts.Lines.{lines}
 use Rattle.request_cards.specs.Ledgers.{replies}
 use Rattle.request_cards.specs.declared.reply.Reply.{Reply}
@@ -25,9 +24,9 @@ use Rattle.command_faults.specs.declared.faults.CommandFault.{CommandFault}
 use Rattle.command_faults.specs.declared.faults.CommandFault.TheVariants as faults
 use Rattle.disk_layout.specs.declared.faults.Fault.{Fault}
 use Rattle.opened_files.specs.Ends.{JobEnd, as_run}
-use Rattle.shop_jobs.proofs.PlayedOver.{all_told}
 use Rattle.shop_jobs.proofs.ReplyTold.{landed-ok}
-use Rattle.shop_jobs.specs.KeptServices.{IsServedOrNot}
+use Rattle.shop_jobs.proofs.ServiceMoments.{few_told, stay_in}
+use Rattle.shop_jobs.specs.KeptServices.{IsServedOrNot, StayIn}
 use Rattle.shop_jobs.specs.LandedRuns.{HasLanded, IsLandedEnd, IsServedOut, StandsAtRest, watched_end}
 use Rattle.shop_jobs.specs.LoggedRuns.{IsLoggedRun, IsLoggedTo}
 use Rattle.shop_jobs.specs.Replies.{IsShopOf}
@@ -64,11 +63,12 @@ watched_device : (gone : Bool) → watched_end gone (Err faults.Device) ≡ Err 
 watched_device true = refl
 watched_device false = refl
 
--- `Told` says of replies what the caller's output was passed, which was `first` and is `final`
+-- `Told` says of replies that the caller's output was passed them, which was `first` and is `final`
 module _ {F D R T W : Type 0} {G : Ghosts F} (h : FolderHistory D) (i : BatchInput R) (o : LogOutput (LiveLog F D G) T)
-    (image : List ℕ) (log : LiveLog F D G) (old_in new_in : R) (old new : T) (first final : W) (Told : List Reply → Type 0)
-    (back : new ≡ old → final ≡ first)
-    (passed : (turns : List (Reply × LiveLog F D G)) → o.told old new turns → Told (told_in turns)) where
+    (image : List ℕ) (log : LiveLog F D G) (old_in new_in : R) (old new : T) (first final : W)
+    (Told : List (Reply × LiveLog F D G) → Option (Reply × LiveLog F D G) → Type 0) (back : new ≡ old → final ≡ first)
+    (passed : (turns : List (Reply × LiveLog F D G)) (last : Option (Reply × LiveLog F D G)) → IsToldTo o old new turns last
+    → Told turns last) where
   abbrev Served : JobEnd → Type 0
   Served end = IsServedOrNot h image (i.remaining old_in) log Told first final end
 
@@ -102,7 +102,15 @@ module _ {F D R T W : Type 0} {G : Ghosts F} (h : FolderHistory D) (i : BatchInp
 
   module _ (left : LiveLog F D G) (folder : Option D) (end : MemDisk → Result MemDisk (LoopFault × MemDisk)) (x : To left end)
       (served ended : JobEnd) (landed : IsLandedEnd h left served folder ended)
-      (stood : IsServedOut ended → Stood left x.served.handled) where
+      (stood : IsSome folder → Stood left x.served.handled) where
+    -- one that is so reported was landed
+    some_of : IsServedOut ended → IsSome folder
+    some_of out = landed.tried (λ e. no_device ended out ((landed.left e).0 ∙ e))
+
+    few : (s : Shop) → IsShopOf image s → AreFirst (told_in (x.served.turns ++ option_to_list x.served.last))
+        (replies (start_of s) [] (lines x.served.handled))
+    few s of = x.served.replies_are s (subst (λ (c : Image). IsShop c s) (sym x.holds) of.1)
+
     safe_of : (s : Shop) → IsShopOf image s → (of_live h).stands_for log (sectors_in image)
         → IsSafe (of_live h) s (sectors_in image) (lines x.served.handled)
         (x.served.turns ++ option_to_list x.served.last) log left
@@ -112,11 +120,21 @@ module _ {F D R T W : Type 0} {G : Ghosts F} (h : FolderHistory D) (i : BatchInp
         (x.served.safe s (subst (λ (c : Image). IsShop c s) (sym x.holds) shop.1)
         (subst (λ (c : Image). (of_live h).stands_for log c) (sym x.holds) stands))
 
+    stays_in : (f : Option D) → IsLandedEnd h left served f ended → (IsSome f → Stood left x.served.handled) → (s : Shop)
+        → IsShopOf image s → (of_live h).stands_for log (sectors_in image)
+        → IfSome f (λ d. StayIn h d s (lines x.served.handled) 0 (x.served.turns ++ option_to_list x.served.last))
+    stays_in None ending stood_so s of stands = tt
+    stays_in (Some d) ending stood_so s of stands =
+        let y = stood_so refl s of stands in
+        let turns = x.served.turns ++ option_to_list x.served.last in
+        stay_in h left d s y.0 (lines x.served.handled) (ending.moments y.0 y.2) y.1 0 turns
+        (omega (arith, few_told s (lines x.served.handled) turns (few s of))) (safe_of s of stands).told_stays
+
     -- of a job that ended so
     kept_as : OnOk ended ((all : List ℕ) → i.remaining old_in ≡ Some all → all ≡ x.served.handled ++ x.served.rest)
-        → OnOk ended ((s : Shop) → IsShopOf image s → Told (replies (start_of s) [] (lines x.served.handled))
-        × (length (x.served.turns ++ option_to_list x.served.last) ≡ length (lines x.served.handled))) → Served ended
-    kept_as all told = inr (record {
+        → OnOk ended ((s : Shop) × IsShopOf image s)
+        → OnOk ended ((x.served.last ≡ None) × (length x.served.turns ≡ length (lines x.served.handled))) → Served ended
+    kept_as all shop answered = inr (record {
       left = left;
       folder = folder;
       handled = x.served.handled;
@@ -124,37 +142,30 @@ module _ {F D R T W : Type 0} {G : Ghosts F} (h : FolderHistory D) (i : BatchInp
       whole = x.served.whole;
       lacks = x.served.lacks;
       read = front_of _ _ _ x.served.read;
-      turns = x.served.turns ++ option_to_list x.served.last;
+      turns = x.served.turns;
+      last = x.served.last;
+      told = passed x.served.turns x.served.last x.served.told;
+      replies_are = few;
       safe = safe_of;
+      stays = λ s of stands. stays_in folder landed stood s of stands;
       landing = landed.moments;
       all = all;
-      told = told;
+      shop = shop;
+      answered = answered;
       done = λ out s shop stands.
-          let y = stood out s shop stands in
+          let y = stood (some_of out) s shop stands in
           (rests_in left served ended folder landed out (shop_behind s (lines x.served.handled)) y.0 y.1 y.2, y);
     })
 
   module _ (left : LiveLog F D G) (gone : Bool) (folder : Option D) (found : Option Fault) (x : To left (λ d. Ok d))
       (landed : IsLandedEnd h left (watched_end gone (Ok None)) folder (Ok found)) where
-    told_of : (s : Shop) → IsShopOf image s → Told (replies (start_of s) [] (lines x.served.handled))
-    told_of s shop =
-        let y = x.served in
-        let over = y.all tt in
-        let here : IsShop (disk_image x.disk) s = subst (λ (c : Image). IsShop c s) (sym x.holds) shop.1 in
-        subst Told (all_told y.turns y.last (replies (start_of s) [] (lines y.handled)) over.0 (y.replies_are s here)
-        (over.1 ∙ sym (as_many_replies s (lines y.handled))))
-        (passed y.turns (subst (λ (l : Option (Reply × LiveLog F D G)). IsToldTo o old new y.turns l) over.0 y.told))
-
-    count_of : length (x.served.turns ++ option_to_list x.served.last) ≡ length (lines x.served.handled)
-    count_of =
-        let over = x.served.all tt in
-        ap (λ (l : Option (Reply × LiveLog F D G)). length (x.served.turns ++ option_to_list l)) over.0
-        ∙ ap length (append-nil x.served.turns) ∙ over.1
+    shop_of : (s : Shop) × IsShopOf image s
+    shop_of = let (s, is) = x.served.shop in (s, (x.size, subst (λ (c : Image). IsShop c s) x.holds is))
 
     whole_of : Served (Ok found)
     whole_of = kept_as left folder (λ d. Ok d) x (watched_end gone (Ok None)) (Ok found) landed
         (λ out. stood_of left (λ d. Ok d) x x.served.rests) (all_of _ _ _ x.served.read x.served.end)
-        (λ s shop. (told_of s shop, count_of))
+        shop_of (x.served.all tt)
 
   untold : (fault : CommandFault) → new ≡ old → Served (Err fault)
   untold fault same = inl (refl, back same)
@@ -163,11 +174,11 @@ module _ {F D R T W : Type 0} {G : Ghosts F} (h : FolderHistory D) (i : BatchInp
   part_of : (left : LiveLog F D G) (gone : Bool) (folder : Option D) (ran fault : CommandFault)
       → IsLandedEnd h left (watched_end gone (Err ran)) folder (Err fault) → Run left (Err ran) → Served (Err fault)
   part_of left gone folder faults.File fault landed (inl x) = kept_as left folder _ x _ (Err fault) landed
-      (λ out. stood_of left _ x (λ s here. x.served.rests s here (inl refl))) tt tt
+      (λ out. stood_of left _ x (λ s here. x.served.rests s here (inl refl))) tt tt tt
   part_of left gone folder faults.File fault landed (inr x) = kept_as left folder _ x _ (Err fault) landed
-      (λ out. stood_of left _ x (λ s here. x.served.rests s here (inr refl))) tt tt
+      (λ out. stood_of left _ x (λ s here. x.served.rests s here (inr refl))) tt tt tt
   part_of left gone folder faults.Device fault landed x = kept_as left folder _ x _ (Err fault) landed
-      (λ out. absurd (no_device (Err fault) out ((landed.left (watched_device gone)).0 ∙ watched_device gone))) tt tt
+      (λ some. absurd (false≢true (subst (λ (f : Option D). IsSome f) (landed.left (watched_device gone)).1 some))) tt tt tt
   part_of left gone folder (faults.ScriptLine line) fault landed x = absurd x
   part_of left gone folder _ fault landed x = untold fault x.1.2
 
@@ -175,7 +186,7 @@ module _ {F D R T W : Type 0} {G : Ghosts F} (h : FolderHistory D) (i : BatchInp
       → Run left run → IsLandedEnd h left (watched_end gone (as_run run)) folder end → Served end
   of_run left gone folder (Ok u) (Ok found) x landed = whole_of left gone folder found x landed
   of_run left gone folder (Ok u) (Err fault) x landed = kept_as left folder (λ d. Ok d) x _ (Err fault) landed
-      (λ out. stood_of left (λ d. Ok d) x x.served.rests) tt tt
+      (λ out. stood_of left (λ d. Ok d) x x.served.rests) tt tt tt
   of_run left gone folder (Err ran) (Ok found) x landed =
       absurd (false≢true (landed-ok h left gone (Err ran) folder (Ok found) landed refl))
   of_run left gone folder (Err ran) (Err fault) x landed = part_of left gone folder ran fault landed x

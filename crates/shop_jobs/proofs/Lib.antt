@@ -2,6 +2,7 @@ pub mod Begun
 pub mod DryTold
 pub mod Durably
 pub mod Durables
+pub mod KeptTold
 pub mod LandedKept
 pub mod LogPlayKept
 pub mod Logged

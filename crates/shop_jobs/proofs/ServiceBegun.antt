@@ -106,8 +106,8 @@ fresh_reader remaining r inner all is empty many gives =
 
 -- a service ended so, over a log that was begun at a path
 pub kept_at : {F D W : Type 0} {G : Ghosts F} (h : FolderHistory D) (IsAt : D → Type 0) (Of : List ℕ → Type 0)
-    (given other : Option (List ℕ)) (image bytes : List ℕ) (log : LiveLog F D G) (P : List Reply → Type 0) (old new : W)
-    (ended end : JobEnd) → end ≡ ended → image ≡ bytes → Of bytes → IsBegunIn h IsAt bytes log
+    (given other : Option (List ℕ)) (image bytes : List ℕ) (log : LiveLog F D G)
+    (P : List (Reply × LiveLog F D G) → Option (Reply × LiveLog F D G) → Type 0) (old new : W) (ended end : JobEnd) → end ≡ ended → image ≡ bytes → Of bytes → IsBegunIn h IsAt bytes log
     → ((all : List ℕ) → other ≡ Some all → given ≡ Some all) → IsServedOrNot h image given log P old new ended
     → (IsErr end × (new ≡ old)) ⊎ IsServedAt G h IsAt Of other P end
 kept_at {F} {D} {W} {G} h IsAt Of given other image bytes log P old new ended end is same of begun known x =
@@ -117,4 +117,4 @@ kept_at {F} {D} {W} {G} h IsAt Of given other image bytes log P old new ended en
     of_either : IsServedOrNot h bytes given log P old new ended
         → (IsErr ended × (new ≡ old)) ⊎ IsServedAt G h IsAt Of other P ended
     of_either (inl not) = inl not
-    of_either (inr y) = inr (bytes, of, log, begun, served-so h bytes given other log P P known (λ rs told. told) ended y)
+    of_either (inr y) = inr (bytes, of, log, begun, served-so h bytes given other log P P known (λ turns last told. told) ended y)

@@ -1,5 +1,4 @@
--- What an output was passed of a play over a file, however it ended, or while a file was there: replies, the last of them
--- perhaps in part.
+-- What an output was passed of a play over a file, however it ended: replies, the last of them perhaps in part.
 use Rattle.std.proofs.Common.{◌++◌, ◌∷◌, [], ℕ, Bool, List, Result, Ok, Err, inl, inr, refl, ⊎_elim}
 use Rattle.command_faults.specs.declared.faults.CommandFault.{CommandFault}
 use Rattle.command_faults.specs.declared.faults.CommandFault.TheVariants as faults
@@ -17,14 +16,6 @@ use Rattle.shop_commands.specs.Plays.{IsFileFault, IsPlayEnd, IsPlayedOver}
 use Rattle.opened_files.specs.Ends.{JobEnd}
 use Rattle.shop_jobs.specs.Replies.{IsToldSome}
 use Rattle.shop_jobs.specs.Runs.{IsPlayRun}
-use Rattle.shop_jobs.specs.WatchedFiles.{IsBrokenOff, media_for}
-
--- whatever becomes of the last reply while the file is there, or once it has gone
-pub off-some : {T : Type 0} (o : Output T) (gone : Bool) (old new : T) (turns : List (Reply × Instant))
-    (last : Reply × Instant) → IsBrokenOff o gone old new turns last → IsToldSome o old new
-off-some o gone old new turns last (inl (is, off)) = inr (turns, inr (last, off))
-off-some o gone old new turns last (inr (is, inl told)) = inr (turns ++ (media_for last.0, last.1) ∷ [], inl told)
-off-some o gone old new turns last (inr (is, inr off)) = inr (turns, inr ((media_for last.0, last.1), off))
 
 -- a script that was run
 module _ {D T : Type 0} (h : History D) (o : Output T) (disk : D) (text : List ℕ) (old new : T) where

@@ -1,10 +1,10 @@
 -- What a service or a play over a log leaves in the folder of its image. Our own.
-use Rattle.std.specs.Prelude.{◌≡◌, ◌⊎◌, ◌++◌, ◌∷◌, [], ℕ, IfSome, IsErr, List, OnOk, Option, Some, length, string_bytes, take, true}
+use Rattle.std.specs.Prelude.{◌≡◌, ◌⊎◌, ◌++◌, ◌+◌, ◌∷◌, [], ℕ, IfSome, IsErr, List, None, OnOk, Option, Some, length, option_to_list, string_bytes, take, true}
 use Rattle.std.specs.declared.io.traits.Read.{Ghosts as ReadGhosts}
 use Rattle.std.specs.declared.io.traits.Seek.{Ghosts as SeekGhosts}
-use Rattle.std.specs.Io.KnownBytes.{Appends}
 use Rattle.d64_image.specs.Images.{Image}
 use Rattle.d64_image.specs.Memory.{sectors_in}
+use Rattle.host_session.specs.runs.Chains.{told_in}
 use Rattle.host_session.specs.shop.Shop.{Shop, start_of}
 use Rattle.image_file.specs.declared.paths.host.HostFiles.{Ghosts as HostGhosts}
 use Rattle.image_file.specs.paths.Rights.{Rights, Write}
@@ -19,13 +19,14 @@ use Rattle.image_log.specs.life.LiveLogs.{IsBeginning, IsEnding, of_live}
 use Rattle.image_log.specs.life.Shops.{Gives, GivesOneOf}
 use Rattle.line_server.specs.Read.{AreWhole, LacksLf}
 use Rattle.line_server.specs.Scripts.{crlf_text}
-use Rattle.line_server.specs.logged.Serves.{IsSafe, shop_behind}
+use Rattle.line_server.specs.logged.Serves.{AreFirst, HoldsFirst, IsSafe, shop_behind}
 use Rattle.line_text.specs.scripts.Lines.{lines}
 use Rattle.opened_files.specs.Ends.{JobEnd}
 use Rattle.opened_files.specs.HostFiles.{OfText, OfWritten}
-use Rattle.request_cards.specs.Ledgers.{replies, report}
+use Rattle.request_cards.specs.Ledgers.{replies}
 use Rattle.request_cards.specs.declared.reply.Reply.{Reply}
-use Rattle.shop_jobs.specs.LandedRuns.{HasLanded, IsServedOut, StandsAtRest}
+use Rattle.shop_jobs.specs.JobOutputs.{ArePassed, OverLogs, lines_over}
+use Rattle.shop_jobs.specs.LandedRuns.{HasLanded, IsServedOut, LeftImage, StandsAtRest}
 use Rattle.shop_jobs.specs.Replies.{IsShopOf}
 
 -- a folder of this host was opened: it is that of the image at a path, whose file was opened there
@@ -43,10 +44,17 @@ module _ {F D : Type 0} {G : Ghosts F} (h : FolderHistory D) where
       → (of_live h).stands_for begun (sectors_in image) × Gives s (sectors_in image)
       × IsBeginning h folder begun (λ left. Gives left (sectors_in image)))
 
+  -- Since each of these replies was passed on, the first of them to line k, and until the folder is this one, a power loss left the
+  -- shop of first lines with that line among them.
+  abbrev pub StayIn : D → Shop → (ls : List (List ℕ)) → (k : ℕ) → List (Reply × LiveLog F D G) → Type 0
+  StayIn d s ls k [] = Unit {0}
+  StayIn d s ls k (x ∷ xs) = ((c : Image) → LeftImage h d ((of_live h).moment x.1) c → HoldsFirst s ls (k + 1) c)
+      × StayIn d s ls (k + 1) xs
+
   -- Lines of an input with these bytes were served, over a log that was begun for the image of these bytes, and the job ended
-  -- so. `Told` says that these replies were passed on, and nothing else.
-  pub record IsServedIn (image : List ℕ) (given : Option (List ℕ)) (begun : LiveLog F D G) (Told : List Reply → Type 0)
-      (end : JobEnd) : Type 0 where
+  -- so. `Told` says which replies were passed on, each over the log beside it, and that nothing else was.
+  pub record IsServedIn (image : List ℕ) (given : Option (List ℕ)) (begun : LiveLog F D G)
+      (Told : List (Reply × LiveLog F D G) → Option (Reply × LiveLog F D G) → Type 0) (end : JobEnd) : Type 0 where
     -- the log as the service left it, and the folder in which it was landed
     pub left : LiveLog F D G
     pub folder : Option D
@@ -56,40 +64,50 @@ module _ {F D : Type 0} {G : Ghosts F} (h : FolderHistory D) where
     pub whole : AreWhole handled
     pub lacks : LacksLf rest
     pub read : (all : List ℕ) → given ≡ Some all → (later : List ℕ) × (all ≡ (handled ++ rest) ++ later)
-    -- the replies that were reported, each over the log as it was
+    -- However the job ended, these replies were passed on, each over the log as it was then; and the last one, if there is one,
+    -- in whole, in part or not at all. Nothing else was passed on.
     pub turns : List (Reply × LiveLog F D G)
-    -- a power loss at any moment leaves the shop of some first lines, and of all whose replies were reported before
+    pub last : Option (Reply × LiveLog F D G)
+    pub told : Told turns last
+    -- they are the shop's replies to the first of these lines, to all but those of one batch
+    pub replies_are : (s : Shop) → IsShopOf image s
+        → AreFirst (told_in (turns ++ option_to_list last)) (replies (start_of s) [] (lines handled))
+    -- A power loss at any moment leaves the shop of some first lines; and since a reply was passed on, whole or in part, of first
+    -- lines with its own among them.
     pub safe : (s : Shop) → IsShopOf image s → (of_live h).stands_for begun (sectors_in image)
-        → IsSafe (of_live h) s (sectors_in image) (lines handled) turns begun left
-    -- and one while the log was landed, the image for which the log stood
+        → IsSafe (of_live h) s (sectors_in image) (lines handled) (turns ++ option_to_list last) begun left
+    -- so it does while the log is landed, too
+    pub stays : (s : Shop) → IsShopOf image s → (of_live h).stands_for begun (sectors_in image)
+        → IfSome folder (λ d. StayIn d s (lines handled) 0 (turns ++ option_to_list last))
+    -- a power loss while the log was landed leaves the image for which the log stood
     pub landing : (c : Image) → (of_live h).stands_for left c → IfSome folder (λ d. IsEnding h left d c)
-    -- when the job is done, these are all lines of the input, and each was answered
+    -- when the job is done, these are all lines of the input, a shop's, and each was answered
     pub all : OnOk end ((all : List ℕ) → given ≡ Some all → all ≡ handled ++ rest)
-    pub told : OnOk end ((s : Shop) → IsShopOf image s → Told (replies (start_of s) [] (lines handled))
-        × (length turns ≡ length (lines handled)))
+    pub shop : OnOk end ((s : Shop) × IsShopOf image s)
+    pub answered : OnOk end ((last ≡ None) × (length turns ≡ length (lines handled)))
     -- then, and if the input or the output failed, IMAGE is the shop after these lines at rest, with no log; the log stood for it
     pub done : IsServedOut end → (s : Shop) → IsShopOf image s → (of_live h).stands_for begun (sectors_in image)
         → HasLanded h (shop_behind s (lines handled)) folder × StandsAtRest h (shop_behind s (lines handled)) left
 
   -- so they were; or the image was refused, and nothing was passed on
   abbrev pub IsServedOrNot : {T : Type 0} → (image : List ℕ) → Option (List ℕ) → LiveLog F D G
-      → (Told : List Reply → Type 0) → T → T → JobEnd → Type 0
+      → (Told : List (Reply × LiveLog F D G) → Option (Reply × LiveLog F D G) → Type 0) → T → T → JobEnd → Type 0
   IsServedOrNot image given begun Told old new end = (IsErr end × (new ≡ old)) ⊎ IsServedIn image given begun Told end
 
 -- the same of a log that was begun in such a folder, for an image of these bytes
 abbrev pub IsServedAt : {F D : Type 0} (G : Ghosts F) (h : FolderHistory D) (IsAt : D → Type 0) (Of : List ℕ → Type 0)
-    → Option (List ℕ) → (Told : List Reply → Type 0) → JobEnd → Type 0
+    → Option (List ℕ) → (Told : List (Reply × LiveLog F D G) → Option (Reply × LiveLog F D G) → Type 0) → JobEnd → Type 0
 IsServedAt {F} {D} G h IsAt Of given Told end = (image : List ℕ) × Of image × (begun : LiveLog F D G)
     × IsBegunIn h IsAt image begun × IsServedIn h image given begun Told end
 
 module _ {H F W : Type 0} (g : HostGhosts H F) (r : ReadGhosts F) (s : SeekGhosts F) (logs : LogHistories H F)
     (folders : FolderHistories H F) (stands : H → List ℕ → Stands) (rights : Rights H) (traces : Traces H F)
-    (contents : W → Option (List ℕ)) where
-  -- the shop of the image at a path of a host was served the lines of an input with these bytes
+    (contents : W → Option (List ℕ)) (o : OverLogs W) where
+  -- the shop of the image at a path of a host was served the lines of an input with these bytes, and the replies were printed
   abbrev pub IsServiceAt : Option (List ℕ) → H → (path : List ℕ) → W → W → JobEnd → Type 0
   IsServiceAt given host path old new end = IsServedAt (record { history = logs g r s }) (folders g r s)
       (λ d. IsFolderAt rights traces host path d) (λ image. OfWritten stands host path (λ all. image ≡ take 174849 all)) given
-      (λ rs. Appends (contents old) (contents new) (report rs)) end
+      (ArePassed (lines_over contents (o _)) old new) end
 
   -- so it was; or it wasn't, and nothing was printed
   abbrev pub IsServiceKept : Option (List ℕ) → H → (path : List ℕ) → W → W → JobEnd → Type 0

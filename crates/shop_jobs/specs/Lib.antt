@@ -1,6 +1,7 @@
 pub mod DurableRuns
 pub mod FilePlays
 pub mod Formats
+pub mod JobOutputs
 pub mod KeptServices
 pub mod LandedRuns
 pub mod LoggedPlays

@@ -10,7 +10,6 @@ use Rattle.host_session.specs.events.Events.{HasNoReset}
 use Rattle.host_session.specs.events.Instants.{Instant}
 use Rattle.host_session.specs.events.Telling.{Output}
 use Rattle.host_session.specs.runs.Outputs.{written}
-use Rattle.host_session.specs.runs.ScriptRuns.{AreToldSo}
 use Rattle.request_cards.specs.Ledgers.{replies, report}
 use Rattle.request_cards.specs.declared.reply.Reply.{Reply}
 use Rattle.line_text.specs.scripts.Lines.{lines}
@@ -38,11 +37,6 @@ IsToldSome o old new = (new ≡ old) ⊎ ((turns : List (Reply × Instant))
 -- these bytes are an image that stands for this shop
 abbrev pub IsShopOf : (image : List ℕ) → Shop → Type 0
 IsShopOf image s = (length image ≡ 174848) × IsShop (sectors_in image) s
-
--- it was passed the replies of the shop of an image to some lines, and nothing else
-abbrev pub IsToldAll : {T : Type 0} → Output T → (image : List ℕ) → T → T → Type 0
-IsToldAll o image old new =
-    (s : Shop) × (ls : List (List ℕ)) × IsShopOf image s × AreToldSo o old new (replies (start_of s) [] ls)
 
 -- this shop's replies to these lines were printed, each on a line of its own, and nothing else
 abbrev pub AreAnsweredBy : {W : Type 0} → (W → Option (List ℕ)) → Shop → (ls : List (List ℕ)) → W → W → Type 0

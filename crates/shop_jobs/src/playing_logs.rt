@@ -2,9 +2,8 @@
 ghost use Rattle.std.specs.Prelude.{◌≡◌, ℕ, Bool, IfErr, IfOk, IsOk, None, OnOk, Some, vec_items};
 ghost use Rattle.d64_image.specs.Memory.{sectors_in};
 ghost use Rattle.host_session.specs.shop.Shop.{IsShop, Shop};
-ghost use Rattle.std.specs.Io.KnownBytes.{Appends};
 ghost use Rattle.line_server.specs.Scripts.{crlf_text};
-ghost use Rattle.request_cards.specs.Ledgers.{report};
+ghost use Rattle.shop_jobs.specs.JobOutputs.{ArePassed, lines_over};
 ghost use Rattle.shop_jobs.specs.KeptServices.{IsPlayKept, IsServedOrNot, IsServiceKept};
 ghost use Rattle.shop_jobs.specs.ServiceEnds.{IsLoggedEnd, IsRefusedAt};
 ghost use Rattle.shop_jobs.specs.Replies.{IsShopAt, AreAnswered, AreReplyLines, IsShopOf};
@@ -20,9 +19,10 @@ ghost use Rattle.line_text.specs.scripts.Lines.{first_reset, lines};
 ghost use Rattle.opened_files.specs.Rights.{MayChangeImage, MayReadText};
 ghost use Rattle.image_file.specs.paths.Standing.{AreOf};
 
+use crate::job_outputs::JobOutput;
 use crate::landing_logs::landed_end;
 use crate::logged_plays::play_logged;
-use crate::reply_lines::WatchedReplies;
+use crate::reply_lines::LentOutput;
 use crate::serving_logs::{begun_beside, cleared_end};
 use crate::watched_files::{name_of, served_end};
 use command_faults::CommandFault;
@@ -34,7 +34,6 @@ use line_text::first_reset_line;
 use opened_files::{Loss, opened_alone, run_end, script_to_play, see_size};
 use std::alloc::Global;
 use std::fs::OpenFile;
-use std::io::Write;
 
 /// Plays a script without resets on the shop of this image, over a log that was begun with it. Then the log is landed,
 /// and the folder returned; but it is left where it is if the image's file has gone, or a commit failed.
@@ -78,15 +77,15 @@ where
     L: LogFile,
     D: LogFolder<L> + Drop,
     N: NameStays,
-    W: Write,
+    W: JobOutput,
     requires plain { first_reset (lines script.now) ≡ None }
     ensures quiet { IsLoggedEnd out.old out.new result }
     ensures lines { AreReplyLines W.contents out.old out.new }
     ensures done { OnOk result (AreAnswered W.contents (IsShopOf image.now) (lines script.now) out.old out.new) }
     ensures kept { IsServedOrNot D.history image.now (Some (crlf_text (lines script.now))) log
-        (λ rs. Appends (W.contents out.old) (W.contents out.new) (report rs)) out.old out.new result }
+        (ArePassed (lines_over W.contents (W.replies _)) out.old out.new) out.old out.new result }
 {
-    let mut printer = WatchedReplies::new(out);
+    let mut printer = LentOutput::new(out);
     let (_, ended) = play_begun(alloc, image, script, log, name, &mut printer);
     ended
 }
@@ -124,7 +123,7 @@ fn play_beside<F, R, W>(
 where
     F: EndedFile + Locks + OpenFile + Drop,
     R: HostFiles<File = F> + HostLogs + AllocGlobal,
-    W: Write,
+    W: JobOutput,
     requires owned { F.IsOwned image }
     requires shared { F.IsShared image }
     requires bytes { AreOf R.stands rt.now path.now (F.unread image) }
@@ -134,7 +133,7 @@ where
     ensures lines { AreReplyLines W.contents out.old out.new }
     ensures done { OnOk result (AreAnswered W.contents (IsShopAt R.stands rt.now path.now) (lines script.now)
         out.old out.new) }
-    ensures kept { IsServiceKept R.HostFiles F.Read F.Seek (asked_logs R.logs) (untagged_folders R.folders) R.stands R.rights R.traces W.contents
+    ensures kept { IsServiceKept R.HostFiles F.Read F.Seek (asked_logs R.logs) (untagged_folders R.folders) R.stands R.rights R.traces W.contents W.replies
         (Some (crlf_text (lines script.now))) rt.now path.now out.old out.new result }
 {
     let alloc = rt.alloc();
@@ -160,11 +159,11 @@ pub fn do_logged_playing<F, R, W>(
 where
     F: EndedFile + Locks + OpenFile + Drop,
     R: HostFiles<File = F> + HostLogs + Input + AllocGlobal,
-    W: Write,
+    W: JobOutput,
     requires image { MayChangeImage R.rights rt.now path.now }
     requires script { MayReadText R.rights rt.now script.now }
     ensures told { IsPlayedOverLog R.rights R.stands W.contents rt.now path.now script.now out.old out.new result }
-    ensures kept { IsPlayKept R.HostFiles F.Read F.Seek (asked_logs R.logs) (untagged_folders R.folders) R.stands R.rights R.traces W.contents rt.now
+    ensures kept { IsPlayKept R.HostFiles F.Read F.Seek (asked_logs R.logs) (untagged_folders R.folders) R.stands R.rights R.traces W.contents W.replies rt.now
         path.now script.now out.old out.new result }
 {
     let image = opened_alone(rt, path)?;

@@ -3,10 +3,14 @@ ghost use Rattle.std.specs.Prelude.{◌≡◌, OnErr, OnOk};
 ghost use Rattle.std.specs.Io.KnownBytes.{Appends};
 ghost use Rattle.host_session.specs.runs.Outputs.{line_of};
 ghost use Rattle.line_text.specs.Handed.{AppendsPart};
+ghost use Rattle.shop_jobs.specs.JobOutputs.{lent_over, lines_over};
 ghost use Rattle.shop_jobs.specs.Replies.{lines_to};
 
-use d64_image::Sectors;
+use crate::job_outputs::JobOutput;
+use d64_image::{MemDisk, Sectors};
 use host_session::Replies;
+use image_log::{ImageLog, TouchedDisk};
+use line_server::BatchReplies;
 use line_text::{NotTaken, hand_whole};
 use request_cards::Reply;
 use std::io::Write;
@@ -27,9 +31,10 @@ impl<'a, W> WatchedReplies<'a, W> {
     }
 }
 
-/// Prints a reply on a line of its own, with its LF, in one write.
+/// Prints a reply on a line of its own, with its LF, in one write. If the reply isn't taken, a part of its line may have been
+/// printed, or all of it.
 #[inline(always)]
-fn print_reply<W: Write>(out: &mut W, reply: &Reply) -> Result<(), NotTaken>
+pub(crate) fn print_line<W: Write>(out: &mut W, reply: &Reply) -> Result<(), NotTaken>
     ensures ok { OnOk result (Appends (W.contents out.old) (W.contents out.new) (line_of reply.now)) }
     ensures err { OnErr result (AppendsPart (W.contents out.old) (W.contents out.new) (line_of reply.now)) }
 {
@@ -42,7 +47,7 @@ impl<'a, D: Sectors, W: Write> Replies<D> for WatchedReplies<'a, W> {
     ghost output = { lines_to W.contents };
 
     fn tell(&mut self, reply: &Reply, _disk: &D) -> Result<(), NotTaken> {
-        print_reply(self.out, reply)
+        print_line(self.out, reply)
     }
 
     // No contract says what a flush does with the bytes that the writer has buffered.
@@ -51,5 +56,38 @@ impl<'a, D: Sectors, W: Write> Replies<D> for WatchedReplies<'a, W> {
             Ok(()) => Ok(()),
             Err(_) => Err(NotTaken),
         }
+    }
+}
+
+/// An output of a job that was lent to a service, which prints each reply over its log.
+#[derive(Drop)]
+pub(crate) struct LentOutput<'a, W> {
+    out: &'a mut W,
+}
+
+impl<'a, W> LentOutput<'a, W> {
+    /// Replies go to this output.
+    pub(crate) fn new(out: &'a mut W) -> LentOutput<'a, W>
+        ensures same { result.out.ghost_name ≡ out.entry.ghost_name }
+        ensures out { result.out.now ≡ out.old }
+    {
+        LentOutput { out }
+    }
+}
+
+impl<'a, L: ImageLog, W: JobOutput> BatchReplies<L> for LentOutput<'a, W> {
+    ghost output = { lent_over (lines_over W.contents (W.replies L)) };
+
+    fn report(
+        &mut self,
+        reply: &Reply,
+        log: &L,
+        _disk: &TouchedDisk<MemDisk>,
+    ) -> Result<(), NotTaken> {
+        self.out.print_reply(reply, log)
+    }
+
+    fn pass_on(&mut self) -> Result<(), NotTaken> {
+        self.out.hand_on_replies::<L>()
     }
 }

@@ -1,17 +1,15 @@
 //! Serving the shop of the image at a path, over a log beside it.
-ghost use Rattle.std.specs.Prelude.{◌≡◌, ◌∷◌, [], Bool, IfOk, IfSome, OnOk, Some, flat_map, length, string_bytes, take, true, vec_items};
+ghost use Rattle.std.specs.Prelude.{◌≡◌, ◌∷◌, [], Bool, IfOk, IfSome, Some, flat_map, length, string_bytes, take, true, vec_items};
 ghost use Rattle.shop_jobs.specs.ServiceEnds.{IsLoggedEnd};
-ghost use Rattle.std.specs.Io.KnownBytes.{Appends};
 ghost use Rattle.d64_image.specs.Images.{Image};
 ghost use Rattle.d64_image.specs.Memory.{sectors_in};
-ghost use Rattle.host_session.specs.runs.ScriptRuns.{AreToldSo};
 ghost use Rattle.image_log.specs.life.Bringing.{RestsAlone};
 ghost use Rattle.image_log.specs.life.Folders.{AllLeft, Folder, LeavesFolders};
 ghost use Rattle.image_log.specs.life.Shops.{Gives, GivesOneOf};
-ghost use Rattle.request_cards.specs.Ledgers.{report};
+ghost use Rattle.shop_jobs.specs.JobOutputs.{ArePassed, lines_over};
 ghost use Rattle.shop_jobs.specs.KeptServices.{IsBegunIn, IsFolderAt, IsServedOrNot, IsServiceKept};
 ghost use Rattle.shop_jobs.specs.LandedRuns.{IsDoneAndLanded};
-ghost use Rattle.shop_jobs.specs.Replies.{IsShopAt, IsLoggedService, IsShopOf, IsToldAll, IsToldSome};
+ghost use Rattle.shop_jobs.specs.Replies.{IsShopAt, IsLoggedService, IsShopOf};
 ghost use Rattle.opened_files.specs.HostFiles.{OfWritten};
 ghost use Rattle.shop_jobs.specs.LoggedRuns.{IsLoggedRun, IsUnlogged};
 ghost use Rattle.opened_files.specs.Losses.{IsEndOfRun, IsGuarded};
@@ -19,33 +17,31 @@ ghost use Rattle.shop_jobs.specs.WatchedFiles.{while_there};
 ghost use Rattle.image_log.specs.life.HostLogs.{asked_logs, untagged_folders};
 ghost use Rattle.image_log.specs.life.LiveLogs.{of_live};
 ghost use Rattle.image_log.specs.life.Tags.{SaysLogAway};
-ghost use Rattle.line_server.specs.logged.Reporting.{of_output};
 ghost use Rattle.opened_files.specs.Rights.{MayChangeImage};
 ghost use Rattle.image_file.specs.paths.Rights.{Look, May, MayWrite};
 ghost use Rattle.image_file.specs.paths.Standing.{AreOf};
 ghost use Rattle.image_log.specs.life.LogRights.{MayForget, MayKeepLogOf};
 
 use crate::guarding::serve_logged_guarded;
+use crate::job_outputs::JobOutput;
 use crate::landing_logs::landed_end;
-use crate::reply_lines::WatchedReplies;
+use crate::reply_lines::LentOutput;
 use crate::watched_files::{RepliesWhileNamed, name_of, served_end};
 use command_faults::CommandFault;
-use d64_image::MemDisk;
 use disk_layout::Fault;
-use host_session::Replies;
 use image_file::{EndedFile, HostFiles, HostInput, Locks, NameStays, opened_to_change};
 use image_log::{
-    HostLogs, ImageFolder, LiveLog, LogFile, LogFolder, LogNames, LogRoom, SystemLog, TouchedDisk,
+    HostLogs, ImageFolder, LiveLog, LogFile, LogFolder, LogNames, LogRoom, SystemLog,
     forget_making, image_room, land_in,
 };
-use line_server::BatchSource;
+use line_server::{BatchReplies, BatchSource};
 use opened_files::{
     Loss, accept_loss, log_refusal, loss_refusal, opened_alone, read_shared, see_no_lost_log,
     see_size, see_untagged,
 };
 use std::alloc::Global;
 use std::fs::OpenFile;
-use std::io::{BufReader, Write};
+use std::io::BufReader;
 
 /// The folder of the image at a path, which this program has alone. The image is tagged while a log has the rest of it.
 fn folder_of<'a, F, R>(
@@ -103,11 +99,11 @@ where
     D: LogFolder<L> + Drop,
     N: NameStays,
     I: BatchSource,
-    T: Replies<TouchedDisk<MemDisk>>,
+    T: BatchReplies<LiveLog<L, D>>,
     ensures { (gone : Bool) × (answers.new.gone ≡ true → gone ≡ true)
         × IsDoneAndLanded D.history (λ left ended. IsGuarded image.now loss
         (IsUnlogged log left input.old input.new answers.old answers.new)
-        (IsEndOfRun (IsLoggedRun (of_live D.history) I.input (of_output (while_there T.output)) image.now log left
+        (IsEndOfRun (IsLoggedRun (of_live D.history) I.input (while_there T.output) image.now log left
         input.old input.new answers.old answers.new)) ended) gone result.0 result.1 }
 {
     let mut log = log;
@@ -130,12 +126,10 @@ where
     D: LogFolder<L> + Drop,
     N: NameStays + Drop,
     I: BatchSource,
-    T: Replies<TouchedDisk<MemDisk>>,
+    T: BatchReplies<LiveLog<L, D>>,
     ensures quiet { IsLoggedEnd out.old out.new result }
-    ensures some { IsToldSome T.output out.old out.new }
-    ensures all { OnOk result (IsToldAll T.output image.now out.old out.new) }
     ensures kept { IsServedOrNot D.history image.now (I.input.remaining input.old) log
-        (λ rs. AreToldSo T.output out.old out.new rs) out.old out.new result }
+        (ArePassed T.output out.old out.new) out.old out.new result }
 {
     let mut answers = RepliesWhileNamed::new(&name, out);
     let (_, ended) = serve_begun(alloc, image, log, loss, input, &mut answers);
@@ -158,12 +152,12 @@ where
     D: LogFolder<L> + Drop,
     N: NameStays + Drop,
     I: BatchSource,
-    W: Write,
+    W: JobOutput,
     ensures told { IsLoggedService W.contents (IsShopOf image.now) out.old out.new result }
     ensures kept { IsServedOrNot D.history image.now (I.input.remaining input.old) log
-        (λ rs. Appends (W.contents out.old) (W.contents out.new) (report rs)) out.old out.new result }
+        (ArePassed (lines_over W.contents (W.replies _)) out.old out.new) out.old out.new result }
 {
-    let mut printer = WatchedReplies::new(out);
+    let mut printer = LentOutput::new(out);
     serve_watched(alloc, image, log, loss, input, name, &mut printer)
 }
 
@@ -272,10 +266,10 @@ pub fn do_logged_serving<F, R, W>(
 where
     F: EndedFile + Locks + OpenFile + Drop,
     R: HostFiles<File = F> + HostLogs + HostInput + AllocGlobal,
-    W: Write,
+    W: JobOutput,
     requires { MayChangeImage R.rights rt.now path.now }
     ensures told { IsLoggedService W.contents (IsShopAt R.stands rt.now path.now) out.old out.new result }
-    ensures kept { IsServiceKept R.HostFiles F.Read F.Seek (asked_logs R.logs) (untagged_folders R.folders) R.stands R.rights R.traces W.contents
+    ensures kept { IsServiceKept R.HostFiles F.Read F.Seek (asked_logs R.logs) (untagged_folders R.folders) R.stands R.rights R.traces W.contents W.replies
         (R.given rt.now) rt.now path.now out.old out.new result }
 {
     let alloc = rt.alloc();

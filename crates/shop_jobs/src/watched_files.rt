@@ -6,10 +6,11 @@ ghost use Rattle.image_file.specs.paths.Rights.{Look, May};
 ghost use Rattle.opened_files.specs.HostFiles.{IsUnbegun};
 
 use command_faults::CommandFault;
-use d64_image::Sectors;
+use d64_image::MemDisk;
 use disk_layout::Fault;
-use host_session::Replies;
 use image_file::{FileName, HostFiles, NameStays};
+use image_log::{ImageLog, TouchedDisk};
+use line_server::BatchReplies;
 use line_text::NotTaken;
 use request_cards::{Reply, Word};
 use std::fs::OpenFile;
@@ -81,23 +82,32 @@ impl<N: NameStays, T> RepliesWhileNamed<'_, N, T> {
     }
 }
 
-impl<'a, D: Sectors, N: NameStays, T: Replies<D>> Replies<D> for RepliesWhileNamed<'a, N, T> {
+impl<L: ImageLog, N: NameStays, T> BatchReplies<L> for RepliesWhileNamed<'_, N, T>
+where
+    T: BatchReplies<L>,
+{
     ghost output = { while_there T.output };
 
-    fn tell(&mut self, reply: &Reply, disk: &D) -> Result<(), NotTaken> {
+    fn report(
+        &mut self,
+        reply: &Reply,
+        log: &L,
+        disk: &TouchedDisk<MemDisk>,
+    ) -> Result<(), NotTaken> {
         if !self.gone && (self.seen || self.file.is_still_named()) {
             self.seen = true;
-            return self.out.tell(reply, disk);
+            return self.out.report(reply, log, disk);
         }
         self.gone = true;
-        let _ = self.out.tell(&media_for(reply), disk);
-        let _ = self.out.hand_on();
+        if self.out.report(&media_for(reply), log, disk).is_ok() {
+            let _ = self.out.pass_on();
+        }
         Err(NotTaken)
     }
 
-    fn hand_on(&mut self) -> Result<(), NotTaken> {
+    fn pass_on(&mut self) -> Result<(), NotTaken> {
         self.seen = false;
-        self.out.hand_on()
+        self.out.pass_on()
     }
 }
 

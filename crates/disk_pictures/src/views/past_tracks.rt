@@ -16,11 +16,11 @@ use reached_disk::entry_name;
 use std::fmt::{self, Display, Formatter};
 use std::io::Write;
 
-/// Whether a track is one of those that the 1541 can reach after the 35 that it uses.
+/// Whether a track is one of those that an image may have after the 35 that a 1541 uses.
 fn is_past(track: u8) -> bool
     ensures { result ≡ past track }
 {
-    36 <= track && track <= 40
+    36 <= track && track <= 42
 }
 
 /// This place, if its link leads to such a track.

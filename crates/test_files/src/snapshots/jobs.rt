@@ -7,12 +7,12 @@ ghost use Rattle.ledger_jobs.specs.JobRuns.{IsJobOver};
 ghost use Rattle.ledger_jobs.specs.Jobs.{IsFit};
 ghost use Rattle.ledger_jobs.specs.declared.jobs.Job as jobs;
 ghost use Rattle.image_edits.specs.Trims.{IsTrimRun, as_trimmed};
-ghost use Rattle.opened_files.specs.Ends.{EndsAs};
+ghost use Rattle.opened_files.specs.Ends.{EndsAs, JobEnd};
 ghost use Rattle.opened_files.specs.HostFiles.{OfImage, OfText, OfWritten, TrimEnds};
 ghost use Rattle.opened_files.specs.Makings.{IsMadeAt};
 ghost use Rattle.test_files.specs.OneFile.{one_remains, one_traces};
 ghost use Rattle.test_files.specs.KnownFolders.{snapshot_changed, snapshot_folders, snapshot_logs, snapshot_replaced, snapshot_traces};
-ghost use Rattle.test_files.specs.KnownServices.{HasServed, HasStopped};
+ghost use Rattle.test_files.specs.KnownServices.{HasServed, HasStopped, KeepsAnswers};
 ghost use Rattle.test_files.specs.Snapshots.{image_path, snapshot_file, snapshot_rights, snapshot_stands, text_path};
 ghost use Rattle.test_files.specs.declared.snapshots.host.Snapshot as hosts;
 ghost use Rattle.disk_layout.specs.declared.faults.Fault.{Fault as Found};
@@ -29,10 +29,11 @@ use disk_layout::Fault;
 use image_edits::do_trim;
 use image_file::HostFiles;
 use ledger_jobs::{Job, do_job};
+use shop_jobs::JobOutput;
 use std::io::{Read, Seek, Write};
 
 /// Does a job over a snapshot, where each job may be done.
-pub fn do_over<W: Write>(
+pub fn do_over<W: JobOutput>(
     host: &Snapshot<'_>,
     job: &Job<'_>,
     out: &mut W,
@@ -40,7 +41,8 @@ pub fn do_over<W: Write>(
     requires fit { IsFit job.now }
     ensures { IsJobOver ⟦<Snapshot<'static> as HostFiles>⟧ ⟦<SnapshotFile<'static> as Read>⟧
         ⟦<SnapshotFile<'static> as Seek>⟧ snapshot_file snapshot_logs snapshot_folders snapshot_rights snapshot_stands
-        snapshot_traces unknown snapshot_changed snapshot_replaced (λ host. Some host.text.now) W.contents host.now job.now
+        snapshot_traces unknown snapshot_changed snapshot_replaced (λ host. Some host.text.now) W.contents W.replies host.now
+        job.now
         out.old out.new result }
 {
     do_job(host, job, out)
@@ -76,28 +78,36 @@ pub fn premises_are_met()
 
 /// What is promised of `serve` and `play --sync` has no premise left over a snapshot of a shop: done, all lines of the input are
 /// answered, and the folder has the shop after them alone; so it has that after some first lines if the input or the output failed.
-pub fn services_land<W: Write>()
+/// However a service ended, what was printed was durable by then, and stayed so.
+pub fn services_land<W: JobOutput>()
     ensures served { (host : hosts.Snapshot) (input : List ℕ) (old new : W) (found : Option Found) (shop : Shop)
         → IsShopOf host.image.now shop → IsServiceKept ⟦<Snapshot<'static> as HostFiles>⟧ ⟦<SnapshotFile<'static> as Read>⟧
         ⟦<SnapshotFile<'static> as Seek>⟧
-        snapshot_logs snapshot_folders snapshot_stands snapshot_rights snapshot_traces W.contents (Some input) host image_path
+        snapshot_logs snapshot_folders snapshot_stands snapshot_rights snapshot_traces W.contents W.replies (Some input) host image_path
         old new (Ok found) → HasServed ⟦<Snapshot<'static> as HostFiles>⟧ ⟦<SnapshotFile<'static> as Read>⟧
         ⟦<SnapshotFile<'static> as Seek>⟧
         host shop input W.contents old new }
     ensures played { (host : hosts.Snapshot) (old new : W) (found : Option Found) (shop : Shop)
         → IsShopOf host.image.now shop → IsPlayKept ⟦<Snapshot<'static> as HostFiles>⟧ ⟦<SnapshotFile<'static> as Read>⟧
         ⟦<SnapshotFile<'static> as Seek>⟧
-        snapshot_logs snapshot_folders snapshot_stands snapshot_rights snapshot_traces W.contents host image_path text_path
+        snapshot_logs snapshot_folders snapshot_stands snapshot_rights snapshot_traces W.contents W.replies host image_path text_path
         old new (Ok found) → HasServed ⟦<Snapshot<'static> as HostFiles>⟧ ⟦<SnapshotFile<'static> as Read>⟧
         ⟦<SnapshotFile<'static> as Seek>⟧
         host shop (crlf_text (lines host.text.now)) W.contents old new }
     ensures stopped { (host : hosts.Snapshot) (input : List ℕ) (old new : W) (shop : Shop)
         → IsShopOf host.image.now shop → IsServiceKept ⟦<Snapshot<'static> as HostFiles>⟧ ⟦<SnapshotFile<'static> as Read>⟧
         ⟦<SnapshotFile<'static> as Seek>⟧
-        snapshot_logs snapshot_folders snapshot_stands snapshot_rights snapshot_traces W.contents (Some input) host image_path
+        snapshot_logs snapshot_folders snapshot_stands snapshot_rights snapshot_traces W.contents W.replies (Some input) host image_path
         old new (Err faults.File) → (new ≡ old) ⊎ HasStopped ⟦<Snapshot<'static> as HostFiles>⟧ ⟦<SnapshotFile<'static> as Read>⟧
         ⟦<SnapshotFile<'static> as Seek>⟧
         host shop input }
+    ensures answered { (host : hosts.Snapshot) (input : List ℕ) (old new : W) (end : JobEnd) (shop : Shop)
+        → IsShopOf host.image.now shop → IsServiceKept ⟦<Snapshot<'static> as HostFiles>⟧ ⟦<SnapshotFile<'static> as Read>⟧
+        ⟦<SnapshotFile<'static> as Seek>⟧
+        snapshot_logs snapshot_folders snapshot_stands snapshot_rights snapshot_traces W.contents W.replies (Some input) host
+        image_path old new end → (new ≡ old) ⊎ KeepsAnswers ⟦<Snapshot<'static> as HostFiles>⟧
+        ⟦<SnapshotFile<'static> as Read>⟧ ⟦<SnapshotFile<'static> as Seek>⟧
+        shop input W.contents W.replies old new }
 {}
 
 /// What is said of an image that a job makes can hold, and on a host where one file was made it holds of its path and its bytes

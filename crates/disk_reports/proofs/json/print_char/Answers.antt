@@ -14,11 +14,11 @@ returns-then-byte-eq34 g c =
 
 pub returns-then-byte-lt32 : goal.returns-then-byte-lt32
 returns-then-byte-lt32 g c =
-    rw (control-char c.args.byte c.digit-high.result c.digit-low.result c.if-byte-eq34.false c.if-byte-eq92.false
+    rw (control-char c.args.byte c.if-byte-eq34.false c.if-byte-eq92.false
     (elim c.then-byte-lt32.branch [
       | then-byte-lt32-via-then-byte-lt32 w ↦ inl w.if-byte-lt32.true
       | then-byte-lt32-via-else-byte-lt32+then-byte-eq127 w ↦ inr w.if-byte-eq127.true
-    ]) c.digit-high.ensures c.digit-low.ensures) c.write_all-then-byte-lt32.ensures.bytes
+    ])) c.print_control.ensures
 
 pub returns : goal.returns
 returns g c =

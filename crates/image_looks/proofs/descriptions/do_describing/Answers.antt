@@ -2,10 +2,10 @@
 use Rattle.std.proofs.Common.{◌∙◌, Err, ap, map}
 use Rattle.std.proofs.lemmas.Result.{err_from_is_err_and}
 use Rattle.std.specs.Io.KnownBytes.{Appends}
-use Rattle.disk_reports.specs.Descriptions.{heading_text}
 use Rattle.image_looks.specs.EachImage.{AreHandedOn, IsReadAt}
-use Rattle.image_looks.specs.Descriptions.{IsDescribedFrom}
+use Rattle.image_looks.specs.Descriptions.{IsDescribedFrom, heading_of}
 use Rattle.image_looks.proofs.EachTold.{cut-off, several-told, several-weaker}
+use Rattle.opened_files.specs.declared.extents.Extent.TheVariants.{Disk}
 use Rattle.image_looks.proofs.descriptions.do_describing.Goals as goal
 
 pub returns-in_err-greatest : goal.returns-in_err-greatest
@@ -15,12 +15,12 @@ returns-in_err-greatest g c =
 
 pub returns : goal.returns
 returns g c =
-    let reads = IsReadAt g.R.HostFiles.rights g.R.HostFiles.stands c.args.rt.now in
+    let reads = IsReadAt g.R.HostFiles.rights g.R.HostFiles.stands c.args.rt.now Disk in
     let paths = map (λ path. path.now) c.args.paths.now in
     let told = g.W.Write.contents in
     let below = c.print_heading.new.out in
     several-weaker (AreHandedOn reads (IsDescribedFrom told c.args.form) told paths below c.several_end.new.out)
-    (λ greatest. (top : g.row.W.Denot) × Appends (told c.args.out.now) (told top) (heading_text c.args.form)
+    (λ greatest. (top : g.row.W.Denot) × Appends (told c.args.out.now) (told top) (heading_of c.args.form)
     × AreHandedOn reads (IsDescribedFrom told c.args.form) told paths top c.several_end.new.out greatest)
     (λ greatest done. (below, c.in_ok-print_heading.ensures.ok, done)) c.several_end.result
     (several-told reads (IsDescribedFrom told c.args.form) told paths below c.print_each.new.out c.several_end.new.out

@@ -7,12 +7,12 @@ use Rattle.image_looks.proofs.each_image.print_each.Goals as goal
 
 pub loop-path-init : goal.loop-path-init
 loop-path-init g c =
-    none-yet (IsReadAt g.R.HostFiles.rights g.R.HostFiles.stands c.args.rt.now) (g.P.PrintsImage.prints c.args.what.now) _
+    none-yet (IsReadAt g.R.HostFiles.rights g.R.HostFiles.stands c.args.rt.now c.args.extent) (g.P.PrintsImage.prints c.args.what.now) _
 
 pub loop-path-preserved : goal.loop-path-preserved
 loop-path-preserved g c =
     let prints = g.P.PrintsImage.prints c.args.what.now in
-    let gives = IsReadAt g.R.HostFiles.rights g.R.HostFiles.stands c.args.rt.now in
+    let gives = IsReadAt g.R.HostFiles.rights g.R.HostFiles.stands c.args.rt.now c.args.extent in
     let paths = c.args.paths.now in
     let i = c.loop-path.path-index in
     subst (λ (most : ℕ). AreEach gives prints (map (λ path. path.now) (take (i + 1) paths)) c.args.out.now c.print_one.new.out most)

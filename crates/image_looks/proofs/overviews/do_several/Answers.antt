@@ -4,6 +4,7 @@ use Rattle.std.proofs.lemmas.Result.{err_from_is_err_and}
 use Rattle.image_looks.specs.EachImage.{IsReadAt}
 use Rattle.image_looks.specs.Overviews.{IsOverviewOf}
 use Rattle.image_looks.proofs.EachTold.{cut-off, several-told}
+use Rattle.image_looks.specs.Extents.{extent_of}
 use Rattle.image_looks.proofs.overviews.do_several.Goals as goal
 
 pub returns-in_err-greatest : goal.returns-in_err-greatest
@@ -13,6 +14,6 @@ returns-in_err-greatest g c =
 
 pub returns : goal.returns
 returns g c =
-    several-told (IsReadAt g.R.HostFiles.rights g.R.HostFiles.stands c.args.rt.now) (IsOverviewOf g.W.Write.contents c.args.what.now)
+    several-told (IsReadAt g.R.HostFiles.rights g.R.HostFiles.stands c.args.rt.now (extent_of c.args.what.now)) (IsOverviewOf g.W.Write.contents c.args.what.now)
     g.W.Write.contents (map (λ path. path.now) c.args.paths.now) c.args.out.now c.print_each.new.out c.several_end.new.out
     c.in_ok-greatest.greatest c.several_end.result c.in_ok-greatest.ensures.ok c.several_end.ensures

@@ -7,6 +7,7 @@ use Rattle.command_table.specs.Grammar.{values}
 use Rattle.ledger_cli.specs.Images.{AreDescribed, IsCheckJob, IsDescribing, IsLookJob}
 use Rattle.ledger_cli.specs.Looks.{description_in}
 use Rattle.ledger_jobs.specs.declared.jobs.Job.{Job}
+use Rattle.image_looks.specs.declared.descriptions.ImageForm.TheVariants as forms
 use Rattle.image_looks.specs.declared.kinds.Look.{Look}
 use Rattle.ledger_cli.specs.declared.faults.JobFault.{JobFault}
 use Rattle.ledger_cli.proofs.images.checking.Goals as goal
@@ -21,7 +22,7 @@ given-values o given rows is told =
 
 described-met : (rows : List Row) (form : DescriptionForm) (images : List (Bor Text)) (r : Result Job JobFault)
     → description_in rows ≡ Some form
-    → map (λ (v : Bor Text). v.now) images ≡ values (codes "IMAGE") rows → IsDescribing form images r → IsCheckJob rows r
+    → map (λ (v : Bor Text). v.now) images ≡ values (codes "IMAGE") rows → IsDescribing (forms.Described form) images r → IsCheckJob rows r
 described-met rows form images r given told (inl (all, same, items)) =
     inr (inl (form, all, same, subst (AreDescribed rows form) (sym items) (given, told)))
 described-met rows form images r given told (inr none) = inr (inr none)

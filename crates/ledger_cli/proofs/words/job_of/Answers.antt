@@ -19,7 +19,7 @@ use Rattle.ledger_cli.proofs.Named.{making-met, named-met, putting-met, records-
 use Rattle.ledger_cli.proofs.Named.{storing-met, titling-met}
 use Rattle.ledger_cli.proofs.Parses.{copy-fit, copy-met, format-fit, format-met, met-has, met-is, play-fit, play-met}
 use Rattle.ledger_cli.proofs.Parses.{repair-fit, repair-met}
-use Rattle.ledger_cli.proofs.Views.{checking-met, viewing-met}
+use Rattle.ledger_cli.proofs.Views.{checking-met, planning-met, viewing-met}
 use Rattle.ledger_cli.proofs.words.job_of.Goals as goal
 
 pub returns-in_default : goal.returns-in_default
@@ -60,6 +60,12 @@ pub returns-in-check : goal.returns-in-check
 returns-in-check c =
     let met = checking-met c.parsed_subcommand.result _ c.in-Some.name c.in-Some.found c.checking.result
     c.parsed_subcommand.ensures c.in-Some.is c.in-check.is c.checking.ensures in
+    record { job = met.0; fit = met.1 }
+
+pub returns-in-plan : goal.returns-in-plan
+returns-in-plan c =
+    let met = planning-met c.parsed_subcommand.result _ c.in-Some.name c.in-Some.found c.planning.result
+    c.parsed_subcommand.ensures c.in-Some.is c.in-plan.is c.planning.ensures in
     record { job = met.0; fit = met.1 }
 
 pub returns-in-show : goal.returns-in-show

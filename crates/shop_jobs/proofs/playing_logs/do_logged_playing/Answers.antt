@@ -26,7 +26,7 @@ returns-clause-kept g c =
     of-script (IsErr end × (c.play_beside.new.out ≡ c.args.out.now))
     (λ (text : List ℕ). OfText g.R.HostFiles.stands host c.args.script.now (λ all. text ≡ all))
     (λ given. IsServiceAt g.R.HostFiles g.F.Read g.F.Seek (asked_logs g.R.HostLogs.logs) (untagged_folders g.R.HostLogs.folders) g.R.HostFiles.stands
-    g.R.HostFiles.rights g.R.HostFiles.traces g.W.Write.contents given host c.args.path.now c.args.out.now
+    g.R.HostFiles.rights g.R.HostFiles.traces g.W.Write.contents g.W.JobOutput.replies given host c.args.path.now c.args.out.now
     c.play_beside.new.out end)
     (vec_items c.in_ok-script.script) c.as_slice.result.now c.as_slice.ensures.value c.in_ok-script.ensures.read
     c.play_beside.ensures.kept

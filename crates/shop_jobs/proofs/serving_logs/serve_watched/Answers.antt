@@ -2,7 +2,6 @@
 use Rattle.std.proofs.Common.{rules}
 use Rattle.shop_jobs.proofs.LoggedTold.{guarded-quiet, landed-quiet, lent-logged, watched-back}
 use Rattle.shop_jobs.proofs.ServiceKept.{served-kept}
-use Rattle.shop_jobs.proofs.ServiceTold.{served-all, served-some}
 use Rattle.shop_jobs.proofs.serving_logs.serve_watched.Goals as goal
 
 pub returns : goal.returns
@@ -18,13 +17,7 @@ returns g c =
           (λ left ended done. guarded-quiet _ _ _ c.args.image.now c.args.log left c.args.input.now
           c.serve_begun-ended.new.input before behind c.args.loss ended done)
           _ folder end c.serve_begun-ended.ensures.2);
-      some = served-some g.D.LogFolder.history g.I.BatchSource.input g.T.Replies.output c.args.image.now c.args.log
-          c.args.loss c.args.input.now c.serve_begun-ended.new.input before behind c.args.out.now _ c.new-answers.ensures.out
-          (λ same. search rules) _ folder end c.serve_begun-ended.ensures.2;
-      all = served-all g.D.LogFolder.history g.I.BatchSource.input g.T.Replies.output c.args.image.now c.args.log
-          c.args.loss c.args.input.now c.serve_begun-ended.new.input before behind c.args.out.now _ c.new-answers.ensures.out
-          (λ same. search rules) _ folder end c.serve_begun-ended.ensures.2;
-      kept = served-kept g.D.LogFolder.history g.I.BatchSource.input g.T.Replies.output c.args.image.now c.args.log
+      kept = served-kept g.D.LogFolder.history g.I.BatchSource.input g.T.BatchReplies.output c.args.image.now c.args.log
           c.args.loss c.args.input.now c.serve_begun-ended.new.input before behind c.args.out.now _ c.new-answers.ensures.out
           (λ same. search rules) _ folder end c.serve_begun-ended.ensures.2;
     }

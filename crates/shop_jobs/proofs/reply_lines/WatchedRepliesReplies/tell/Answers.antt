@@ -12,8 +12,8 @@ returns g c =
     let i = instant_of g.D.Sectors.history c.args._disk.now in
     let lent = c.args.self.now.out in
     let now : WatchedReplies g.row.W.Denot = record {
-      out = record { ref_ptr = lent.ref_ptr; ghost_name = lent.ghost_name; now = c.print_reply.new.out };
+      out = record { ref_ptr = lent.ref_ptr; ghost_name = lent.ghost_name; now = c.print_line.new.out };
     } in
-    is-lent contents c.args.self.now now c.args.reply.now i c.print_reply.result refl
-    (is_written contents lent.now c.print_reply.new.out c.args.reply.now i c.print_reply.result c.print_reply.ensures.ok
-    c.print_reply.ensures.err)
+    is-lent contents c.args.self.now now c.args.reply.now i c.print_line.result refl
+    (is_written contents lent.now c.print_line.new.out c.args.reply.now i c.print_line.result c.print_line.ensures.ok
+    c.print_line.ensures.err)

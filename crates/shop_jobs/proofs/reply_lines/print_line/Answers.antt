@@ -5,7 +5,7 @@ use Rattle.std.specs.Io.KnownBytes.{Appends}
 use Rattle.std.proofs.lemmas.List.{take_all}
 use Rattle.host_session.specs.runs.Outputs.{line_of}
 use Rattle.line_text.specs.Handed.{AppendsPart}
-use Rattle.shop_jobs.proofs.reply_lines.print_reply.Goals as goal
+use Rattle.shop_jobs.proofs.reply_lines.print_line.Goals as goal
 
 pub returns : goal.returns
 returns g c =

@@ -2,11 +2,11 @@
 use Rattle.std.specs.Prelude.{vec_items}
 use Rattle.std.proofs.lemmas.Result.{IfOk-weaker}
 use Rattle.opened_files.proofs.HostFiles.{taken}
-use Rattle.image_edits.proofs.trimming.read_long.Goals as goal
+use Rattle.opened_files.proofs.readings.read_long.Goals as goal
 
 pub returns : goal.returns
 returns g c =
     IfOk-weaker c.read_script.result _ _
-    (λ bytes given. taken g.R.Read.remaining c.take.result c.args.reader 197377 (vec_items bytes) c.take.ensures.limit
+    (λ bytes given. taken g.R.Read.remaining c.take.result c.args.reader 206115 (vec_items bytes) c.take.ensures.limit
     c.take.ensures.inner given)
     c.read_script.ensures
