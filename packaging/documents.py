@@ -85,15 +85,24 @@ class Links:
         return f"{text}\n{note}" if str(self.page) == "README.md" else f"{title}\n\n{note}{rest}"
 
 
+def replaced(form, by, text):
+    """A text with other words in place of those of a form, which it has to have."""
+    made, times = re.subn(form, by, text)
+    if not times:
+        sys.exit(f"documents: a page has no longer what the package says in other words: {form}")
+    return made
+
+
 def readme(text):
     """The README, of which the package's licence is the file `copyright`, and whose program is on the path."""
-    text = text.replace("(LICENSE)", "(copyright)")
     begins = "With the program on the path as `ledger` ([docs/KEEPERS.md](docs/KEEPERS.md) says how), in a copy of this folder:"
     tests = "The repository has all proofs and all trials, and its README says how to run them.\n"
-    text = re.sub(r"(?m)^In a clone.*$", begins, text, count=1)
-    text = re.sub(r"(?m)^This runs the \[released\].*\n\n", "", text, count=1)
-    text = re.sub(r"(?ms)^\*\*Without the kit\*\*.*?^```sh.*?^```\n", tests, text, count=1)
-    return re.sub(r"(?m)^\./test .*\n", "", re.sub(r"(?m)(^|`)\./ledger ", r"\1ledger ", text))
+    text = replaced(r"\(LICENSE\)", "(copyright)", text)
+    text = replaced(r"(?m)^In a clone.*$", begins, text)
+    text = replaced(r"(?m)^.*\[released\]\(.*\n\n", "", text)
+    text = replaced(r"(?ms)^\*\*Without the kit\*\*.*?^```sh.*?^```\n", tests, text)
+    text = replaced(r"(?m)^\./test .*\n", "", text)
+    return replaced(r"(?m)(^|`)\./ledger ", r"\1ledger ", text)
 
 
 def renamed(text, name):
@@ -104,11 +113,11 @@ def renamed(text, name):
 def for_users(file, text, name):
     """What the package has of a file."""
     if file.name == "QUICK_START.md":
-        text = re.sub(r"(?m)^install .* /usr/bin/ledger\n", "", text)
+        text = replaced(r"(?m)^install .* /usr/bin/ledger\n", "", text)
         place = f"Install the package first, and do this in its folder `/usr/share/doc/{name}`."
-        text = re.sub(r"Do it at the top of the repository; .*", place, text)
+        text = replaced(r"Do it at the top of the repository; .*", place, text)
     if str(file) == "shop/README.md":
-        text = text.replace("with `ledger` in `/usr/bin`", f"with `{name}` in `/usr/bin`")
+        text = replaced("with `ledger` in `/usr/bin`", f"with `{name}` in `/usr/bin`", text)
     if str(file) == "README.md":
         text = readme(text)
     return renamed(text, name) if file.suffix in (".py", ".service", ".sh") else text
