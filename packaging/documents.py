@@ -4,9 +4,10 @@
     packaging/documents.py FOLDER SHOP NAME
 
 NAME is the command under which the program is installed. FOLDER gets the pages for users, with their pictures, and all files under
-examples/. SHOP gets what is under shop/ and no page, but its tests: the program that a shop runs. A link to a page that isn't among
-them becomes plain text; a table's row that has no other link goes. Where a page speaks of
-this folder and of the program in it, the copy speaks of the package's. Files stay executable."""
+examples/. SHOP gets what is under shop/ and no page, but its tests: the program that a shop runs. A link to a file that isn't among
+them becomes plain text, with the file's path if the text doesn't name the file. A page that names such files says that they are in the
+repository. Where a page speaks of this folder and of the program in it, the copy speaks of the package's. Files stay executable.
+tests/documents/package_pages.py looks at the result."""
 
 import os
 import re
@@ -15,10 +16,13 @@ import sys
 from pathlib import Path
 
 TOP = Path(__file__).resolve().parent.parent
-PAGES = ("KEEPERS", "SHOP_OWNER", "OPERATIONS", "TRUST", "LOG", "MESSAGES", "CARDS", "DISK", "DRIVE", "POWER_CUTS", "FAQ", "GLOSSARY")
+PAGES = ("WHY", "KEEPERS", "SHOP_OWNER", "OPERATIONS", "TRUST", "LOG", "MESSAGES", "CARDS", "DISK", "DRIVE", "POWER_CUTS", "SPEED", "TRIALS",
+         "FAQ", "GLOSSARY")
 # folders whose files nobody needs who runs a shop
 LEFT_OUT = {"__pycache__", "tests", ".mypy_cache", ".pytest_cache"}
 LINK = re.compile(r"(!?)\[([^\]]*)\]\(([^)\s]+)\)")
+# paths from the top of the repository, as pages name them
+PATH = re.compile(r"(?<![\w/.-])((?:bench|crates|docs|examples|mutants|packaging|releases|shop|tests|tools)/[\w./*-]*)")
 
 
 def shipped():
@@ -36,30 +40,59 @@ class Links:
 
     def __init__(self, page, files):
         self.page, self.files = page, files
+        self.missing = set()
 
-    def is_dead(self, target):
+    def path(self, target):
+        """The file to which a link leads, from the top of the repository; None if it leads elsewhere."""
         file = target.partition("#")[0]
-        place = (TOP / self.page.parent / file).resolve()
-        return bool(file) and not re.match(r"[a-z]+:", target) and place not in self.files
+        is_file = file and not re.match(r"[a-z]+:", target)
+        return os.path.relpath((TOP / self.page.parent / file).resolve(), TOP) if is_file else None
 
     def kept(self, line):
-        """A line without its dead links; None if it is a table's row without another one."""
-        targets = [it[3] for it in LINK.finditer(line)]
-        if line.startswith("|") and targets and all(map(self.is_dead, targets)):
-            return None
-        return LINK.sub(lambda it: it[2] if self.is_dead(it[3]) else it[0], line)
+        """A line without its dead links."""
+
+        def alive_or_plain(link):
+            path = self.path(link[3])
+            if path is None or TOP / path in self.files:
+                return link[0]
+            self.missing.add(path)
+            said = LINK.sub(lambda it: it[2], line)
+            if re.search(rf"\b{re.escape(Path(path).stem)}\b", said):
+                return link[2]
+            return f"{link[2]}: `{path}`" if line[: link.start()].endswith("(") else f"{link[2]} (`{path}`)"
+
+        return LINK.sub(alive_or_plain, line)
+
+    def note(self, text):
+        """What a page says of the files that it names and that the package doesn't have."""
+        for path in PATH.findall(LINK.sub(lambda it: it[2], text)):
+            # a form, such as `crates/NAME`, or what is built, is no file of the repository either
+            if list(TOP.glob(path.rstrip("/."))) and not any(it in self.files for it in TOP.glob(path.rstrip("/."))):
+                self.missing.add(path.rstrip("/."))
+        tops = {it.partition("/")[0] for it in self.missing}
+        names = sorted(it for it in self.missing if it.startswith(("docs/", "examples/", "shop/")))
+        names += [f"{it}/" for it in sorted(tops - {"docs", "examples", "shop"})]
+        listed = ", ".join(f"`{it}`" for it in names[:-1]) + (" and " if names[1:] else "") + "".join(f"`{it}`" for it in names[-1:])
+        return f"This page also speaks of {listed}, which the program's repository has and this package hasn't.\n" if names else ""
 
     def kept_of(self, text):
-        lines = (self.kept(it) for it in text.split("\n"))
-        return "\n".join(it for it in lines if it is not None)
+        """The page as the package has it. The README ends with the note, other pages begin with it."""
+        text = "\n".join(map(self.kept, text.split("\n")))
+        note = self.note(text)
+        if not note:
+            return text
+        title, _, rest = text.partition("\n")
+        return f"{text}\n{note}" if str(self.page) == "README.md" else f"{title}\n\n{note}{rest}"
 
 
 def readme(text):
     """The README, of which the package's licence is the file `copyright`, and whose program is on the path."""
     text = text.replace("(LICENSE)", "(copyright)")
     text = re.sub(r"(?m)^In a clone.*$", "With the program on the path as `ledger` ([docs/KEEPERS.md](docs/KEEPERS.md) says how), in a copy of "
-                  "this folder. Pages that are named here without a link are in the repository.", text, count=1)
+                  "this folder:", text, count=1)
     text = re.sub(r"(?m)^This runs the \[released\].*\n\n", "", text, count=1)
+    text = re.sub(r"(?ms)^\*\*Without the kit\*\*.*?^```sh.*?^```\n", "The repository has all proofs and all trials, and its README says how to "
+                  "run them.\n", text, count=1)
     return re.sub(r"(?m)^\./test .*\n", "", re.sub(r"(?m)(^|`)\./ledger ", r"\1ledger ", text))
 
 
@@ -72,6 +105,7 @@ def for_users(file, text, name):
     """What the package has of a file."""
     if file.name == "QUICK_START.md":
         text = re.sub(r"(?m)^install .* /usr/bin/ledger\n", "", text)
+        text = re.sub(r"Do it at the top of the repository; .*", f"Install the package first, and do this in its folder `/usr/share/doc/{name}`.", text)
     if str(file) == "shop/README.md":
         text = text.replace("with `ledger` in `/usr/bin`", f"with `{name}` in `/usr/bin`")
     if str(file) == "README.md":

@@ -4,8 +4,9 @@
     packaging/pages.py PROGRAM FOLDER NAME COMMIT
 
 PROGRAM is asked for --help, and so is each of its subcommands. So the pages name the words that the program takes, and no others.
-The man page also has the faults that `check` prints and the words of refusals, each with its meaning, from docs/KEEPERS.md, and what
-that says about those in ADVICE.
+The man page also has the faults that `check` prints and the words of refusals, each with its meaning and its cure, from the tables of
+docs/KEEPERS.md, and what that page says about those in ADVICE. Every other word that PROGRAM explains (crates/ledger_jobs/src/meanings.rt
+lists them) has the sentence that `PROGRAM help WORD` prints.
 NAME is the command under which the program is installed, COMMIT names the sources that it was built from. FOLDER gets `NAME.1`,
 `NAME.bash`, `_NAME` (zsh) and `NAME.fish`."""
 
@@ -15,9 +16,22 @@ import sys
 from dataclasses import dataclass, field
 from pathlib import Path
 
-GUIDE = Path(__file__).resolve().parent.parent / "docs/KEEPERS.md"
+sys.dont_write_bytecode = True
+
+from documents import PAGES  # the module beside this one
+
+TOP = Path(__file__).resolve().parent.parent
+GUIDE = TOP / "docs/KEEPERS.md"
+MEANINGS = TOP / "crates/ledger_jobs/src/meanings.rt"
 # sections of the guide that stand whole in the man page
-ADVICE = ("A part of a file was lost", "`DEVICE`")
+ADVICE = ("Images of another size", "A part of a file was lost", "`DEVICE`")
+# what the man page calls the sections that the guide links to
+HERE = {"faults": "FAULTS", "when-something-is-refused": "DIAGNOSTICS"}
+HERE |= {it.lower().replace(" ", "-").strip("`"): it.strip("`") for it in ADVICE}
+# how long a line may be in the text of a command, so that it has 80 columns at most on the page
+ROOM = 71
+# what a help text says of this page, and what the page says there
+OF_THIS_PAGE = ('"man ledger-1541" says what to do about each.', "The section FAULTS says what to do about each.")
 
 STATUSES = (
     ("0", "Success; also when help was asked for."),
@@ -27,10 +41,15 @@ STATUSES = (
     ("3", "A file, the output or memory failed, or another program has the image."),
 )
 
-DESCRIPTION = """A stock ledger on a Commodore 1541 disk, kept as a D64 image of 35 tracks. A till sends requests, and repeats a request
-if it didn't get the answer: a repeat gets the kept answer and has no second effect. If power fails, the next opening puts everything
-right; but play without --sync may then have lost answered requests. The commands for keepers of disks take any image of 35 tracks
-without error bytes."""
+DESCRIPTION = (
+    "A toolbox for keepers of old disks, and a stock ledger, on images of Commodore 1541 disks (D64).",
+    "Keepers check, list, extract, draw and repair such images, and put files on them. `list`, `check`, `show` and the commands that "
+    "change a disk take an image of 35 tracks without error bytes, which has 174,848 bytes. The other commands that look at disks show "
+    "the first 35 tracks of an image with more tracks or error bytes, too.",
+    "The stock ledger keeps a shop's books on such a disk. A till sends requests, and repeats a request if it didn't get the answer: a "
+    "repeat gets the kept answer and has no second effect. If power fails, the next opening puts everything right. But after a power loss "
+    "in `play` without `--sync`, answered requests may be lost, or the shop be wrong.",
+)
 
 # a command, what it does, and what it prints
 EXAMPLES = (
@@ -105,24 +124,61 @@ def words_of(program):
 
 def escaped(text):
     """Text as roff takes it."""
-    return text.replace("\\", "\\e").replace("-", "\\-").replace("'", "\\(aq").replace('"', "\\(dq").replace("\n", " ")
+    text = text.replace("\\", "\\e").replace("-", "\\-").replace("'", "\\(aq").replace('"', "\\(dq").replace("\n", " ")
+    return "\\&" + text if text.startswith(".") else text
+
+
+def coded(text):
+    """Text for roff, with what stands between backticks in bold letters."""
+    parts = text.split("`")
+    return "".join(f"\\fB{escaped(part)}\\fP" if number % 2 else escaped(part) for number, part in enumerate(parts))
+
+
+def table(rows):
+    """The rows of a help text's table for roff: as they are, if they are narrow and no list of statuses."""
+    found = []
+    for row in rows:
+        parts = re.match(r"  (\S+)  +(\S.*)$", row)
+        if parts:
+            found.append([parts[1], parts[2]])
+        elif found:
+            found[-1][1] += " " + row.strip()
+    if not found or found[0][0] != "0" and max(map(len, rows)) <= ROOM:
+        return [".nf", *map(escaped, rows), ".fi"]
+    width = max(len(term) for term, _ in found) + 2
+    return [".PD 0", *(it for term, text in found for it in (f".TP {width}", f".B {escaped(term)}", coded(text))), ".PD", ".PP"]
 
 
 def laid_out(lines):
-    """Lines of a help text for roff: those that begin with a blank stand as they are, and an empty one begins a paragraph."""
-    found, is_table = [], False
-    for line in lines:
-        if line.startswith(" ") != is_table:
-            is_table = not is_table
-            found.append(".nf" if is_table else ".fi")
-        found.append(escaped(line) if line else ".PP")
-    return found + [".fi"] * is_table
+    """Lines of a help text for roff: those that begin with a blank are a table, and an empty one begins a paragraph."""
+    found, rows = [], []
+    for line in [*lines, ""]:
+        if line.startswith(" "):
+            rows.append(line)
+            continue
+        found += table(rows) if rows else []
+        rows = []
+        found.append(coded(line) if line else ".PP")
+    return [it for number, it in enumerate(found[:-1]) if it != ".PP" or found[number + 1] != ".PP"]
 
 
-def plain(text):
-    """Markdown without its marks; what stands between backticks stays as it is."""
-    parts = re.sub(r"\[([^\]]*)\]\([^)]*\)", r"\1", text).split("`")
-    return "".join(part if number % 2 else part.replace("*", "") for number, part in enumerate(parts))
+def linked(link):
+    """What the man page has of a link: a section's name, or the file of the page."""
+    label, target = link[1].replace("*", ""), link[2]
+    heading = re.match(r"#(.*)", target)
+    if heading and heading[1] in HERE:
+        return f'"{HERE[heading[1]]}"'
+    page = re.match(r"(\w+)\.md", f"{GUIDE.name}{target}" if heading else target)
+    if not page or page[1] not in PAGES:
+        sys.exit(f"pages: the package has no page {target}")
+    return f"docs/{page[1]}.md" if label == page[1] or "*" in link[1] else f"{label} (docs/{page[1]}.md)"
+
+
+def guided(text, name):
+    """A paragraph of the guide for roff, which calls the program by its name."""
+    parts = re.sub(r"\[([^\]]*)\]\(([^)]*)\)", linked, text).split("`")
+    parts = [re.sub(r"^ledger (?=[a-z])", f"{name} ", part) if number % 2 else part.replace("*", "") for number, part in enumerate(parts)]
+    return coded("`".join(parts))
 
 
 def section(heading, end):
@@ -133,50 +189,94 @@ def section(heading, end):
     return found[1]
 
 
-def explained_words():
-    """The guide's faults and refusals for roff, each word with its meaning."""
-    lines = [".SH FAULTS", "What", ".B check", "prints, with the sector where it is:"]
-    for word, meaning, cure in re.findall(r"(?m)^\| `([A-Z]+)` \| ([^|]+) \| ([^|]+) \|$", section("## Faults", "##")):
-        lines += [".TP", f".B {word}", escaped(plain(meaning)), ".br", escaped("What to do: " + plain(cure))]
-    lines += [".SH DIAGNOSTICS", "Words on standard error. Sections and pages named here are those of docs/KEEPERS.md."]
-    for line in section("## When something is refused", "###").splitlines():
-        refusal = re.match(r"- (`[^:]*): (.*)", line)
-        if refusal:
-            lines += [".TP", f".B {escaped(plain(refusal[1]))}", escaped(plain(refusal[2]))]
-        elif line.startswith("Status "):
-            lines += [".PP", escaped(plain(line))]
+def blocks(text, name):
+    """Paragraphs, lists, tables and code of the guide for roff. A table's first row is its heading, which the page leaves out; and a
+    cell that refers to an earlier row's last one has what stands there."""
+    lines, before, cures = [], "", {}
+    for line in text.splitlines():
+        cells = [it.strip() for it in line.strip("|").split("|")] if line.startswith("|") else []
+        item = re.match(r"(\d+\.|-) +(.*)", line)
+        inset = len(line) - len(line.lstrip())
+        if cells and before.startswith("|") and not line.startswith("|--"):
+            cells[-1] = re.sub(r"^As for (`[^`]+`)\.?", lambda it: cures[it[1]], cells[-1])
+            cures[cells[0]] = cells[-1]
+            lines += [".TP", f".B {guided(cells[0].replace('`', ''), name)}", guided(cells[1], name)]
+            lines += [it for cell in cells[2:] for it in (".br", f"What to do: {guided(cell, name)}")]
+        elif item:
+            lines += [f".IP {escaped(item[1])} 3", guided(item[2], name)]
+        elif inset >= 4:
+            said = re.sub(r"^\$ ledger ", f"$ {name} ", line.strip())
+            lines[-1:] = [escaped(said), ".fi"] if lines[-1:] == [".fi"] else [*lines[-1:], '.IP "" 7', ".nf", escaped(said), ".fi"]
+        elif inset:
+            lines += ['.IP "" 3', guided(line.strip(), name)]
+        elif line and not cells:
+            lines += [".PP", guided(line, name)]
+        before = line
+    return lines[1:] if lines[:1] == [".PP"] else lines
+
+
+def rows_of(heading):
+    """The first cells of the rows of a section's tables: its words, without the sector or the number after them."""
+    return {re.sub(r" (t/s|n)$", "", word) for word in re.findall(r"(?m)^\| `([A-Z][^`]*)` \|", section(heading, "##"))}
+
+
+def explained_words(program, name):
+    """The words that the program prints for roff, each with what it means."""
+    faults, refusals = "## Faults", "## When something is refused"
+    said = section(faults, "##")
+    lines = [".SH FAULTS", "What", ".B check", "prints, with the sector where it is:", *blocks(said[: said.index("\nThese drawings")], name)]
+    lines += [".SH DIAGNOSTICS", *blocks(section(refusals, "###"), name)]
     for heading in ADVICE:
-        lines.append(f".SS {escaped(plain(heading))}")
-        for mark, text in re.findall(r"(?m)^(\d+\.|-|) ?(\S.*)$", section(f"### {heading}", "#{2,3}")):
-            lines += [f".IP {escaped(mark)} 3" if mark else ".PP", escaped(plain(text))]
+        lines += [f".SS {coded(heading)}", *blocks(section(f"### {heading}", "#{2,3}"), name)]
+    others = re.findall(r'\(\s*"([^"]+)",', MEANINGS.read_text(encoding="utf-8").partition("const MEANINGS")[2].partition("];")[0])
+    lines += [".SH OTHER WORDS", "What commands print of what they did, and replies to a till. Items, quantities and the like follow them."]
+    for word in others:
+        if word not in rows_of(faults) | rows_of(refusals):
+            # tests/documents/words.py sees that the program explains each
+            meaning = subprocess.run([program, "help", *word.split()], capture_output=True, text=True).stdout.strip()
+            lines += [".TP", f".B {escaped(word)}", coded(meaning.removeprefix(f"{word}: "))] if meaning else []
     return lines
 
 
-def man_page(words, version, name, commit):
+def command_page(word, common, name):
+    """What the man page has of a subcommand. Options of all commands stand elsewhere."""
+    lines = [f".SS {escaped(word.usage)}", escaped(word.does) + "."]
+    for called, *what in word.values + [it for it in word.options if it not in common]:
+        lines += [".TP", f".B {escaped(called)}", coded(what[0] if what else "")]
+    first = next((at for at, line in enumerate(word.more) if line.startswith("Example")), len(word.more))
+    lines += [".PP", *laid_out([line.replace(*OF_THIS_PAGE) for line in word.more[:first]])]
+    examples = [re.sub(r"\bledger ", f"{name} ", re.sub(r"^Examples?:", "", line).strip()) for line in word.more[first:]]
+    if examples:
+        lines += [".PP", "Examples:" if examples[1:] else "Example:"]
+    return lines + [line for it in examples for line in (".br", f".B {escaped(it)}")]
+
+
+def man_page(program, words, version, name, commit):
     """The man page of the program. What `--version` prints of it is its number, and perhaps its day."""
     number, _, day = version.partition(" ")
     lines = [f'.TH {escaped(name.upper())} 1 "{day.strip("()")}" "{name} {number}" "User Commands"', ".SH NAME",
-             f"{escaped(name)} \\- retry\\-safe stock ledger on 1541 disks", ".SH SYNOPSIS"]
+             f"{escaped(name)} \\- check, read and repair D64 disk images; keep a stock ledger", ".SH SYNOPSIS"]
     for word in words:
         lines += [".br", f".B {escaped(name)} {escaped(word.usage)}"]
-    lines += [".SH DESCRIPTION", escaped(DESCRIPTION), ".SH COMMANDS"]
+    lines.append(".SH DESCRIPTION")
+    lines += [it for text in DESCRIPTION for it in (".PP", coded(text))][1:]
+    lines.append(".SH OPTIONS OF ALL COMMANDS")
+    common = [it for it in words[0].options if all(it in word.options for word in words)]
+    for called, *what in common:
+        lines += [".TP", f".B {escaped(called)}", coded(what[0])]
+    lines.append(".SH COMMANDS")
     for word in words:
-        lines += [f".SS {escaped(word.usage)}", escaped(word.does) + "."]
-        for called, *what in word.values + word.options:
-            lines += [".TP", f".B {escaped(called)}", escaped(what[0] if what else "")]
-        lines.append(".PP")
-        examples = [re.sub(r"\bledger ", f"{name} ", it) for it in word.more if it.startswith("Example: ")]
-        lines += laid_out([it for it in word.more if not it.startswith("Example: ")])
-        lines += [line for it in examples for line in (".br", f".B {escaped(it)}")]
+        lines += command_page(word, common, name)
     lines.append(".SH EXIT STATUS")
     for status, when in STATUSES:
         lines += [".TP", f".B {status}", escaped(when)]
-    lines += explained_words()
+    lines += explained_words(program, name)
     lines.append(".SH EXAMPLES")
     for line, does, printed in EXAMPLES:
         lines += [".TP", f".B {escaped(line.format(name))}", escaped(does), ".nf", *("\\&" + escaped(it) for it in printed), ".fi"]
-    lines += [".SH VERSION", f"{escaped(version)}, of commit {commit}.", ".SH SEE ALSO"]
-    lines += ["The folder share/doc/ledger\\-1541: README.md, docs/KEEPERS.md, docs/MESSAGES.md, docs/TRUST.md"]
+    lines += [".SH FILES", ".TP", f".I /usr/share/doc/{escaped(name)}", "The folder of the pages that are named here, for example",
+              "docs/KEEPERS.md. Its folder examples/disks has the disks of the examples. In the tarball it is", f"share/doc/{escaped(name)}."]
+    lines += [".SH VERSION", f"{escaped(version)}, of commit {commit}.", ".SH SEE ALSO", ".BR ledger\\-shop (1)"]
     return "\n".join(lines) + "\n"
 
 
@@ -324,7 +424,7 @@ def main():
     version = printed.strip().partition(" ")[2]
     words = words_of(program)
     options = [option_of(row) for row in rows(helped(program), "Options")]
-    (folder / f"{name}.1").write_text(man_page(words, version, name, commit), encoding="utf-8")
+    (folder / f"{name}.1").write_text(man_page(program, words, version, name, commit), encoding="utf-8")
     for file, made in ((f"{name}.bash", bash), (f"_{name}", zsh), (f"{name}.fish", fish)):
         (folder / file).write_text(made(words, options, name), encoding="utf-8")
 

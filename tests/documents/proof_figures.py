@@ -95,7 +95,7 @@ def figures(shows):
         (r"Beside a line of the product's code stand [^\n]*\n",
          f"Beside a line of the product's code stand {contract / code:.1f} lines of contracts, {definitions / code:.1f} of definitions and "
          f"{proofs / code:.1f} of proofs.\n"),
-        (r"[\d,]+ functions of the product have no postcondition", f"{bare - of_trait} functions of the product have no postcondition"),
+        (r"- [\d,]+ functions of the product have no postcondition", f"- {bare - of_trait} functions of the product have no postcondition"),
         (r"[\d,]+ more have only the postcondition of their trait", f"{of_trait} more have only the postcondition of their trait"),
         (r"There are [\d,]+ \[mutants\]\(\.\./mutants/README\.md\)\. Clauses refuse [\d,]+, and rows saw [\d,]+ of the [\d,]+",
          f"There are {len(mutants):,} [mutants](../mutants/README.md). Clauses refuse {refused:,}, and rows saw {seen:,} of the {for_rows:,}"),

@@ -234,6 +234,9 @@ def answer_within(till, link, seconds):
             answer = till.hear(reply) if reply else None
             if answer:
                 return answer
+        except wishes.Full:
+            again = 0.0
+            time.sleep(wishes.SOON)
         except wishes.Away:
             time.sleep(0.5)
     return None
