@@ -3,8 +3,8 @@
 
 The status is 1 where
   - a folder of crates/ isn't in crates.txt, or doesn't stand under the heading that its name fits;
-  - a crate has no README, or the README of a crate of the product doesn't say in its first lines where its tests stand
-    (`Tests: ..`), or names tests that aren't there or don't stand on it;
+  - a crate has no README, or the README of a crate of the product doesn't say first what the crate is for, and in the paragraph
+    after that where its tests stand (`Tests: ..`), or names tests that aren't there or don't stand on it;
   - the figure of docs/MAP.md lacks a crate, or has one of the product above one that stands on it."""
 
 import re
@@ -55,10 +55,12 @@ def all_below(crate, stands_on):
 
 def tests_of(crate, stands_on):
     """What is wrong with where the tests of a crate stand, by its README."""
-    said = paragraphs(crate)[0]
+    purpose, said = (*paragraphs(crate), "", "")[:2]
+    if not re.match(r"[A-Z`]", purpose) or purpose.startswith("Tests:"):
+        return [f"crates/{crate}/README.md: doesn't begin with what the crate is for"]
     places = re.findall(r"`([\w./]+)`", said) if said.startswith("Tests:") else []
     if not places:
-        return [f"crates/{crate}/README.md: doesn't begin with `Tests:`"]
+        return [f"crates/{crate}/README.md: has no `Tests:` after its first paragraph"]
     wrong = [it for it in places if crate not in all_below(it, stands_on) and not (TOP / it).is_file()]
     return [f"crates/{crate}/README.md: no such tests: {it}" for it in wrong]
 
