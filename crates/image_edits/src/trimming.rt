@@ -1,5 +1,5 @@
 //! Tracks 1 to 35 of an image of another size, over its bytes and over its file.
-ghost use Rattle.std.specs.Prelude.{take};
+ghost use Rattle.std.specs.Prelude.{◌≡◌, take};
 ghost use Rattle.opened_files.specs.HostFiles.{OfImage, TrimEnds};
 ghost use Rattle.opened_files.specs.Ends.{EndsAs};
 ghost use Rattle.image_edits.specs.Trims.{IsTrimRun, as_trimmed};
