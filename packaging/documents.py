@@ -16,8 +16,8 @@ import sys
 from pathlib import Path
 
 TOP = Path(__file__).resolve().parent.parent
-PAGES = ("WHY", "KEEPERS", "SHOP_OWNER", "OPERATIONS", "TRUST", "LOG", "MESSAGES", "CARDS", "DISK", "DRIVE", "POWER_CUTS", "SPEED", "TRIALS",
-         "FAQ", "GLOSSARY")
+PAGES = ("WHY", "KEEPERS", "SHOP_OWNER", "OPERATIONS", "TRUST", "LOG", "MESSAGES", "CARDS", "DISK", "DRIVE", "POWER_CUTS", "SPEED",
+         "TRIALS", "FAQ", "GLOSSARY")
 # folders whose files nobody needs who runs a shop
 LEFT_OUT = {"__pycache__", "tests", ".mypy_cache", ".pytest_cache"}
 LINK = re.compile(r"(!?)\[([^\]]*)\]\(([^)\s]+)\)")
@@ -65,10 +65,10 @@ class Links:
 
     def note(self, text):
         """What a page says of the files that it names and that the package doesn't have."""
-        for path in PATH.findall(LINK.sub(lambda it: it[2], text)):
+        for path in {it.rstrip("/.") for it in PATH.findall(LINK.sub(lambda it: it[2], text))}:
             # a form, such as `crates/NAME`, or what is built, is no file of the repository either
-            if list(TOP.glob(path.rstrip("/."))) and not any(it in self.files for it in TOP.glob(path.rstrip("/."))):
-                self.missing.add(path.rstrip("/."))
+            there = set(TOP.glob(path))
+            self.missing |= {path} if there and not there & self.files else set()
         tops = {it.partition("/")[0] for it in self.missing}
         names = sorted(it for it in self.missing if it.startswith(("docs/", "examples/", "shop/")))
         names += [f"{it}/" for it in sorted(tops - {"docs", "examples", "shop"})]
@@ -85,15 +85,24 @@ class Links:
         return f"{text}\n{note}" if str(self.page) == "README.md" else f"{title}\n\n{note}{rest}"
 
 
+def replaced(form, by, text):
+    """A text with other words in place of those of a form, which it has to have."""
+    made, times = re.subn(form, by, text)
+    if not times:
+        sys.exit(f"documents: a page has no longer what the package says in other words: {form}")
+    return made
+
+
 def readme(text):
     """The README, of which the package's licence is the file `copyright`, and whose program is on the path."""
-    text = text.replace("(LICENSE)", "(copyright)")
-    text = re.sub(r"(?m)^In a clone.*$", "With the program on the path as `ledger` ([docs/KEEPERS.md](docs/KEEPERS.md) says how), in a copy of "
-                  "this folder:", text, count=1)
-    text = re.sub(r"(?m)^This runs the \[released\].*\n\n", "", text, count=1)
-    text = re.sub(r"(?ms)^\*\*Without the kit\*\*.*?^```sh.*?^```\n", "The repository has all proofs and all trials, and its README says how to "
-                  "run them.\n", text, count=1)
-    return re.sub(r"(?m)^\./test .*\n", "", re.sub(r"(?m)(^|`)\./ledger ", r"\1ledger ", text))
+    begins = "With the program on the path as `ledger` ([docs/KEEPERS.md](docs/KEEPERS.md) says how), in a copy of this folder:"
+    tests = "The repository has all proofs and all trials, and its README says how to run them.\n"
+    text = replaced(r"\(LICENSE\)", "(copyright)", text)
+    text = replaced(r"(?m)^In a clone.*$", begins, text)
+    text = replaced(r"(?m)^.*\[released\]\(.*\n\n", "", text)
+    text = replaced(r"(?ms)^\*\*Without the kit\*\*.*?^```sh.*?^```\n", tests, text)
+    text = replaced(r"(?m)^\./test .*\n", "", text)
+    return replaced(r"(?m)(^|`)\./ledger ", r"\1ledger ", text)
 
 
 def renamed(text, name):
@@ -104,10 +113,11 @@ def renamed(text, name):
 def for_users(file, text, name):
     """What the package has of a file."""
     if file.name == "QUICK_START.md":
-        text = re.sub(r"(?m)^install .* /usr/bin/ledger\n", "", text)
-        text = re.sub(r"Do it at the top of the repository; .*", f"Install the package first, and do this in its folder `/usr/share/doc/{name}`.", text)
+        text = replaced(r"(?m)^install .* /usr/bin/ledger\n", "", text)
+        place = f"Install the package first, and do this in its folder `/usr/share/doc/{name}`."
+        text = replaced(r"Do it at the top of the repository; .*", place, text)
     if str(file) == "shop/README.md":
-        text = text.replace("with `ledger` in `/usr/bin`", f"with `{name}` in `/usr/bin`")
+        text = replaced("with `ledger` in `/usr/bin`", f"with `{name}` in `/usr/bin`", text)
     if str(file) == "README.md":
         text = readme(text)
     return renamed(text, name) if file.suffix in (".py", ".service", ".sh") else text

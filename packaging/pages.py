@@ -189,47 +189,54 @@ def section(heading, end):
     return found[1]
 
 
+def row_of(cells, cures, name):
+    """A row of a table of the guide for roff: a word, what it means, and what to do. A cure that is that of an earlier row is copied."""
+    word, *texts = cells
+    texts[-1] = cures[word] = re.sub(r"^As for (`[^`]+`)\.?", lambda it: cures[it[1]], texts[-1])
+    lines = [".TP", f".B {guided(word.replace('`', ''), name)}", guided(texts[0], name)]
+    return lines + [it for text in texts[1:] for it in (".br", f"What to do: {guided(text, name)}")]
+
+
 def blocks(text, name):
-    """Paragraphs, lists, tables and code of the guide for roff. A table's first row is its heading, which the page leaves out; and a
-    cell that refers to an earlier row's last one has what stands there."""
-    lines, before, cures = [], "", {}
+    """Paragraphs, lists, tables and code of the guide for roff. A table's first row is its heading, which the page leaves out."""
+    lines, cures, is_code, in_table = [], {}, False, False
     for line in text.splitlines():
-        cells = [it.strip() for it in line.strip("|").split("|")] if line.startswith("|") else []
-        item = re.match(r"(\d+\.|-) +(.*)", line)
-        inset = len(line) - len(line.lstrip())
-        if cells and before.startswith("|") and not line.startswith("|--"):
-            cells[-1] = re.sub(r"^As for (`[^`]+`)\.?", lambda it: cures[it[1]], cells[-1])
-            cures[cells[0]] = cells[-1]
-            lines += [".TP", f".B {guided(cells[0].replace('`', ''), name)}", guided(cells[1], name)]
-            lines += [it for cell in cells[2:] for it in (".br", f"What to do: {guided(cell, name)}")]
-        elif item:
+        was_code, inset = is_code, len(line) - len(line.lstrip())
+        is_code = inset >= 4
+        if was_code and not is_code:
+            lines.append(".fi")
+        if line.startswith("|"):
+            cells = [it.strip() for it in line.strip("|").split("|")]
+            if in_table and not line.startswith("|--"):
+                lines += row_of(cells, cures, name)
+        elif is_code:
+            lines += [] if was_code else ['.IP "" 7', ".nf"]
+            lines.append(escaped(re.sub(r"^\$ ledger ", f"$ {name} ", line.strip())))
+        elif item := re.match(r"(\d+\.|-) +(.*)", line):
             lines += [f".IP {escaped(item[1])} 3", guided(item[2], name)]
-        elif inset >= 4:
-            said = re.sub(r"^\$ ledger ", f"$ {name} ", line.strip())
-            lines[-1:] = [escaped(said), ".fi"] if lines[-1:] == [".fi"] else [*lines[-1:], '.IP "" 7', ".nf", escaped(said), ".fi"]
-        elif inset:
-            lines += ['.IP "" 3', guided(line.strip(), name)]
-        elif line and not cells:
-            lines += [".PP", guided(line, name)]
-        before = line
+        elif line:
+            lines += ['.IP "" 3' if inset else ".PP", guided(line.strip(), name)]
+        in_table = line.startswith("|")
+    lines += [".fi"] * is_code
     return lines[1:] if lines[:1] == [".PP"] else lines
 
 
 def rows_of(heading):
     """The first cells of the rows of a section's tables: its words, without the sector or the number after them."""
-    return {re.sub(r" (t/s|n)$", "", word) for word in re.findall(r"(?m)^\| `([A-Z][^`]*)` \|", section(heading, "##"))}
+    return {re.sub(r"( t/s| n)+$", "", word) for word in re.findall(r"(?m)^\| `([A-Z][^`]*)` \|", section(heading, "##"))}
 
 
 def explained_words(program, name):
     """The words that the program prints for roff, each with what it means."""
     faults, refusals = "## Faults", "## When something is refused"
-    said = section(faults, "##")
-    lines = [".SH FAULTS", "What", ".B check", "prints, with the sector where it is:", *blocks(said[: said.index("\nThese drawings")], name)]
+    table_of_faults, _, _ = section(faults, "##").partition("\nThese drawings")
+    lines = [".SH FAULTS", "What", ".B check", "prints, with the sector where it is:", *blocks(table_of_faults, name)]
     lines += [".SH DIAGNOSTICS", *blocks(section(refusals, "###"), name)]
     for heading in ADVICE:
         lines += [f".SS {coded(heading)}", *blocks(section(f"### {heading}", "#{2,3}"), name)]
     others = re.findall(r'\(\s*"([^"]+)",', MEANINGS.read_text(encoding="utf-8").partition("const MEANINGS")[2].partition("];")[0])
-    lines += [".SH OTHER WORDS", "What commands print of what they did, and replies to a till. Items, quantities and the like follow them."]
+    lines += [".SH OTHER WORDS", "What commands print of what they did, and replies to a till. Items, quantities and the like follow them.",
+              f"\\fB{escaped(name)} help\\fP WORD prints these sentences, too."]
     for word in others:
         if word not in rows_of(faults) | rows_of(refusals):
             # tests/documents/words.py sees that the program explains each
@@ -256,8 +263,8 @@ def man_page(program, words, version, name, commit):
     number, _, day = version.partition(" ")
     lines = [f'.TH {escaped(name.upper())} 1 "{day.strip("()")}" "{name} {number}" "User Commands"', ".SH NAME",
              f"{escaped(name)} \\- check, read and repair D64 disk images; keep a stock ledger", ".SH SYNOPSIS"]
-    for word in words:
-        lines += [".br", f".B {escaped(name)} {escaped(word.usage)}"]
+    for usage in [*(word.usage for word in words), "help <COMMAND>|<WORD>", "--version"]:
+        lines += [".br", f".B {escaped(name)} {escaped(usage)}"]
     lines.append(".SH DESCRIPTION")
     lines += [it for text in DESCRIPTION for it in (".PP", coded(text))][1:]
     lines.append(".SH OPTIONS OF ALL COMMANDS")
@@ -267,6 +274,7 @@ def man_page(program, words, version, name, commit):
     lines.append(".SH COMMANDS")
     for word in words:
         lines += command_page(word, common, name)
+    lines += [".SS help <COMMAND>|<WORD>", "Print the help of a command, or say what a word means that a command printed."]
     lines.append(".SH EXIT STATUS")
     for status, when in STATUSES:
         lines += [".TP", f".B {status}", escaped(when)]
@@ -274,8 +282,9 @@ def man_page(program, words, version, name, commit):
     lines.append(".SH EXAMPLES")
     for line, does, printed in EXAMPLES:
         lines += [".TP", f".B {escaped(line.format(name))}", escaped(does), ".nf", *("\\&" + escaped(it) for it in printed), ".fi"]
-    lines += [".SH FILES", ".TP", f".I /usr/share/doc/{escaped(name)}", "The folder of the pages that are named here, for example",
-              "docs/KEEPERS.md. Its folder examples/disks has the disks of the examples. In the tarball it is", f"share/doc/{escaped(name)}."]
+    lines += [".SH FILES", ".TP", f".I /usr/share/doc/{escaped(name)}",
+              "The folder of the pages that are named here, for example docs/KEEPERS.md. Its folder examples/disks has the disks of the",
+              f"examples. In the tarball it is share/doc/{escaped(name)}."]
     lines += [".SH VERSION", f"{escaped(version)}, of commit {commit}.", ".SH SEE ALSO", ".BR ledger\\-shop (1)"]
     return "\n".join(lines) + "\n"
 

@@ -7,6 +7,7 @@
   - no sentence has fewer than three words, unless it has a link, code or a number; none ends in an open bracket or `;`;
   - a path of the repository that a page names is in the package, or the page's note says that it isn't; the man pages have no note;
   - the pages for users are there, and no other;
+  - the README names no command of the repository, such as `./trials`;
   - the man page explains each word of refusals and faults with what to do, and has an option of all commands once;
   - no line of a man page that is formatted for 80 columns is wider, and `man` warns of nothing.
 
@@ -27,6 +28,9 @@ from documents import LINK, PAGES, PATH  # noqa: E402
 from language import broken_links, blocks, sentences  # noqa: E402
 
 NAME = "ledger-1541"
+FAULTS = {"MAPWRONG", "COUNTWRONG", "BADSIDE", "BADLINK", "LOOP", "OWNEDTWICE", "UNCLOSED", "BADTYPE", "BADLENGTH"}
+# ends of a command in whose place other words are printed: ERROR and BEYOND, and a word for each image
+SILENT = {"TRIMMED", "STATUS"}
 NOTE = re.compile(r"(?m)^This page also speaks of (.*), which the program's repository has and this package hasn't\.$")
 OTHER_PAGES = {"README.md", "SECURITY.md", "CHANGELOG.md", "examples/README.md", "examples/disks/README.md"}
 OTHER_PAGES |= {f"shop/{it}.md" for it in ("QUICK_START", "README", "SECURITY")}
@@ -74,6 +78,8 @@ def documents(folder):
         name, text = str(page.relative_to(folder)), page.read_text(encoding="utf-8")
         faults = [(line, what, it) for line, what, it in broken_links(page, text) if "](" + it in text]
         faults += [*fragments(text), *missing_paths(page, text, folder)]
+        if name == "README.md":
+            faults += [(1, "the package has no such command", it) for it in re.findall(r"\./(?:ledger|package|test|trials)\b", text)]
         found += [f"{name}:{line}: {what}: {it}" for line, what, it in faults]
     there = {str(it.relative_to(folder)) for it in pages}
     wanted = OTHER_PAGES | {f"docs/{it}.md" for it in PAGES}
@@ -88,16 +94,22 @@ def formatted(page):
     return done.stdout, done.stderr
 
 
+def refusals():
+    """The words of refusals, by the definitions of what is printed for each fault of a command and of a command line."""
+    defined = (TOP / "crates/command_faults/specs/Faults.antt").read_text(encoding="utf-8")
+    words = set(re.findall(r'(?m)^command_text .* = codes "([A-Z ]+?) ?"', defined))
+    words |= set(re.findall(r'#\[error\("([A-Z]+)"\)\]', (TOP / "crates/ledger_cli/src/faults.rt").read_text(encoding="utf-8")))
+    return words - SILENT
+
+
 def explained(source):
     """What is wrong with the words of the program's man page."""
-    for heading, least in (("FAULTS", 9), ("DIAGNOSTICS", 30)):
+    for heading, wanted in (("FAULTS", FAULTS), ("DIAGNOSTICS", refusals())):
         part = re.search(rf"(?ms)^\.SH {heading}\n(.*?)(?=^\.S[HS] )", source)
         words = re.findall(r"(?ms)^\.TP\n\.B (.*?)\n(.*?)(?=^\.(?:TP|PP)\n|\Z)", part[1]) if part else []
-        if len(words) < least:
-            yield f"{heading} has {len(words)} words, and at least {least} were expected"
+        for word in sorted(wanted - {re.sub(r"( t/s| n)+$", "", it) for it, _ in words}):
+            yield f"{heading}: {word} isn't explained"
         for word, text in words:
-            if "," in word:
-                yield f"{heading}: {word} share a text"
             if not re.search(r"(?m)^What to do: \S", text) or "As for" in text:
                 yield f"{heading}: {word} has no cure of its own"
     if source.count("\\-\\-explain\\fP") + source.count(".B \\-\\-explain\n") > 2:

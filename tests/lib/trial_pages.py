@@ -23,7 +23,7 @@ GROUPS = {
 }
 INTRODUCTION = """# Trials
 
-`./trials --readme` makes this page from [trials.toml](trials.toml).
+These scripts try the built program, and compare the pages with the sources. `./trials --readme` makes this page from [trials.toml](trials.toml).
 
     ./trials --list [NAME|GROUP ..]      what there is, and what it wants
     ./trials --quick                     what wants nothing but python3 and the program, side by side
