@@ -1,11 +1,12 @@
 -- How a look ended, from what its command says of what it printed.
-use Rattle.std.proofs.Common.{◌≡◌, ◌≢◌, ℕ, List, None, Option, Result, Ok, Err, Some, refl, subst, sym}
-use Rattle.std.specs.Prelude.{IfErr, IfOk, OnErr, OnOk}
+use Rattle.std.proofs.Common.{◌≡◌, ◌≢◌, ℕ, List, None, Option, Result, Ok, Err, Some, inl, inr, refl, subst, sym}
+use Rattle.std.specs.Prelude.{IfErr, IfOk, IsErr, OnErr, OnOk}
 use Rattle.d64_image.specs.declared.place.Place.{Place}
 use Rattle.disk_layout.specs.declared.faults.Fault.{Fault}
 use Rattle.command_faults.specs.declared.faults.CommandFault.{CommandFault}
 use Rattle.command_faults.specs.declared.faults.CommandFault.TheVariants as faults
 use Rattle.opened_files.specs.Ends.{JobEnd, as_run, IsPrintEnd, IsQuietPrint}
+use Rattle.opened_files.specs.HostFiles.{IsUnbegun, RunEnds}
 use Rattle.image_looks.specs.Looks.{IsTakingEnd, WhyNoRecords, taken_end}
 use Rattle.file_rescues.specs.declared.finding.Candidates.{Candidates}
 use Rattle.file_rescues.specs.declared.finding.Candidates.TheVariants.{All, Closed}
@@ -55,3 +56,15 @@ pub if-both : {T E : Type 0} (P : E → Type 0) (Q : Type 0) (ended : Result T E
     → IfErr ended (λ e. P e × Q)
 if-both P Q (Ok _) p q = tt
 if-both P Q (Err _) p q = (p, q)
+
+-- an image wasn't read, so the run over it wasn't begun
+pub unbegun : {W : Type 0} (out : W) (end : JobEnd) (fault : CommandFault) (Run : Type 0) → end ≡ Err fault → IsUnbegun fault
+    → RunEnds out out end Run
+unbegun out end fault Run is why =
+    inr (refl, subst (λ (e : JobEnd). IsErr e) (sym is) refl, subst (λ (e : JobEnd). IfErr e IsUnbegun) (sym is) why)
+
+-- what a run comes to comes to something else
+pub ends-weaker : {W : Type 0} (old new : W) (end : JobEnd) (P Q : Type 0) → (P → Q) → RunEnds old new end P
+    → RunEnds old new end Q
+ends-weaker old new end P Q weaker (inl run) = inl (weaker run)
+ends-weaker old new end P Q weaker (inr none) = inr none

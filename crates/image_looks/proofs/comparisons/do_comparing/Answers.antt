@@ -1,4 +1,7 @@
 -- What was compared is the bytes that the host says.
+use Rattle.std.proofs.Common.{◌∙◌, Err, ap}
+use Rattle.std.proofs.lemmas.Result.{err_from_is_err_and}
+use Rattle.image_looks.proofs.Looked.{unbegun}
 use Rattle.std.specs.Prelude.{vec_items}
 use Rattle.image_looks.specs.Comparisons.{IsComparingRun}
 use Rattle.opened_files.proofs.HostFiles.{over-images}
@@ -15,3 +18,13 @@ returns g c =
     c.comparing_run.new.out c.comparing_run.result)
     c.in_ok-first.ensures.read c.in_ok-second.ensures.read c.as_slice.ensures.value c.as_slice-2.ensures.value
     c.comparing_run.ensures
+
+pub returns-in_err-first : goal.returns-in_err-first
+returns-in_err-first g c =
+    let p = err_from_is_err_and c.from_residual.result c.from_residual.ensures.1 in
+    λ named none one holds named_too none_too other holds_too. unbegun c.args.out.now c.from_residual.result c.in_err-first.field-0.0 _ (p.1 ∙ ap Err p.2) c.in_err-first.ensures.err
+
+pub returns-in_err-second : goal.returns-in_err-second
+returns-in_err-second g c =
+    let p = err_from_is_err_and c.from_residual-in_err-second.result c.from_residual-in_err-second.ensures.1 in
+    λ named none one holds named_too none_too other holds_too. unbegun c.args.out.now c.from_residual-in_err-second.result c.in_err-second.field-0.0 _ (p.1 ∙ ap Err p.2) c.in_err-second.ensures.err

@@ -1,4 +1,7 @@
 -- The files that were made are those of the bytes that the host says.
+use Rattle.std.proofs.Common.{◌∙◌, Err, ap}
+use Rattle.std.proofs.lemmas.Result.{err_from_is_err_and}
+use Rattle.image_looks.proofs.Looked.{unbegun}
 use Rattle.std.proofs.Common.{List, ℕ}
 use Rattle.std.specs.Prelude.{vec_items}
 use Rattle.image_looks.specs.Extracts.{IsExtractedTo}
@@ -17,3 +20,8 @@ returns g c =
     (at-path g.F.EndedFile.remains g.R.HostFiles.traces g.W.Write.contents c.new-place.result.rt.now c.args.rt.now
     c.args.choice c.new-place.result.path.now c.args.folder.now c.as_slice.result.now c.args.out.now
     c.extract_run.new.out c.extract_run.result c.new-place.ensures.rt c.new-place.ensures.path c.extract_run.ensures)
+
+pub returns-in_err-image : goal.returns-in_err-image
+returns-in_err-image g c =
+    let p = err_from_is_err_and c.from_residual.result c.from_residual.ensures.1 in
+    λ other none all holds. unbegun c.args.out.now c.from_residual.result c.in_err-image.field-0.0 _ (p.1 ∙ ap Err p.2) c.in_err-image.ensures.err

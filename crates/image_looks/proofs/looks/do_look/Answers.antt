@@ -1,4 +1,7 @@
 -- What was printed of the image's bytes is of those that the host says.
+use Rattle.std.proofs.Common.{◌∙◌, Err, ap}
+use Rattle.std.proofs.lemmas.Result.{err_from_is_err_and}
+use Rattle.image_looks.proofs.Looked.{unbegun}
 use Rattle.std.proofs.Common.{◌≡◌, subst}
 use Rattle.std.specs.Prelude.{vec_items}
 use Rattle.image_looks.specs.Extents.{extent_of}
@@ -17,3 +20,8 @@ returns g c =
     (λ image. IsLook g.W.Write.contents c.args.what.now image c.args.out.now c.look.new.out c.look.result)
     (subst (λ (extent : Extent). OfImage g.R.HostFiles.rights g.R.HostFiles.stands c.args.rt.now c.args.path.now
     (λ all. vec_items c.in_ok-image.image ≡ taken_as extent all)) c.extent.ensures c.in_ok-image.ensures.read) c.as_slice.ensures.value c.look.ensures
+
+pub returns-in_err-image : goal.returns-in_err-image
+returns-in_err-image g c =
+    let p = err_from_is_err_and c.from_residual.result c.from_residual.ensures.1 in
+    λ other none all holds. unbegun c.args.out.now c.from_residual.result c.in_err-image.field-0.0 _ (p.1 ∙ ap Err p.2) c.in_err-image.ensures.err

@@ -1,10 +1,10 @@
 -- All of them were printed, and what the output held back.
-use Rattle.std.proofs.Common.{◌∙◌, Err, ap, map}
+use Rattle.std.proofs.Common.{◌∙◌, Err, ap, map, subst}
 use Rattle.std.proofs.lemmas.Result.{err_from_is_err_and}
-use Rattle.image_looks.specs.EachImage.{IsReadAt}
+use Rattle.image_looks.specs.EachImage.{AreHandedOn, IsReadAt, IsSeveralEnd}
 use Rattle.image_looks.specs.Overviews.{IsOverviewOf}
 use Rattle.image_looks.proofs.EachTold.{cut-off, several-told}
-use Rattle.image_looks.specs.Extents.{extent_of}
+use Rattle.opened_files.specs.declared.extents.Extent.{Extent}
 use Rattle.image_looks.proofs.overviews.do_several.Goals as goal
 
 pub returns-in_err-greatest : goal.returns-in_err-greatest
@@ -14,6 +14,12 @@ returns-in_err-greatest g c =
 
 pub returns : goal.returns
 returns g c =
-    several-told (IsReadAt g.R.HostFiles.rights g.R.HostFiles.stands c.args.rt.now (extent_of c.args.what.now)) (IsOverviewOf g.W.Write.contents c.args.what.now)
-    g.W.Write.contents (map (λ path. path.now) c.args.paths.now) c.args.out.now c.print_each.new.out c.several_end.new.out
-    c.in_ok-greatest.greatest c.several_end.result c.in_ok-greatest.ensures.ok c.several_end.ensures
+    let paths = map (λ path. path.now) c.args.paths.now in
+    let told = g.W.Write.contents in
+    let out = c.args.out.now in
+    let new = c.several_end.new.out in
+    subst (λ (extent : Extent). IsSeveralEnd (AreHandedOn (IsReadAt g.R.HostFiles.rights g.R.HostFiles.stands c.args.rt.now extent)
+    (IsOverviewOf told c.args.what.now) told paths out new) c.several_end.result) c.extent.ensures
+    (several-told (IsReadAt g.R.HostFiles.rights g.R.HostFiles.stands c.args.rt.now c.extent.result)
+    (IsOverviewOf told c.args.what.now) told paths out c.print_each.new.out new
+    c.in_ok-greatest.greatest c.several_end.result c.in_ok-greatest.ensures.ok c.several_end.ensures)
