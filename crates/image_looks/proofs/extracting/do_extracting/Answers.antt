@@ -7,8 +7,12 @@ use Rattle.image_looks.proofs.extracting.do_extracting.Goals as goal
 pub returns-in-Some : goal.returns-in-Some
 returns-in-Some g c = λ other none all holds.
     ends-weaker c.args.out.now c.extract_to.new.out c.extract_to.result _ _
-    (λ done. (c.in-Some.front.now, inr (subst (λ found. IfSome found (λ front. c.args.folder.now ≡ front.now ++ codes "/"))
-    c.in-Some.is c.in_ok-front.ensures.ok), done))
+    (λ done. (
+      c.in-Some.front.now,
+      inr (subst (λ found. IfSome found (λ front. c.args.folder.now ≡ front.now ++ codes "/"))
+          c.in-Some.is c.in_ok-front.ensures.ok),
+      done,
+    ))
     (c.extract_to.ensures other none all holds)
 
 pub returns-in-None : goal.returns-in-None
