@@ -56,7 +56,7 @@ pub fn trim_over<W: Write, E: Write>(
     err: &mut E,
 ) -> Result<Option<Fault>, CommandFault>
     ensures { OfImage snapshot_rights snapshot_stands host.now path.now (λ all. TrimEnds out.old out.new err.old err.new
-        result (EndsAs as_trimmed result (IsTrimRun W.contents E.contents (take 197377 all) out.old out.new err.old err.new))) }
+        result (EndsAs as_trimmed result (IsTrimRun W.contents E.contents (take 206115 all) out.old out.new err.old err.new))) }
 {
     do_trim(host, path, out, err)
 }
