@@ -46,8 +46,9 @@ def table(program, paths):
 
 
 def as_row(told):
-    """What a row says of an image that an object tells of."""
-    return ["" if value is None else str(value) for key, value in told.items() if key != "files"]
+    """What a row says of an image that an object tells of. A control character stands there by its number."""
+    texts = ("" if value is None else str(value) for key, value in told.items() if key != "files")
+    return ["".join(f"\\u{ord(it):04x}" if ord(it) < 32 or ord(it) == 127 else it for it in text) for text in texts]
 
 
 class Reader:
