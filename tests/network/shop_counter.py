@@ -229,6 +229,8 @@ class Trial(PageChecks, scene.TendedBridge):
             if is_asked:
                 page.at("yes").click()
             until(lambda: len(page.answers()) > before, "an answer", PATIENCE)
+            # the shop says how many are there a moment after its answer; a page that hasn't heard that asks once too often
+            time.sleep(0.5)
 
     def set_without_net(self):
         """Without the shop nobody knows how many are there, so a Set asks."""

@@ -41,5 +41,5 @@ ln -s ../trial.service "$root/etc/systemd/system/multi-user.target.wants/trial.s
 SYSTEMD_NSPAWN_UNIFIED_HIERARCHY=1 timeout 600 systemd-nspawn --quiet --register=no --keep-unit --private-network \
     --machine="update$$" --directory="$root" --boot systemd.firstboot=off >"$work/boot" 2>&1 </dev/null && status=0 || status=$?
 cat "$root/shop/out"
-if [ "$status" != 0 ]; then [ -s "$root/shop/out" ] && tail -n 120 "$root/shop/log" >&2 || tail -n 40 "$work/boot" >&2; fi
+if [ "$status" != 0 ]; then [ -s "$root/shop/log" ] && tail -n 120 "$root/shop/log" >&2 || tail -n 40 "$work/boot" >&2; fi
 exit "$status"
