@@ -21,7 +21,7 @@ pub record WritesSector {D T E : Type 0} (S : History D) (old new : D) (p : Plac
   pub err : OnErr result (OldOr (S.image old) (put (S.image old) p bytes) (S.image new))
   -- during the call
   pub held : HeldOnly S old new (OldOr (S.image old) (put (S.image old) p bytes))
-  -- what it shows of the new bytes, it doesn't take back, also not at an error
+  -- if it shows the new bytes during the call, they are there at its end, also at an error
   pub one_step : ChangesInOneStep S old new
   -- a write is counted at most once, and only at Ok
   pub counted : OnOk result (S.writes new ≤ S.writes old + 1)

@@ -39,7 +39,7 @@ pub record KeptOnly {F : Type 0} (K : Keeps F) (old new : F) (P : Image → Type
   -- for a run that began earlier
   pub before : (t : ℕ) (c : Image) → t ≤ K.moment old → K.held new t c → K.held old t c ⊎ P c
 
--- The file kept only the image at the start and the one at the end. What it showed of a change, it didn't take back.
+-- The file kept only the image at the start and the one at the end. If it showed the change, the change is there at the end.
 abbrev pub KeptInOneStep : {F : Type 0} → Keeps F → F → F → Type 0
 KeptInOneStep K old new = KeptOnly K old new (λ c. (K.kept old ≡ Some c) ⊎ (K.kept new ≡ Some c))
 
@@ -89,7 +89,7 @@ pub record KeepsSector {F T E : Type 0} (K : Keeps F) (old new : F) (p : Place) 
   pub ok : OnOk result (K.kept new ≡ put_kept (K.kept old) p bytes)
   pub err : OnErr result ((K.kept new ≡ K.kept old) ⊎ (K.kept new ≡ put_kept (K.kept old) p bytes))
   pub held : KeptOnly K old new (λ c. (K.kept old ≡ Some c) ⊎ (put_kept (K.kept old) p bytes ≡ Some c))
-  -- what it shows of the new bytes, it doesn't take back, also not at an error
+  -- if it shows the new bytes during the call, they are there at its end, also at an error
   pub one_step : KeptInOneStep K old new
   -- a sector is counted at most once, and only at Ok
   pub counted : OnOk result (K.writes new ≤ K.writes old + 1)

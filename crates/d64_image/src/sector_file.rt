@@ -9,8 +9,8 @@ pub trait SectorFile {
     /// What a file of this type keeps and kept, and how often it failed.
     ghost keeps: { Keeps Self };
 
-    /// Keeps a sector. At an error the sector is kept and stays so, or the file kept what it did before, at each moment of
-    /// the call: a file that fails takes nothing back that it showed. Nothing else was ever kept on the way.
+    /// Keeps a sector. At an error the file keeps the sector when the call ends, or it kept what it did before at each
+    /// moment of the call. Nothing else was ever kept on the way.
     fn keep(&mut self, place: Place, from: &[u8; 256]) -> io::Result<()>
         ensures { KeepsSector keeps self.old self.new place from.now result };
 }

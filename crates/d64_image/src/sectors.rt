@@ -21,8 +21,8 @@ pub trait Sectors {
     fn read(&mut self, place: Place, to: &mut [u8; 256]) -> Result<(), DeviceFault>
         ensures { ReadsSector history self.old self.new place to.new device_fault result };
 
-    /// Writes a sector. At an error the sector is written and stays so, or the disk was as before at each moment of the
-    /// call: a device that fails takes nothing back that it showed. Nothing else changes, and nothing else was ever held.
+    /// Writes a sector. At an error the disk holds the sector when the call ends, or it was as before at each moment of
+    /// the call. Nothing else changes, and nothing else was ever held.
     fn write(&mut self, place: Place, from: &[u8; 256]) -> Result<(), DeviceFault>
         ensures { WritesSector history self.old self.new place from.now device_fault result };
 }
