@@ -16,7 +16,7 @@ TOP = Path(__file__).resolve().parents[2]
 OTHERS = {
     "command_table": "what the words of a command line are called",
     "ledger_cli": "the same",
-    "basic_text": "keywords of BASIC",
+    "line_text/basic": "keywords of BASIC",
     "drive_channels/Spelling.antt": "what a program sends to a drive",
     "drive_channels/Statuses.antt": "what a drive tells a program; the two that a till sees are in request_cards",
     "disk_pictures/Pictures.antt": "a page's markup",
@@ -37,7 +37,7 @@ def printed_words():
     words = {}
     for path in sorted((TOP / "crates").glob("*/specs/**/*.antt")):
         crate = path.relative_to(TOP / "crates").parts[0]
-        if crate in OTHERS or f"{crate}/{path.name}" in OTHERS or crate.startswith(("tests_", "test_")):
+        if {crate, f"{crate}/{path.name}", f"{crate}/{path.parent.name}"} & OTHERS.keys() or crate.startswith(("tests_", "test_")):
             continue
         lines = [line for line in path.read_text(encoding="utf-8").splitlines() if not line.lstrip().startswith("--")]
         for text in TEXT.findall("\n".join(lines)):

@@ -1,4 +1,5 @@
 -- The lemmas, by what they are about.
 pub mod Below
 pub mod cut
+pub mod reached
 pub mod sides

@@ -1,2 +1,3 @@
 pub mod cut
+pub mod reached
 pub mod sides

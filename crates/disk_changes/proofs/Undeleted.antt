@@ -19,7 +19,7 @@ use Rattle.disk_layout.specs.declared.slot.Slot.{Slot}
 use Rattle.file_changes.specs.Entries.{HasName, IsFirstNamed, IsFreeName, entries_of}
 use Rattle.file_rescues.proofs.SoundDirectory.{read-sectors, read-whole}
 use Rattle.file_rescues.specs.rescue.Deleted.{deleted_slots}
-use Rattle.reached_disk.specs.Directories.{IsReadSoFar}
+use Rattle.damaged_files.specs.reached.Directories.{IsReadSoFar}
 use Rattle.rel_records.proofs.lemmas.reading.Found.{slots-listed}
 
 module _ (img : Image) (name padded : List ℕ) (is : padded ≡ slot_name name) (ps : List Place) (entries deleted : List Slot)

@@ -16,7 +16,7 @@ use Rattle.disk_layout.specs.Directory.{is_used, slots_in}
 use Rattle.disk_layout.specs.declared.slot.Slot.{Slot}
 use Rattle.file_changes.specs.Patches.{patched}
 use Rattle.file_rescues.specs.rescue.Deleted.{is_deleted}
-use Rattle.reached_disk.specs.Names.{name_of}
+use Rattle.damaged_files.specs.reached.Names.{name_of}
 
 -- the slots of these directory sectors, in order
 abbrev pub all_slots : Image → List Place → List Slot

@@ -18,7 +18,7 @@ use d64_image::{MemDisk, Place, Sectors};
 use disk_layout::{EntryView, Slot};
 use file_changes::overwrite;
 use file_rescues::is_deleted;
-use reached_disk::{Entries, entry_name, read_so_far};
+use damaged_files::{Entries, entry_name, read_so_far};
 use std::alloc::Global;
 
 /// The byte of a slot with which its entry begins. Those before it aren't the entry's.

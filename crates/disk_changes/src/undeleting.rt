@@ -12,11 +12,10 @@ use crate::repairing::{mended_image, repaired};
 use arrayvec::ArrayVec;
 use command_faults::CommandFault;
 use d64_image::{MemDisk, Sectors};
-use damaged_files::Loss;
+use damaged_files::{Loss, read_so_far};
 use disk_layout::{Slot, padded_name};
 use file_changes::{choose_named, overwrite};
 use file_rescues::deleted_of;
-use reached_disk::read_so_far;
 use std::alloc::Global;
 
 /// The byte of a slot that has its type.

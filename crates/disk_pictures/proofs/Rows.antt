@@ -4,10 +4,10 @@ use Rattle.std.specs.Prelude.{codes, decimal}
 use Rattle.disk_layout.specs.Directory.{type_byte}
 use Rattle.disk_layout.specs.Layout.{File, count_field}
 use Rattle.disk_pictures.specs.Html.{html_of}
-use Rattle.reached_disk.specs.Names.{name_of}
+use Rattle.damaged_files.specs.reached.Names.{name_of}
 use Rattle.disk_pictures.specs.Petscii.{petscii_of}
 use Rattle.disk_pictures.specs.Pictures.{cells_text, link_text, look, row_text}
-use Rattle.reached_disk.specs.Types.{type_text}
+use Rattle.damaged_files.specs.reached.Types.{type_text}
 
 pub row-written : (k : ℕ) (f : File) (count byte : ℕ) (name : List ℕ) → count ≡ count_field f.slot
     → byte ≡ type_byte f.slot

@@ -4,7 +4,7 @@ use Rattle.std.specs.Prelude.{codes, slice_range}
 use Rattle.d64_image.specs.Images.{Sector}
 use Rattle.disk_layout.specs.Layout.{Layout}
 use Rattle.disk_pictures.specs.Html.{html_of}
-use Rattle.reached_disk.specs.Names.{disk_name}
+use Rattle.damaged_files.specs.reached.Names.{disk_name}
 use Rattle.disk_pictures.specs.Pictures.{told_text, verdict_class}
 use Rattle.disk_pictures.specs.Sentences.{summary_text}
 use Rattle.disk_pictures.specs.Texts.{verdict_text}

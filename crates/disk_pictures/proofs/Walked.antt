@@ -7,7 +7,7 @@ use Rattle.disk_layout.proofs.lemmas.chains.Chains.{IsChain-one, Leads-push, bad
 use Rattle.disk_layout.specs.Chain.{IsChain}
 use Rattle.disk_layout.specs.declared.faults.Fault.{Fault}
 use Rattle.disk_layout.specs.declared.faults.Fault.TheVariants.{BadLink, Loop}
-use Rattle.reached_disk.specs.Reached.{Ends, IsReach}
+use Rattle.damaged_files.specs.reached.Reached.{Ends, IsReach}
 use Rattle.disk_pictures.specs.Walks.{IsWalk, StopsAt}
 
 -- the index that ends what was reached is 0 unless its last sector ends the chain

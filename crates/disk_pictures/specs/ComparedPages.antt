@@ -9,7 +9,7 @@ use Rattle.disk_pictures.specs.Comparisons.{Disk, are_bytes_changed, are_sectors
 use Rattle.disk_pictures.specs.Comparisons.{have_same_records, is_entry_changed, is_record_changed, is_record_changed_before}
 use Rattle.disk_pictures.specs.Comparisons.{most_records, number_of}
 use Rattle.disk_pictures.specs.Html.{Show, html_of}
-use Rattle.reached_disk.specs.Names.{disk_name, name_of}
+use Rattle.damaged_files.specs.reached.Names.{disk_name, name_of}
 use Rattle.disk_pictures.specs.Petscii.{petscii_of}
 use Rattle.disk_pictures.specs.Pictures.{drawing_text, end_text, link_text, look, ring_of, title_text, told_text}
 use Rattle.disk_pictures.specs.Texts.{each_below, numbered, verdict_text}

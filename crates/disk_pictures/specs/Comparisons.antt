@@ -7,7 +7,7 @@ use Rattle.d64_image.specs.Places.{index_of}
 use Rattle.d64_image.specs.declared.place.Place.{Place}
 use Rattle.disk_layout.specs.Chain.{byte}
 use Rattle.disk_layout.specs.Layout.{File, Layout, record_length}
-use Rattle.reached_disk.specs.Names.{name_of}
+use Rattle.damaged_files.specs.reached.Names.{name_of}
 use Rattle.disk_pictures.specs.Pictures.{each_place}
 use Rattle.disk_pictures.specs.Texts.{any_below, has_records, records_in}
 use Rattle.disk_pictures.specs.declared.verdicts.Verdict.{Verdict}

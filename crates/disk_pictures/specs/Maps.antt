@@ -9,9 +9,9 @@ use Rattle.disk_layout.specs.Layout.{File, Layout, count_field, record_length}
 use Rattle.disk_layout.specs.declared.faults.Fault.{Fault}
 use Rattle.line_text.specs.bytes.Texts.{text_of}
 use Rattle.disk_pictures.specs.Drawings.{owner_of}
-use Rattle.reached_disk.specs.Names.{name_of}
+use Rattle.damaged_files.specs.reached.Names.{name_of}
 use Rattle.disk_pictures.specs.Texts.{at_place, each_below, has_records, is_fault_at, is_free, numbered, records_in}
-use Rattle.reached_disk.specs.Types.{type_text}
+use Rattle.damaged_files.specs.reached.Types.{type_text}
 use Rattle.disk_pictures.specs.Texts.{verdict_text}
 use Rattle.disk_pictures.specs.declared.verdicts.Verdict.{Verdict}
 use Rattle.disk_pictures.specs.declared.owners.Owner.{Owner}

@@ -13,14 +13,14 @@ use Rattle.disk_layout.specs.Texts.{fault_text, place_text}
 use Rattle.disk_layout.specs.declared.faults.Fault.{Fault}
 use Rattle.disk_pictures.specs.Drawings.{owner_of}
 use Rattle.disk_pictures.specs.Html.{Show, html_of}
-use Rattle.reached_disk.specs.Names.{disk_name, name_of}
+use Rattle.damaged_files.specs.reached.Names.{disk_name, name_of}
 use Rattle.disk_pictures.specs.Petscii.{petscii_of}
 use Rattle.disk_pictures.specs.Texts.{any_below, at_place, each_below, has_records, is_at_place, is_free, numbered}
 use Rattle.disk_layout.specs.Number.{place_of}
 use Rattle.disk_pictures.specs.Texts.{records_in}
 use Rattle.disk_pictures.specs.Sentences.{summary_text}
 use Rattle.disk_pictures.specs.Texts.{verdict_text}
-use Rattle.reached_disk.specs.Types.{type_text}
+use Rattle.damaged_files.specs.reached.Types.{type_text}
 use Rattle.disk_pictures.specs.declared.owners.Owner.{Owner}
 use Rattle.disk_pictures.specs.declared.verdicts.Verdict.{Verdict}
 use Rattle.disk_pictures.specs.declared.owners.Owner.TheVariants as owner

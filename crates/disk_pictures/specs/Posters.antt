@@ -7,11 +7,11 @@ use Rattle.disk_layout.specs.Directory.{type_byte}
 use Rattle.disk_layout.specs.Layout.{File, Layout, count_field}
 use Rattle.disk_pictures.specs.Html.{Show, html_of}
 use Rattle.disk_pictures.specs.Legends.{legend_of, poster_legend}
-use Rattle.reached_disk.specs.Names.{disk_name, name_of}
+use Rattle.damaged_files.specs.reached.Names.{disk_name, name_of}
 use Rattle.disk_pictures.specs.Petscii.{petscii_of}
 use Rattle.disk_pictures.specs.Pictures.{dashes, drawing_text, look}
 use Rattle.disk_pictures.specs.Sentences.{summary_text}
-use Rattle.reached_disk.specs.Types.{type_text}
+use Rattle.damaged_files.specs.reached.Types.{type_text}
 use Rattle.disk_pictures.specs.Texts.{numbered}
 use Rattle.disk_pictures.specs.declared.verdicts.Verdict.{Verdict}
 

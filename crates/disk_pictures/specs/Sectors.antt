@@ -9,7 +9,7 @@ use Rattle.disk_layout.specs.Layout.{File, Layout}
 use Rattle.disk_layout.specs.declared.faults.Fault.{Fault}
 use Rattle.disk_pictures.specs.Html.{Show}
 use Rattle.disk_pictures.specs.Drawings.{owner_of}
-use Rattle.reached_disk.specs.Names.{name_of}
+use Rattle.damaged_files.specs.reached.Names.{name_of}
 use Rattle.disk_pictures.specs.Pictures.{block_arc, directory_arc, each_place, fault_group, free_arc, group_head}
 use Rattle.disk_pictures.specs.Pictures.{is_blocks, is_nobody, is_sides, lost_arc, map_arc, open_group, side_arc}
 use Rattle.disk_pictures.specs.Texts.{is_free, numbered}

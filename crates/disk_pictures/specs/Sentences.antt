@@ -11,7 +11,7 @@ use Rattle.disk_layout.specs.declared.faults.Fault.{Fault}
 use Rattle.disk_layout.specs.declared.faults.Fault.TheVariants as fault
 use Rattle.disk_pictures.specs.Drawings.{has}
 use Rattle.disk_pictures.specs.Html.{Show}
-use Rattle.reached_disk.specs.Names.{name_of}
+use Rattle.damaged_files.specs.reached.Names.{name_of}
 use Rattle.disk_layout.specs.Number.{place_of}
 use Rattle.disk_pictures.specs.declared.owners.Owner.{Owner}
 use Rattle.disk_pictures.specs.declared.verdicts.Verdict.{Verdict}

@@ -8,7 +8,7 @@ use Rattle.disk_layout.specs.View.{blocks_free}
 use Rattle.disk_layout.specs.declared.faults.Fault.{Fault}
 use Rattle.disk_pictures.specs.Drawings.{owner_of}
 use Rattle.disk_pictures.specs.Html.{Show}
-use Rattle.reached_disk.specs.Names.{disk_name}
+use Rattle.damaged_files.specs.reached.Names.{disk_name}
 use Rattle.disk_pictures.specs.Pictures.{each_place, verdict_class}
 use Rattle.disk_pictures.specs.Texts.{each_below, is_fault_at, is_free, verdict_text}
 use Rattle.disk_pictures.specs.declared.owners.Owner.{Owner}

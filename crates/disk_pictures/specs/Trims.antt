@@ -12,9 +12,9 @@ use Rattle.disk_layout.specs.Texts.{fault_text, place_text}
 use Rattle.disk_layout.specs.declared.faults.Fault.{Fault}
 use Rattle.disk_layout.specs.declared.slot.Slot.{Slot}
 use Rattle.line_text.specs.bytes.Texts.{text_of}
-use Rattle.reached_disk.specs.Sizes.{IsImageSize, error_of}
+use Rattle.damaged_files.specs.reached.Sizes.{IsImageSize, error_of}
 use Rattle.disk_pictures.specs.Drawings.{IsDrawn, owner_of}
-use Rattle.reached_disk.specs.Names.{name_of}
+use Rattle.damaged_files.specs.reached.Names.{name_of}
 use Rattle.disk_pictures.specs.Pictures.{each_place}
 use Rattle.disk_pictures.specs.declared.owners.Owner.{Owner}
 use Rattle.disk_pictures.specs.declared.owners.Owner.TheVariants as owners

@@ -11,7 +11,7 @@ use arrayvec::ArrayVec;
 use command_faults::CommandFault;
 use d64_image::{MemDisk, Place};
 use disk_layout::{EntryView, MOST_BLOCKS, POINTERS, Slot};
-use reached_disk::reach_blocks;
+use damaged_files::reach_blocks;
 use std::alloc::Global;
 
 /// Room for the sectors of a walk.

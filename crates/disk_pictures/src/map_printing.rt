@@ -18,7 +18,7 @@ use crate::verdicts::{Verdict, judged};
 use command_faults::{CommandFault, flush, print_text};
 use disk_layout::{EntryView, Fault};
 use line_text::Text;
-use reached_disk::{TypeText, entry_name};
+use damaged_files::{TypeText, entry_name};
 use std::alloc::Global;
 use std::fmt::{self, Display, Formatter};
 use std::io::Write;

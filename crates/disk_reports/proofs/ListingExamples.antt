@@ -10,7 +10,7 @@ use Rattle.disk_layout.specs.View.{blocks_free}
 use Rattle.disk_layout.specs.declared.faults.Fault.TheVariants.{Loop, MapWrong}
 use Rattle.disk_layout.specs.declared.slot.Slot.{Slot}
 use Rattle.command_faults.specs.Faults.{command_text}
-use Rattle.reached_disk.specs.Types.{type_text}
+use Rattle.damaged_files.specs.reached.Types.{type_text}
 use Rattle.disk_reports.specs.Texts.{disk_text, entry_text, listing, quoted}
 use Rattle.disk_reports.specs.Texts.{verdict_text}
 use Rattle.command_faults.specs.declared.faults.CommandFault.TheVariants as faults

@@ -14,7 +14,7 @@ use Rattle.disk_layout.specs.Layout.{count_field}
 use Rattle.disk_layout.specs.View.{IsUnpadded, blocks_free}
 use Rattle.disk_layout.specs.declared.slot.Slot.{Slot}
 use Rattle.command_faults.specs.Faults.{IsLoadFault}
-use Rattle.reached_disk.specs.Types.{type_text}
+use Rattle.damaged_files.specs.reached.Types.{type_text}
 use Rattle.disk_reports.specs.Listings.{HasDirectory, IsListFault, IsListed}
 use Rattle.command_faults.specs.declared.faults.CommandFault.{CommandFault}
 use Rattle.disk_reports.specs.declared.texts.NameForm.{NameForm}

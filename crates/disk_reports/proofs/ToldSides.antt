@@ -24,8 +24,8 @@ use Rattle.disk_layout.specs.Side.{side_sector}
 use Rattle.disk_layout.specs.declared.faults.Fault.{Fault}
 use Rattle.disk_layout.specs.declared.faults.Fault.TheVariants.{BadLink, BadSide}
 use Rattle.disk_layout.specs.declared.slot.Slot.{Slot}
-use Rattle.reached_disk.specs.Directories.{IsReadSoFar}
-use Rattle.reached_disk.specs.Reached.{IsReach}
+use Rattle.damaged_files.specs.reached.Directories.{IsReadSoFar}
+use Rattle.damaged_files.specs.reached.Reached.{IsReach}
 use Rattle.layout_check.proofs.lemmas.finding.Assembly.{front-visits}
 use Rattle.layout_check.proofs.lemmas.finding.SideWalks.{leads-at}
 use Rattle.disk_reports.specs.SideLaws.{AreToldOfSides, IsOfSides}

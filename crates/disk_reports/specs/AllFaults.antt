@@ -8,8 +8,8 @@ use Rattle.d64_image.specs.Images.{Image, Sector, sector}
 use Rattle.d64_image.specs.Memory.{sectors_in}
 use Rattle.d64_image.specs.Places.{index_of, places}
 use Rattle.d64_image.specs.declared.place.Place.{Place}
-use Rattle.reached_disk.specs.Directories.{IsReadSoFar}
-use Rattle.reached_disk.specs.Names.{name_of}
+use Rattle.damaged_files.specs.reached.Directories.{IsReadSoFar}
+use Rattle.damaged_files.specs.reached.Names.{name_of}
 use Rattle.disk_layout.specs.Clean.{IsVerdict}
 use Rattle.disk_layout.specs.Directory.{map_place}
 use Rattle.disk_layout.specs.Layout.{IsSound}

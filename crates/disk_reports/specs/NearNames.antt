@@ -3,9 +3,9 @@ use Rattle.std.specs.Prelude.{◌≡◌, ℕ, ◌%◌, List, [], ◌++◌, Optio
 use Rattle.std.specs.Io.KnownBytes.{Appends}
 use Rattle.d64_image.specs.Memory.{sectors_in}
 use Rattle.d64_image.specs.declared.place.Place.{Place}
-use Rattle.reached_disk.specs.Directories.{IsReadSoFar}
-use Rattle.reached_disk.specs.Nearness.{is_near}
-use Rattle.reached_disk.specs.Types.{type_name}
+use Rattle.damaged_files.specs.reached.Directories.{IsReadSoFar}
+use Rattle.damaged_files.specs.reached.Nearness.{is_near}
+use Rattle.damaged_files.specs.reached.Types.{type_name}
 use Rattle.disk_layout.specs.Directory.{type_byte}
 use Rattle.disk_layout.specs.declared.faults.Fault.{Fault}
 use Rattle.disk_layout.specs.declared.slot.Slot.{Slot}

@@ -12,7 +12,7 @@ use Rattle.disk_layout.specs.declared.slot.Slot.{Slot}
 use Rattle.disk_reports.specs.Json.{digits, json_string}
 use Rattle.sha1.specs.Sha1.{sha1}
 use Rattle.sha2.specs.Sha256.{sha256}
-use Rattle.reached_disk.specs.Names.{disk_name, name_of}
+use Rattle.damaged_files.specs.reached.Names.{disk_name, name_of}
 
 -- bytes of the disk as a string: the text that can be typed for them
 abbrev pub typed : List ℕ → List ℕ

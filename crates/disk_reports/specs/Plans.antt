@@ -17,7 +17,7 @@ use Rattle.disk_reports.specs.Objects.{end_text, files_text, head_text}
 use Rattle.disk_reports.specs.Outcomes.{AreFound}
 use Rattle.disk_reports.specs.Rows.{field, field_char, lack_cells}
 use Rattle.line_text.specs.bytes.Texts.{text_of}
-use Rattle.reached_disk.specs.Names.{name_of}
+use Rattle.damaged_files.specs.reached.Names.{name_of}
 use Rattle.command_faults.specs.Faults.{command_text}
 use Rattle.disk_reports.specs.declared.plans.PlanForm.{PlanForm}
 use Rattle.disk_reports.specs.declared.plans.PlanForm.TheVariants as forms

@@ -12,7 +12,7 @@ use Rattle.disk_layout.specs.declared.faults.Fault.{Fault}
 use Rattle.disk_reports.specs.Json.{digits}
 use Rattle.sha1.specs.Sha1.{sha1}
 use Rattle.sha2.specs.Sha256.{sha256}
-use Rattle.reached_disk.specs.Names.{disk_name}
+use Rattle.damaged_files.specs.reached.Names.{disk_name}
 
 -- the first line: what stands in each column
 abbrev pub heading : List ℕ

@@ -9,7 +9,7 @@ use Rattle.disk_layout.specs.Texts.{fault_text}
 use Rattle.disk_layout.specs.View.{blocks_free}
 use Rattle.disk_layout.specs.declared.faults.Fault.{Fault}
 use Rattle.disk_layout.specs.declared.slot.Slot.{Slot}
-use Rattle.reached_disk.specs.Types.{type_text}
+use Rattle.damaged_files.specs.reached.Types.{type_text}
 use Rattle.line_text.specs.petscii.Quoted.{one_line}
 use Rattle.disk_reports.specs.declared.texts.NameForm.{NameForm}
 use Rattle.disk_reports.specs.declared.texts.NameForm.TheVariants as names

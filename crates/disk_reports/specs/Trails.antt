@@ -11,7 +11,7 @@ use Rattle.disk_layout.specs.Layout.{count_field, is_rel, sides_for}
 use Rattle.disk_layout.specs.declared.faults.Fault.{Fault}
 use Rattle.disk_layout.specs.declared.faults.Fault.TheVariants as faults
 use Rattle.disk_layout.specs.declared.slot.Slot.{Slot}
-use Rattle.reached_disk.specs.Reached.{IsReached}
+use Rattle.damaged_files.specs.reached.Reached.{IsReached}
 use Rattle.layout_check.specs.Entry.{IsShown}
 use Rattle.layout_check.specs.Exact.{IsExactSide}
 use Rattle.disk_reports.specs.declared.trail.Trail.{Trail}

@@ -8,7 +8,7 @@ use crate::trail::Trail;
 use arrayvec::ArrayVec;
 use d64_image::MemDisk;
 use disk_layout::Slot;
-use reached_disk::reach_file;
+use damaged_files::reach_file;
 
 /// What the links of a used entry come to; nothing of one that isn't closed.
 pub(crate) fn follow(disk: &MemDisk, slot: &Slot) -> Trail

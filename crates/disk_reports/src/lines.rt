@@ -10,7 +10,7 @@ use crate::trail::Trail;
 use arrayvec::ArrayVec;
 use disk_layout::{Fault, Slot};
 use line_text::write_text;
-use reached_disk::entry_name;
+use damaged_files::entry_name;
 use std::io::{self, Write};
 
 /// Lists the entries that show the fault, or have the sector at which it is.

@@ -11,7 +11,7 @@ use command_faults::CommandFault;
 use d64_image::MemDisk;
 use disk_layout::{Fault, Slot, map_place};
 use layout_check::unsoundness;
-use reached_disk::{DirectorySectors, read_so_far};
+use damaged_files::{DirectorySectors, read_so_far};
 use std::alloc::Global;
 
 /// What the links of a disk come to.

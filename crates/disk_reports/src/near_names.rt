@@ -9,7 +9,7 @@ use crate::lines::print_name;
 use arrayvec::ArrayVec;
 use command_faults::{CommandFault, load};
 use disk_layout::Slot;
-use reached_disk::{near_entries, read_so_far, type_name};
+use damaged_files::{near_entries, read_so_far, type_name};
 use std::alloc::Global;
 use std::io::{self, Write};
 

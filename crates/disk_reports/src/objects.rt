@@ -5,9 +5,8 @@ ghost use Rattle.disk_reports.specs.Objects.{disk_name_text, disk_text, end_text
 ghost use Rattle.disk_reports.specs.Objects.{object_text, refused_head, refused_text, size_text, verdict_text};
 
 use crate::json::{print_hex, print_string, print_typed};
-use damaged_files::Shortfall;
+use damaged_files::{Shortfall, disk_name, entry_name};
 use disk_layout::{BamView, Fault, Slot};
-use reached_disk::{disk_name, entry_name};
 use sha1::Sha1;
 use sha2::{Digest, Sha256};
 use std::io::{self, Write};

@@ -5,10 +5,9 @@ ghost use Rattle.disk_reports.specs.Rows.{disk_cells, field, field_char, lack_ce
 ghost use Rattle.disk_reports.specs.Rows.{size_cell, verdict_cells};
 
 use crate::json::{print_control, print_hex};
-use damaged_files::Shortfall;
+use damaged_files::{Shortfall, disk_name};
 use disk_layout::{BamView, Fault};
 use line_text::Text;
-use reached_disk::disk_name;
 use sha1::Sha1;
 use sha2::{Digest, Sha256};
 use std::fmt::{self, Display, Formatter};

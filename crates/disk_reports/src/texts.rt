@@ -4,7 +4,7 @@ ghost use Rattle.disk_reports.specs.Texts.{disk_text, entry_text, free_text, nam
 
 use disk_layout::{BamView, EntryView, Slot};
 use line_text::{CharacterSet, OneLine};
-use reached_disk::TypeText;
+use damaged_files::TypeText;
 use std::fmt::{self, Display, Formatter};
 
 /// Bytes of the disk as they are printed: a question mark stands for each outside $20 to $7E.

@@ -7,11 +7,11 @@ use Rattle.damaged_files.specs.cut.Told.{IsToldOfDisk, IsToldOfImage}
 use Rattle.d64_image.specs.Images.{Image}
 use Rattle.d64_image.specs.Memory.{sectors_in}
 use Rattle.d64_image.specs.declared.place.Place.{Place}
-use Rattle.reached_disk.specs.Directories.{IsReadSoFar}
+use Rattle.damaged_files.specs.reached.Directories.{IsReadSoFar}
 use Rattle.disk_layout.specs.declared.faults.Fault.{Fault}
 use Rattle.disk_layout.specs.declared.slot.Slot.{Slot}
-use Rattle.reached_disk.specs.Reached.{IsReached}
-use Rattle.reached_disk.specs.Sharing.{IsOwned, first_shared, shared_fault}
+use Rattle.damaged_files.specs.reached.Reached.{IsReached}
+use Rattle.damaged_files.specs.reached.Sharing.{IsOwned, first_shared, shared_fault}
 use Rattle.file_rescues.specs.Bytes.{HasFile, HasNoFile, file_bytes}
 use Rattle.command_faults.specs.Faults.{IsLoadFault}
 use Rattle.file_rescues.specs.Faults.{IsEnded, end_or_past, keep_none}

@@ -14,7 +14,7 @@ use Rattle.disk_layout.specs.Layout.{IsLayout, Layout}
 use Rattle.disk_layout.specs.declared.faults.Fault.{Fault}
 use Rattle.disk_layout.specs.declared.faults.Fault.TheVariants.{BadLink, Loop}
 use Rattle.disk_layout.specs.declared.slot.Slot.{Slot}
-use Rattle.reached_disk.specs.Directories.{IsReadSoFar}
+use Rattle.damaged_files.specs.reached.Directories.{IsReadSoFar}
 
 module _ (img : Image) (l : Layout) (is : IsLayout img l) where
   pub read-whole : (ps : List Place) (entries : List Slot) (ended : Option Fault) → IsReadSoFar img ps entries ended

@@ -20,9 +20,9 @@ use Rattle.disk_layout.specs.Records.{joined, pieces, record_count, records}
 use Rattle.disk_layout.specs.Rest.{IsFirst, IsNamed}
 use Rattle.disk_layout.specs.declared.faults.Fault.{Fault}
 use Rattle.disk_layout.specs.declared.slot.Slot.{Slot}
-use Rattle.reached_disk.proofs.Walked.{reach-chain}
-use Rattle.reached_disk.specs.Directories.{IsReadSoFar}
-use Rattle.reached_disk.specs.Reached.{IsReach, IsReached}
+use Rattle.damaged_files.proofs.lemmas.reached.Walked.{reach-chain}
+use Rattle.damaged_files.specs.reached.Directories.{IsReadSoFar}
+use Rattle.damaged_files.specs.reached.Reached.{IsReach, IsReached}
 use Rattle.rel_records.proofs.lemmas.reading.Found.{first-found, none-found, slot-file, slots-listed}
 use Rattle.rel_records.specs.reading.Named.{IsFirstNamed, IsNamedSlot, IsRelOf}
 use Rattle.file_rescues.proofs.SoundDirectory.{read-whole}

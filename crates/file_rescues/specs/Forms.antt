@@ -1,6 +1,6 @@
 -- How what is taken out of an image is printed. All of it is our own.
 use Rattle.std.specs.Prelude.{ℕ, zero, suc, ◌+◌, ◌-◌, ◌++◌, List, [], None, Option, codes, decimal, get_or, if◌then◌else◌, length, slice_get, ⊤}
-use Rattle.basic_text.specs.Listings.{is_ended, listing}
+use Rattle.line_text.specs.basic.Listings.{is_ended, listing}
 use Rattle.d64_image.specs.declared.place.Place.{Place}
 use Rattle.line_text.specs.bytes.Texts.{record_line, trimmed}
 use Rattle.line_text.specs.petscii.Characters.{readable}

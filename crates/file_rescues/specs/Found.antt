@@ -5,15 +5,15 @@ use Rattle.std.specs.Prelude.{if◌then◌else◌, nat_eq, nat_le, nat_lt, slice
 use Rattle.std.specs.Option.{option_or}
 use Rattle.d64_image.specs.Images.{Image}
 use Rattle.d64_image.specs.declared.place.Place.{Place}
-use Rattle.reached_disk.specs.Directories.{IsReadSoFar}
+use Rattle.damaged_files.specs.reached.Directories.{IsReadSoFar}
 use Rattle.disk_layout.specs.Directory.{type_byte}
 use Rattle.disk_layout.specs.Layout.{record_length}
 use Rattle.disk_layout.specs.Rest.{slot_name}
 use Rattle.disk_layout.specs.declared.faults.Fault.{Fault}
 use Rattle.disk_layout.specs.declared.faults.Fault.TheVariants.{Unclosed}
 use Rattle.disk_layout.specs.declared.slot.Slot.{Slot}
-use Rattle.reached_disk.specs.Reached.{IsReached}
-use Rattle.reached_disk.specs.Sharing.{IsOwned, first_shared, shared_fault}
+use Rattle.damaged_files.specs.reached.Reached.{IsReached}
+use Rattle.damaged_files.specs.reached.Sharing.{IsOwned, first_shared, shared_fault}
 use Rattle.file_rescues.specs.declared.finding.Candidates.{Candidates}
 use Rattle.file_rescues.specs.declared.finding.Candidates.TheVariants.{All, Closed}
 use Rattle.file_rescues.specs.declared.finding.Kind.{Kind}

@@ -1,7 +1,7 @@
 //! A file as it is printed: its bytes, or the listing of its program.
 ghost use Rattle.std.specs.Prelude.{◌≡◌, ◌⊎◌, ◌≤◌, IfErr, IfOk, OnErr, length, vec_items};
 ghost use Rattle.std.specs.Io.KnownBytes.{Appends};
-ghost use Rattle.basic_text.specs.Listings.{listing};
+ghost use Rattle.line_text.specs.basic.Listings.{listing};
 ghost use Rattle.command_faults.specs.Outputs.{HandsPart};
 ghost use Rattle.d64_image.specs.Memory.{disk_image};
 ghost use Rattle.file_rescues.specs.Bytes.{file_bytes};
@@ -11,7 +11,7 @@ ghost use Rattle.file_rescues.specs.declared.forms.FileForm.TheVariants as forms
 
 use crate::chains::{print_bytes, read_file};
 use crate::forms::FileForm;
-use basic_text::{Listing, is_ended};
+use line_text::{Listing, is_ended};
 use command_faults::{CommandFault, put};
 use d64_image::{MemDisk, Place};
 use std::alloc::Global;

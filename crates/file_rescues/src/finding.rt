@@ -1,14 +1,14 @@
 //! The file that is asked for, on a disk that may be hurt.
 ghost use Rattle.std.specs.Prelude.{◌≡◌, ◌↔◌, IfErr, IfOk, IsTrue, MatchOption};
 ghost use Rattle.d64_image.specs.Memory.{disk_image};
-ghost use Rattle.reached_disk.specs.Sharing as sharing;
+ghost use Rattle.damaged_files.specs.reached.Sharing as sharing;
 ghost use Rattle.file_rescues.specs.Found as found;
 ghost use Rattle.file_rescues.specs.Found.{HasNone, HasNoneAsked, IsAsked, IsCandidate, IsFirstAsked, IsHad, IsNamedSo};
 
 use arrayvec::ArrayVec;
 use d64_image::{MemDisk, Place};
 use disk_layout::{EntryView, Fault, MOST_BLOCKS, Slot};
-use reached_disk::{owners_of, reach_file, read_so_far};
+use damaged_files::{owners_of, reach_file, read_so_far};
 
 /// Which entries may be found by their name.
 #[derive(Clone, Copy, Debug, PartialEq, Eq)]

@@ -35,6 +35,6 @@ pub enum ByteForm {
 pub enum FileForm {
     /// As its bytes, in this form.
     Bytes(ByteForm),
-    /// As the listing of a program in BASIC 2.0 (`basic_text`).
+    /// As the listing of a program in BASIC 2.0 (`line_text`).
     Listing,
 }

@@ -46,16 +46,6 @@ impl<D: Sectors> Model for Session<D> {
 }
 
 impl<D: Sectors> Session<D> {
-    /// Whether the device failed: a message got MEDIA.
-    pub fn is_dead(&self) -> bool
-        ensures value { result ≡ self.now.dead }
-        // otherwise the disk is at rest
-        ensures settled { result ≡ false → (s : Shop) → IsShop (D.history.image self.now.disk) s
-            → IsSettled (D.history.image self.now.disk) s }
-    {
-        self.dead
-    }
-
     /// The greatest item that a new card may have.
     pub fn top(&self) -> u16
         ensures { (s : Shop) → IsShop (D.history.image self.now.disk) s → result ≡ s.top }

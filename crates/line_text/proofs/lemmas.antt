@@ -1,4 +1,5 @@
 -- The lemmas, by what they are about.
+pub mod basic
 pub mod bytes
 pub mod columns
 pub mod digits

@@ -1,3 +1,4 @@
+pub mod basic
 pub mod bytes
 pub mod columns
 pub mod petscii

@@ -1,7 +1,9 @@
 //! Texts and their lines: numbers in decimal, bytes as text that is read back, columns of a spreadsheet, PETSCII as
-//! text for people, and scripts.
+//! text for people, listings of BASIC, and scripts.
 #![tactic(auto)]
 
+// Programs in BASIC 2.0, the C64's, as text.
+mod basic;
 // Bytes as text that an editor or a spreadsheet takes, and records as lines of such text, read back as they were.
 mod bytes;
 // Records as columns of a spreadsheet, a column for each field or at fixed positions, read back as they were.
@@ -17,6 +19,7 @@ mod petscii;
 // Scripts: the bytes of a file, cut into lines, and the event in each line.
 mod scripts;
 
+pub use basic::listing::{Listing, is_ended};
 pub use bytes::laws::{lines_give_records, texts_differ};
 pub use bytes::line_reading::read_line;
 pub use bytes::line_writing::{LINE_ROOM, append_line, write_line};

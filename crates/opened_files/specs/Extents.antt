@@ -2,7 +2,7 @@
 use Rattle.std.specs.Prelude.{ℕ, List, take}
 use Rattle.opened_files.specs.declared.extents.Extent.{Extent}
 use Rattle.opened_files.specs.declared.extents.Extent.TheVariants.{Disk, FirstTracks}
-use Rattle.reached_disk.specs.Sizes.{disk_of}
+use Rattle.damaged_files.specs.reached.Sizes.{disk_of}
 
 -- the bytes of an image, and of a longer file so many that it can be seen to be too long
 abbrev pub taken_as : Extent → List ℕ → List ℕ

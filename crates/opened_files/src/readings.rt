@@ -3,7 +3,7 @@ ghost use Rattle.std.specs.Prelude.{◌≡◌, IfErr, IfOk, IfSome, take, vec_it
 ghost use Rattle.opened_files.specs.Extents.{taken_as};
 ghost use Rattle.opened_files.specs.HostFiles.{IsUnbegun, OfImage, OfImageFile};
 ghost use Rattle.opened_files.specs.Rights.{MayReadFile, MayReadImage};
-ghost use Rattle.reached_disk.specs.Sizes.{disk_of};
+ghost use Rattle.damaged_files.specs.reached.Sizes.{disk_of};
 
 use crate::extents::Extent;
 use crate::files::STANDARD_INPUT;
@@ -11,7 +11,7 @@ use crate::image_logs::{logged_image, opened_shared};
 use crate::locks::read_shared;
 use command_faults::CommandFault;
 use image_file::{HostFiles, Locks, read_image, read_script};
-use reached_disk::{LARGEST_IMAGE, disk_in};
+use damaged_files::{LARGEST_IMAGE, disk_in};
 use std::alloc::Global;
 use std::fs::OpenFile;
 use std::io::{self, Read};

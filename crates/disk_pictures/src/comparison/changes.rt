@@ -24,7 +24,7 @@ use crate::pages::arcs::Look;
 use crate::pages::page::Link;
 use crate::petscii::Petscii;
 use command_faults::{CommandFault, print_text};
-use reached_disk::entry_name;
+use damaged_files::entry_name;
 use std::fmt::{self, Display, Formatter};
 use std::io::Write;
 

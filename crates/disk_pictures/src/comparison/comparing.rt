@@ -14,7 +14,7 @@ use crate::pages::page::{END, Title, Told};
 use crate::pages::picture_printing::print_drawing;
 use command_faults::{CommandFault, flush, print_text};
 use disk_layout::Fault;
-use reached_disk::disk_name;
+use damaged_files::disk_name;
 use std::alloc::Global;
 use std::fmt::{self, Display, Formatter};
 use std::io::Write;

@@ -4,7 +4,7 @@ ghost use Rattle.disk_pictures.specs.Comparisons.{called, counterpart as counter
 ghost use Rattle.disk_pictures.specs.Drawings.{file_in};
 
 use crate::drawn_file::DrawnFile;
-use reached_disk::entry_name;
+use damaged_files::entry_name;
 
 /// Whether an entry has this name.
 fn is_called(file: &DrawnFile, name: &[u8]) -> bool

@@ -14,7 +14,7 @@ use crate::pages::sentences::Summary;
 use crate::petscii::Petscii;
 use crate::verdicts::Verdict;
 use disk_layout::{BamView, EntryView};
-use reached_disk::{TypeText, disk_name, entry_name};
+use damaged_files::{TypeText, disk_name, entry_name};
 use std::fmt::{self, Display, Formatter};
 
 /// The page's style: light and dark, for wide and narrow screens, and for paper. A file has one of twelve colours, which

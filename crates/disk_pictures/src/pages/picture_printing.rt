@@ -24,7 +24,7 @@ use crate::verdicts::{Verdict, judged};
 use command_faults::{CommandFault, flush, print_text};
 use d64_image::Place;
 use disk_layout::Fault;
-use reached_disk::entry_name;
+use damaged_files::entry_name;
 use std::alloc::Global;
 use std::fmt::{self, Display, Formatter};
 use std::io::Write;

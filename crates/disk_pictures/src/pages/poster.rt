@@ -16,7 +16,7 @@ use crate::pages::sentences::Summary;
 use crate::petscii::Petscii;
 use crate::verdicts::Verdict;
 use disk_layout::{BamView, EntryView};
-use reached_disk::{TypeText, disk_name, entry_name};
+use damaged_files::{TypeText, disk_name, entry_name};
 use std::fmt::{self, Display, Formatter};
 
 /// The poster's style: that of a light page, without rules that readers of SVG don't know.

@@ -13,7 +13,7 @@ use crate::pages::sharing::{Two, two_owners};
 use crate::verdicts::Verdict;
 use d64_image::Place;
 use disk_layout::{BamView, Fault};
-use reached_disk::entry_name;
+use damaged_files::entry_name;
 use std::fmt::{self, Display, Formatter};
 
 /// What is said of a fault before and after its place.

@@ -20,7 +20,7 @@ use crate::verdicts::Verdict;
 use command_faults::{CommandFault, print_text};
 use d64_image::{Place, TRACK_SECTORS, TRACKS};
 use disk_layout::{BamView, Fault};
-use reached_disk::disk_name;
+use damaged_files::disk_name;
 use std::fmt::{self, Display, Formatter};
 use std::io::Write;
 

@@ -12,7 +12,7 @@ use command_faults::{CommandFault, print_text};
 use d64_image::Place;
 use disk_layout::{EntryView, Slot};
 use line_text::Text;
-use reached_disk::entry_name;
+use damaged_files::entry_name;
 use std::fmt::{self, Display, Formatter};
 use std::io::Write;
 

@@ -2,7 +2,7 @@
 ghost use Rattle.std.specs.Prelude.{◌≡◌, ◌↔◌, IfErr, IsTrue, None, OnOk, Some, option_map};
 ghost use Rattle.std.specs.Io.KnownBytes.{Appends};
 ghost use Rattle.d64_image.specs.declared.place.Place.{Place};
-ghost use Rattle.reached_disk.specs.Sizes.{error_of};
+ghost use Rattle.damaged_files.specs.reached.Sizes.{error_of};
 ghost use Rattle.disk_pictures.specs.Held.{drawn_in};
 ghost use Rattle.disk_pictures.specs.Trims.{entry_at, error_line, error_number, errors_text, name_text};
 ghost use Rattle.command_faults.specs.declared.faults.CommandFault.TheVariants as faults;
@@ -12,7 +12,7 @@ use command_faults::{CommandFault, print_text};
 use d64_image::{Place, SECTORS};
 use disk_layout::Slot;
 use line_text::Text;
-use reached_disk::{entry_name, error_at};
+use damaged_files::{entry_name, error_at};
 use std::fmt::{self, Display, Formatter};
 use std::io::Write;
 

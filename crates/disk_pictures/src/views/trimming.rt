@@ -14,7 +14,7 @@ use crate::views::past_tracks::{are_files_whole, print_files};
 use crate::views::reading_errors::{is_read, print_errors};
 use command_faults::{CommandFault, flush, load, print_text};
 use disk_layout::Fault;
-use reached_disk::first_tracks;
+use damaged_files::first_tracks;
 use std::alloc::Global;
 use std::fmt::{self, Display, Formatter};
 use std::io::Write;

@@ -6,7 +6,7 @@ use Rattle.d64_image.specs.declared.place.Place.{Place}
 use Rattle.disk_layout.specs.Chain.{named_at}
 use Rattle.disk_layout.specs.Directory.{is_used, slots_in}
 use Rattle.disk_layout.specs.declared.slot.Slot.{Slot}
-use Rattle.reached_disk.specs.Names.{name_of}
+use Rattle.damaged_files.specs.reached.Names.{name_of}
 
 -- the slot has an entry that was deleted: its type is 0, and it still has a name and a first block
 abbrev pub is_deleted : Slot → Bool

@@ -2,7 +2,7 @@
 use Rattle.std.specs.Prelude.{ℕ, ◌%◌, List, [], ◌++◌, None, Option, Some, codes, decimal, flat_map}
 use Rattle.std.specs.Prelude.{if◌then◌else◌, length, nat_eq, nat_lt}
 use Rattle.std.specs.Int.{bit_at}
-use Rattle.basic_text.specs.Characters.{hex}
+use Rattle.line_text.specs.basic.Characters.{hex}
 use Rattle.line_text.specs.bytes.Texts.{text_of}
 use Rattle.d64_image.specs.declared.place.Place.{Place}
 use Rattle.disk_layout.specs.Directory.{type_byte}
@@ -12,8 +12,8 @@ use Rattle.disk_layout.specs.declared.faults.Fault.{Fault}
 use Rattle.line_text.specs.petscii.FileNames.{ending_of, file_name_of}
 use Rattle.line_text.specs.declared.petscii.characters.CharacterSet.TheVariants.{Graphics}
 use Rattle.line_text.specs.petscii.Quoted.{quoted}
-use Rattle.reached_disk.specs.Names.{name_of}
-use Rattle.reached_disk.specs.Types.{type_name}
+use Rattle.damaged_files.specs.reached.Names.{name_of}
+use Rattle.damaged_files.specs.reached.Types.{type_name}
 use Rattle.file_rescues.specs.rescue.Art.{is_art}
 use Rattle.file_rescues.specs.declared.rescue.rows.Row.{Row}
 

@@ -11,8 +11,8 @@ use Rattle.d64_image.specs.declared.place.Place.{Place}
 use Rattle.disk_layout.specs.Directory.{type_byte, used_slots}
 use Rattle.disk_layout.specs.declared.faults.Fault.{Fault}
 use Rattle.disk_layout.specs.declared.slot.Slot.{Slot}
-use Rattle.reached_disk.specs.Reached.{IsReached}
-use Rattle.reached_disk.specs.Sharing.{first_shared, shared_fault}
+use Rattle.damaged_files.specs.reached.Reached.{IsReached}
+use Rattle.damaged_files.specs.reached.Sharing.{first_shared, shared_fault}
 use Rattle.file_rescues.specs.Bytes.{file_bytes}
 use Rattle.file_rescues.specs.Found.{records_length, unclosed}
 use Rattle.file_rescues.specs.Records.{records_of, records_text}
@@ -21,12 +21,12 @@ use Rattle.command_faults.specs.declared.faults.CommandFault.TheVariants as faul
 use Rattle.line_text.specs.petscii.FileNames.{ending_of, file_name_of}
 use Rattle.line_text.specs.declared.petscii.file_names.Ending.{Ending}
 use Rattle.line_text.specs.declared.petscii.file_names.Ending.TheVariants.{Records}
-use Rattle.reached_disk.specs.Directories.{IsReadSoFar}
+use Rattle.damaged_files.specs.reached.Directories.{IsReadSoFar}
 use Rattle.file_rescues.specs.rescue.Art.{is_art}
 use Rattle.file_rescues.specs.rescue.Deleted.{deleted_slots}
 use Rattle.file_rescues.specs.rescue.Folders.{AddsFiles, AddsPart, NewFile, new_file}
 use Rattle.file_rescues.specs.rescue.Index.{heading, row_text}
-use Rattle.reached_disk.specs.Names.{name_of}
+use Rattle.damaged_files.specs.reached.Names.{name_of}
 use Rattle.file_rescues.specs.rescue.Scanned.{with_scanned}
 use Rattle.file_rescues.specs.rescue.Sharing.{owned}
 use Rattle.file_rescues.specs.declared.rescue.choices.Choice.{Choice}

@@ -3,7 +3,7 @@ ghost use Rattle.std.specs.Prelude.{◌≡◌, ◌≤◌, ◌+◌, ◌++◌, [],
 ghost use Rattle.arrayvec.specs.ArrayVec.{array_vec_len};
 ghost use Rattle.d64_image.specs.Memory.{disk_image};
 ghost use Rattle.disk_layout.specs.Directory.{slots_in};
-ghost use Rattle.reached_disk.specs.Sharing as sharing;
+ghost use Rattle.damaged_files.specs.reached.Sharing as sharing;
 ghost use Rattle.file_rescues.specs.rescue.Deleted as deleted;
 ghost use Rattle.file_rescues.specs.rescue.Rescues.{AreChosen, AreUndeleted, with_unshared};
 ghost use Rattle.file_rescues.specs.rescue.Sharing.{owned};
@@ -18,7 +18,7 @@ use arrayvec::ArrayVec;
 use command_faults::CommandFault;
 use d64_image::{MemDisk, Place};
 use disk_layout::{EntryView, Slot};
-use reached_disk::{Entries, entry_name};
+use damaged_files::{Entries, entry_name};
 use std::alloc::Global;
 
 /// Whether the slot has an entry that was deleted: its type is 0, and it still has a name and a first block.

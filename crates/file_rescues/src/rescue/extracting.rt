@@ -5,7 +5,7 @@ ghost use Rattle.d64_image.specs.Memory.{disk_image};
 ghost use Rattle.d64_image.specs.declared.place.Place.{Place};
 ghost use Rattle.file_rescues.specs.rescue.Folders.{AddsFiles, AddsPart};
 ghost use Rattle.file_rescues.specs.rescue.Index.{row_text};
-ghost use Rattle.reached_disk.specs.Owned.{CountsAll};
+ghost use Rattle.damaged_files.specs.reached.Owned.{CountsAll};
 ghost use Rattle.file_rescues.specs.rescue.Rescues.{IsExtractFault, IsExtracted, IsMakeFault, IsRescued, all_files};
 ghost use Rattle.file_rescues.specs.rescue.Rescues.{files_from, files_of, first_fault, row_of, rows_from};
 ghost use Rattle.file_rescues.specs.rescue.Sharing.{owned};
@@ -24,7 +24,7 @@ use arrayvec::ArrayVec;
 use command_faults::{CommandFault, load};
 use d64_image::{MemDisk, Place};
 use disk_layout::Fault;
-use reached_disk::{Owners, read_so_far};
+use damaged_files::{Owners, read_so_far};
 use sha2::{Digest, Sha256};
 use std::alloc::Global;
 

@@ -1,6 +1,6 @@
 //! Hashes in hexadecimal digits.
 ghost use Rattle.std.specs.Prelude.{Some, flat_map};
-ghost use Rattle.basic_text.specs.Characters.{hex};
+ghost use Rattle.line_text.specs.basic.Characters.{hex};
 ghost use Rattle.file_rescues.specs.rescue.Index.{hash_text};
 
 use std::fmt::{self, Display, Formatter};

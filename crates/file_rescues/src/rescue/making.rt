@@ -16,7 +16,7 @@ use crate::rescue::rescuing::Rescued;
 use command_faults::CommandFault;
 use d64_image::MemDisk;
 use line_text::{Ending, file_name};
-use reached_disk::entry_name;
+use damaged_files::entry_name;
 use std::alloc::Global;
 
 /// Makes a file. `NoMemory` if the folder failed for want of memory, and `File` if it failed otherwise.

@@ -8,7 +8,7 @@ use arrayvec::ArrayVec;
 use command_faults::CommandFault;
 use d64_image::{MemDisk, Place};
 use disk_layout::{Fault, MOST_BLOCKS, Slot};
-use reached_disk::reach_file;
+use damaged_files::reach_file;
 use std::alloc::Global;
 
 /// An entry of a directory, and what can be reached of its file.

@@ -10,7 +10,7 @@ use crate::rescue::hashes::Hash;
 use d64_image::Place;
 use disk_layout::{EntryView, Fault, Slot};
 use line_text::{CharacterSet, Ending, Quoted, Text, file_name};
-use reached_disk::{entry_name, type_name};
+use damaged_files::{entry_name, type_name};
 use std::fmt::{self, Display, Formatter};
 
 /// What the index says of a file.

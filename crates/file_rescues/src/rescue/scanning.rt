@@ -12,7 +12,7 @@ ghost use Rattle.file_rescues.specs.rescue.Scanned as scanned;
 use crate::rescue::choices::Choice;
 use d64_image::{MemDisk, Place};
 use disk_layout::{DIRECTORY_TRACK, EntryView, Slot};
-use reached_disk::DirectorySectors;
+use damaged_files::DirectorySectors;
 
 /// Whether the first two bytes end a directory, or link to one of its sectors.
 fn has_directory_link(bytes: &[u8; 256]) -> bool

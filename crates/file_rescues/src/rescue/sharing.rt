@@ -1,10 +1,10 @@
 //! The owners of the sectors of a disk, by the files that are rescued.
-ghost use Rattle.reached_disk.specs.Owned.{CountsAll};
+ghost use Rattle.damaged_files.specs.reached.Owned.{CountsAll};
 ghost use Rattle.file_rescues.specs.rescue.Sharing.{owned};
 
 use crate::rescue::rescuing::Rescued;
 use d64_image::Place;
-use reached_disk::Owners;
+use damaged_files::Owners;
 
 /// How many have each sector: the map, a directory with these sectors, and these files.
 pub(crate) fn owners_of(directory: &[Place], files: &[Rescued]) -> Owners

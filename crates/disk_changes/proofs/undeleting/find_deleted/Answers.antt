@@ -3,7 +3,7 @@ use Rattle.std.proofs.Common.{◌∙◌}
 use Rattle.std.proofs.lemmas.Result.{IfErr-weaker, IfOk-weaker}
 use Rattle.d64_image.specs.Memory.{disk_image}
 use Rattle.disk_changes.proofs.Undeleted.{exists, low, not-found, undeletable}
-use Rattle.reached_disk.specs.Directories.{IsReadSoFar}
+use Rattle.damaged_files.specs.reached.Directories.{IsReadSoFar}
 use Rattle.disk_changes.proofs.undeleting.find_deleted.Goals as goal
 use Rattle.disk_changes.proofs.undeleting.find_deleted.Goals.{After-choose_named-in-Err, In-Ok}
 

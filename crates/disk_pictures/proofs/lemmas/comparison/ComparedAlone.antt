@@ -14,7 +14,7 @@ use Rattle.disk_pictures.specs.ComparedPages.{changed_row, changes_text, entry_r
 use Rattle.disk_pictures.specs.Comparisons.{Disk, are_sectors_changed, counterpart, differs, each_difference}
 use Rattle.disk_pictures.specs.Comparisons.{is_called, is_entry_changed, number_of}
 use Rattle.disk_pictures.specs.Html.{Show}
-use Rattle.reached_disk.specs.Names.{name_of}
+use Rattle.damaged_files.specs.reached.Names.{name_of}
 use Rattle.disk_pictures.specs.Pictures.{each_place}
 use Rattle.disk_pictures.specs.Sectors.{times}
 use Rattle.disk_pictures.specs.Texts.{at_place, each_below, numbered}

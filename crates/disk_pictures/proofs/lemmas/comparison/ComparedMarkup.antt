@@ -8,7 +8,7 @@ use Rattle.disk_pictures.specs.ComparedPages.{entry_head, entry_row, former_row,
 use Rattle.disk_pictures.specs.ComparedPages.{parts_text, row_end}
 use Rattle.disk_pictures.specs.Comparisons.{Disk, are_bytes_changed, are_sectors_changed, counterpart, is_entry_changed}
 use Rattle.disk_pictures.specs.Html.{Show}
-use Rattle.reached_disk.specs.Names.{disk_name, name_of}
+use Rattle.damaged_files.specs.reached.Names.{disk_name, name_of}
 use Rattle.disk_pictures.specs.Pictures.{look}
 use Rattle.disk_pictures.proofs.lemmas.pages.PageMarkup.{IsSameMarkup, alike, before, behind, both, each, on-drawing, on-link, on-title}
 use Rattle.disk_pictures.proofs.lemmas.pages.PageMarkup.{on-told, where-so}

@@ -10,7 +10,7 @@ use Rattle.disk_layout.specs.declared.faults.Fault.{Fault}
 use Rattle.disk_pictures.specs.Html.{Show}
 use Rattle.disk_pictures.specs.Drawings.{owner_of}
 use Rattle.disk_pictures.specs.Markup.{is_markup, markup_of}
-use Rattle.reached_disk.specs.Names.{disk_name, name_of}
+use Rattle.damaged_files.specs.reached.Names.{disk_name, name_of}
 use Rattle.disk_pictures.specs.Pictures.{block_arc, dashes, drawing_text, file_group, group_head, look}
 use Rattle.disk_pictures.specs.Pictures.{is_blocks, is_sides, legend_text, link_text, own_block, own_side, page_text}
 use Rattle.disk_pictures.specs.Pictures.{ring_of, row_text, side_arc, style, title_text, told_text, verdict_class}

@@ -5,12 +5,12 @@ use Rattle.d64_image.specs.Images.{Sector}
 use Rattle.disk_layout.specs.Directory.{type_byte}
 use Rattle.disk_layout.specs.Layout.{File, Layout, count_field}
 use Rattle.disk_pictures.specs.Html.{Show}
-use Rattle.reached_disk.specs.Names.{disk_name, name_of}
+use Rattle.damaged_files.specs.reached.Names.{disk_name, name_of}
 use Rattle.disk_pictures.specs.Pictures.{dashes}
 use Rattle.disk_pictures.specs.Legends.{legend_of, poster_legend}
 use Rattle.disk_pictures.specs.Posters.{line_start, poster_head, poster_line, poster_style, poster_text, poster_told}
 use Rattle.disk_pictures.specs.declared.verdicts.Verdict.{Verdict}
-use Rattle.reached_disk.specs.Types.{type_text}
+use Rattle.damaged_files.specs.reached.Types.{type_text}
 use Rattle.disk_pictures.proofs.lemmas.pages.PageMarkup.{IsSameMarkup, before, behind, both, each, on-drawing, on-summary}
 
 module _ (f g : Show) (same : (bytes : List ℕ) → IsSameMarkup (f bytes) (g bytes)) (s u : Show)

@@ -5,13 +5,13 @@ use Rattle.d64_image.specs.Images.{Sector}
 use Rattle.disk_layout.specs.Directory.{type_byte}
 use Rattle.disk_layout.specs.Layout.{File, Layout, count_field}
 use Rattle.disk_pictures.specs.Html.{html_of}
-use Rattle.reached_disk.specs.Names.{disk_name, name_of}
+use Rattle.damaged_files.specs.reached.Names.{disk_name, name_of}
 use Rattle.disk_pictures.specs.Petscii.{petscii_of}
 use Rattle.disk_pictures.specs.Pictures.{look}
 use Rattle.disk_pictures.specs.Posters.{line_height, line_left, line_start, line_top, line_width, poster_line, poster_told}
 use Rattle.disk_pictures.specs.Sentences.{summary_text}
 use Rattle.disk_pictures.specs.declared.verdicts.Verdict.{Verdict}
-use Rattle.reached_disk.specs.Types.{type_text}
+use Rattle.damaged_files.specs.reached.Types.{type_text}
 
 pub heading-written : (v : Verdict) (map : Sector) (l : Layout) (id version name : List ℕ)
     → id ≡ slice_range map 162 164 → version ≡ slice_range map 165 167 → name ≡ disk_name map

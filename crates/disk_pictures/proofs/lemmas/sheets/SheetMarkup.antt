@@ -5,7 +5,7 @@ use Rattle.std.specs.Prelude.{codes}
 use Rattle.d64_image.specs.Images.{Sector}
 use Rattle.disk_layout.specs.Layout.{Layout}
 use Rattle.disk_pictures.specs.Html.{Show}
-use Rattle.reached_disk.specs.Names.{disk_name}
+use Rattle.damaged_files.specs.reached.Names.{disk_name}
 use Rattle.disk_pictures.specs.Sheets.{caption, refused_head, refused_tile, small_drawing, tile_head, tile_text}
 use Rattle.disk_pictures.specs.declared.verdicts.Verdict.{Verdict}
 use Rattle.disk_pictures.proofs.lemmas.pages.PageMarkup.{IsSameMarkup, before, behind, both}

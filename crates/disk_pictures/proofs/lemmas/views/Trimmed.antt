@@ -11,7 +11,7 @@ use Rattle.d64_image.specs.Memory.{sectors_in}
 use Rattle.disk_layout.specs.Fault.{HoldsOfDirectory, nowhere}
 use Rattle.disk_layout.specs.Layout.{File, Layout}
 use Rattle.disk_layout.specs.declared.faults.Fault.{Fault}
-use Rattle.reached_disk.specs.Sizes.{IsImageSize}
+use Rattle.damaged_files.specs.reached.Sizes.{IsImageSize}
 use Rattle.disk_pictures.specs.Drawings.{IsDrawn, file_in}
 use Rattle.disk_pictures.specs.Trims.{AreFilesWhole, IsAllThere, IsFileWhole, IsTrimmed, errors_text, file_text, layout_line}
 use Rattle.disk_pictures.specs.Trims.{trim_text}

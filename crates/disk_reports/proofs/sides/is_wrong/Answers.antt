@@ -6,7 +6,7 @@ use Rattle.d64_image.specs.Memory.{disk_image}
 use Rattle.d64_image.specs.declared.place.Place.{Place}
 use Rattle.disk_layout.specs.Layout.{record_length, sides_for}
 use Rattle.disk_layout.specs.Side.{side_sector}
-use Rattle.reached_disk.proofs.Walked.{at-answer}
+use Rattle.damaged_files.proofs.lemmas.reached.Walked.{at-answer}
 use Rattle.disk_reports.proofs.Found.{judged, only-list}
 use Rattle.disk_reports.proofs.sides.is_wrong.Goals as goal
 

@@ -3,7 +3,7 @@ use Rattle.std.proofs.Common.{Option, ap, sym, ◌∙◌}
 use Rattle.std.specs.Option.{option_or}
 use Rattle.d64_image.specs.Memory.{disk_image}
 use Rattle.disk_layout.specs.declared.faults.Fault.{Fault}
-use Rattle.reached_disk.specs.Sharing.{first_shared, shared_fault}
+use Rattle.damaged_files.specs.reached.Sharing.{first_shared, shared_fault}
 use Rattle.file_rescues.proofs.Files.{find-had}
 use Rattle.file_rescues.proofs.finding.find_file.Goals as goal
 

@@ -6,10 +6,10 @@ use Rattle.std.proofs.lemmas.List.{take_all, take_more}
 use Rattle.d64_image.specs.Places.{index_of}
 use Rattle.d64_image.specs.declared.place.Place.{Place}
 use Rattle.disk_layout.specs.Directory.{map_place}
-use Rattle.reached_disk.proofs.Counts.{count-more}
-use Rattle.reached_disk.specs.Owned.{CountsAll, owners_at}
-use Rattle.reached_disk.specs.Sharing.{count_at}
-use Rattle.reached_disk.specs.declared.sharing.Owners.{Owners}
+use Rattle.damaged_files.proofs.lemmas.reached.Counts.{count-more}
+use Rattle.damaged_files.specs.reached.Owned.{CountsAll, owners_at}
+use Rattle.damaged_files.specs.reached.Sharing.{count_at}
+use Rattle.damaged_files.specs.declared.reached.sharing.Owners.{Owners}
 use Rattle.file_rescues.specs.rescue.Sharing.{owned}
 use Rattle.file_rescues.specs.declared.rescue.rescuing.Rescued.{Rescued}
 

@@ -8,7 +8,7 @@ use Rattle.d64_image.specs.declared.place.Place.{Place}
 use Rattle.disk_layout.specs.declared.faults.Fault.{Fault}
 use Rattle.disk_layout.specs.declared.slot.Slot.{Slot}
 use Rattle.command_faults.specs.declared.faults.CommandFault.{CommandFault}
-use Rattle.reached_disk.specs.Directories.{IsReadSoFar}
+use Rattle.damaged_files.specs.reached.Directories.{IsReadSoFar}
 use Rattle.file_rescues.specs.rescue.Folders.{AddsFiles, AddsPart, NewFile}
 use Rattle.file_rescues.specs.rescue.Rescues.{AreChosen, IsExtractFault, IsExtracted, IsExtractedPart, IsMakeFault, IsRescue, all_files, first_fault, sectors_of}
 use Rattle.file_rescues.specs.rescue.Sharing.{owned}

@@ -16,9 +16,9 @@ use Rattle.line_text.proofs.lemmas.petscii.Names.{endings-same, is-safe, numbers
 use Rattle.line_text.specs.petscii.FileNames.{IsSafeName, ending_of, ending_text, file_byte, file_name_of, is_file_byte, number_text}
 use Rattle.line_text.specs.declared.petscii.file_names.Ending.{Ending}
 use Rattle.line_text.specs.declared.petscii.file_names.Ending.TheVariants.{Del, Seq, Prg, Usr, Rel, Other, Records}
-use Rattle.reached_disk.proofs.Lengths.{name-short}
+use Rattle.damaged_files.proofs.lemmas.reached.Lengths.{name-short}
 use Rattle.file_rescues.specs.rescue.Folders.{NewFile, StaysInside}
-use Rattle.reached_disk.specs.Names.{name_of}
+use Rattle.damaged_files.specs.reached.Names.{name_of}
 use Rattle.file_rescues.specs.Found.{records_length}
 use Rattle.file_rescues.specs.rescue.Art.{is_art}
 use Rattle.file_rescues.specs.rescue.Rescues.{all_files, bytes_in, entry_file, files_from, files_of, index_of_files, line_files, own_files}

@@ -11,16 +11,16 @@ use Rattle.std.proofs.lemmas.List.Elements.{filter-append}
 use Rattle.d64_image.specs.Images.{Image, sector}
 use Rattle.d64_image.specs.Places.{index_of}
 use Rattle.d64_image.specs.declared.place.Place.{Place}
-use Rattle.reached_disk.specs.Names.{name_of}
-use Rattle.reached_disk.proofs.Filtered.{filter-kept, filter-left}
+use Rattle.damaged_files.specs.reached.Names.{name_of}
+use Rattle.damaged_files.proofs.lemmas.reached.Filtered.{filter-kept, filter-left}
 use Rattle.disk_layout.proofs.lemmas.counts.Slots.{slots-eight, slots_at}
 use Rattle.disk_layout.specs.Chain.{named_at}
 use Rattle.disk_layout.specs.Directory.{is_used, map_place, slot_in, slots_in, used_slots}
 use Rattle.disk_layout.specs.declared.slot.Slot.{Slot}
-use Rattle.reached_disk.proofs.Counts.{count-more}
-use Rattle.reached_disk.specs.Owned.{CountsAll, owners_at}
-use Rattle.reached_disk.specs.Sharing.{count_at, first_shared}
-use Rattle.reached_disk.specs.declared.sharing.Owners.{Owners}
+use Rattle.damaged_files.proofs.lemmas.reached.Counts.{count-more}
+use Rattle.damaged_files.specs.reached.Owned.{CountsAll, owners_at}
+use Rattle.damaged_files.specs.reached.Sharing.{count_at, first_shared}
+use Rattle.damaged_files.specs.declared.reached.sharing.Owners.{Owners}
 use Rattle.file_rescues.specs.rescue.Deleted.{deleted_slots, is_deleted}
 use Rattle.file_rescues.specs.rescue.Rescues.{AreAdded, AreChosen, AreUndeleted, IsRescued, with_unshared}
 use Rattle.file_rescues.specs.rescue.Sharing.{owned}

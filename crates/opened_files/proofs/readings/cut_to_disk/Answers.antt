@@ -1,8 +1,8 @@
 -- The disk in an image is the front of the image.
 use Rattle.std.proofs.Common.{ℕ, List, ap, length, take, ◌∙◌}
 use Rattle.std.specs.Prelude.{vec_items}
-use Rattle.reached_disk.proofs.Sized.{take-disk}
-use Rattle.reached_disk.specs.Sizes.{disk_of}
+use Rattle.damaged_files.proofs.lemmas.reached.Sized.{take-disk}
+use Rattle.damaged_files.specs.reached.Sizes.{disk_of}
 use Rattle.opened_files.proofs.readings.cut_to_disk.Goals as goal
 
 pub returns : goal.returns

@@ -1,6 +1,6 @@
 -- What is cut to its first tracks is what was read.
 use Rattle.std.proofs.Common.{ap, ◌∙◌}
-use Rattle.reached_disk.specs.Sizes.{disk_of}
+use Rattle.damaged_files.specs.reached.Sizes.{disk_of}
 use Rattle.opened_files.proofs.readings.first_tracks_at.Goals as goal
 
 pub returns-clause-read : goal.returns-clause-read

@@ -2,7 +2,7 @@
 use Rattle.std.proofs.Common.{arith, refl, sym, ◌∙◌, ◌≡◌}
 use Rattle.std.specs.Prelude.{None}
 use Rattle.d64_image.proofs.Order.{each-more, each-place}
-use Rattle.reached_disk.specs.Sizes.{error_of}
+use Rattle.damaged_files.specs.reached.Sizes.{error_of}
 use Rattle.disk_pictures.proofs.views.reading_errors.is_read.Goals as goal
 
 pub loop-index-init : goal.loop-index-init

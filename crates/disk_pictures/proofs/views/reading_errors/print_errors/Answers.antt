@@ -4,7 +4,7 @@ use Rattle.std.proofs.KnownBytes.{Appends-nil}
 use Rattle.std.specs.Prelude.{option_map}
 use Rattle.std.specs.Io.KnownBytes.{Appends}
 use Rattle.d64_image.specs.declared.place.Place.{Place}
-use Rattle.reached_disk.specs.Sizes.{error_of}
+use Rattle.damaged_files.specs.reached.Sizes.{error_of}
 use Rattle.disk_pictures.proofs.InOrder.{place-more, places-all}
 use Rattle.disk_pictures.specs.Held.{drawn_in}
 use Rattle.disk_pictures.specs.Trims.{entry_at, error_line}

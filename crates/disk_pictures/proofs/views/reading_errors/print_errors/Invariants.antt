@@ -3,7 +3,7 @@ use Rattle.std.proofs.Common.{take}
 use Rattle.std.specs.Prelude.{flat_map, option_map}
 use Rattle.std.specs.Io.KnownBytes.{Appends}
 use Rattle.d64_image.specs.Places.{places}
-use Rattle.reached_disk.specs.Sizes.{error_of}
+use Rattle.damaged_files.specs.reached.Sizes.{error_of}
 use Rattle.disk_pictures.specs.Held.{drawn_in}
 use Rattle.disk_pictures.specs.Trims.{entry_at, error_line}
 use Rattle.disk_pictures.proofs.views.reading_errors.print_errors.Given as goal

@@ -4,7 +4,7 @@ use Rattle.std.proofs.lemmas.List.{take_more}
 use Rattle.d64_image.specs.Memory.{disk_image}
 use Rattle.d64_image.specs.declared.place.Place.{Place}
 use Rattle.disk_layout.specs.declared.slot.Slot.{Slot}
-use Rattle.reached_disk.specs.Sharing.{first_shared}
+use Rattle.damaged_files.specs.reached.Sharing.{first_shared}
 use Rattle.file_rescues.proofs.lemmas.rescue.Undeleted.{front-same, undeleted-more}
 use Rattle.file_rescues.specs.rescue.Rescues.{AreUndeleted, with_unshared}
 use Rattle.file_rescues.specs.rescue.Sharing.{owned}

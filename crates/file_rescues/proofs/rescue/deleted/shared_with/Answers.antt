@@ -1,6 +1,6 @@
 -- The file's own blocks are counted too.
 use Rattle.std.proofs.Common.{ap, ◌++◌, ◌∷◌, [], ◌∙◌}
-use Rattle.reached_disk.specs.Sharing.{first_shared}
+use Rattle.damaged_files.specs.reached.Sharing.{first_shared}
 use Rattle.file_rescues.proofs.lemmas.rescue.Undeleted.{counted-one}
 use Rattle.file_rescues.specs.rescue.Sharing.{owned}
 use Rattle.file_rescues.proofs.rescue.deleted.shared_with.Goals as goal

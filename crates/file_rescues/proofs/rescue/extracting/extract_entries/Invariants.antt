@@ -3,7 +3,7 @@ use Rattle.std.proofs.Common.{◌≡◌, ◌++◌, List, take}
 use Rattle.d64_image.specs.Memory.{disk_image}
 use Rattle.d64_image.specs.declared.place.Place.{Place}
 use Rattle.file_rescues.specs.rescue.Folders.{AddsFiles}
-use Rattle.reached_disk.specs.Owned.{CountsAll}
+use Rattle.damaged_files.specs.reached.Owned.{CountsAll}
 use Rattle.file_rescues.specs.rescue.Rescues.{files_from, first_fault, rows_from}
 use Rattle.file_rescues.proofs.rescue.extracting.extract_entries.Given as goal
 

@@ -2,7 +2,7 @@
 use Rattle.std.proofs.Common.{List, arith, length, subst, sym, ap, ◌∙◌}
 use Rattle.d64_image.specs.Memory.{disk_image}
 use Rattle.d64_image.specs.declared.place.Place.{Place}
-use Rattle.reached_disk.specs.Reached.{IsReached}
+use Rattle.damaged_files.specs.reached.Reached.{IsReached}
 use Rattle.file_rescues.proofs.rescue.rescuing.rescue.Goals as goal
 
 pub returns-in-Ok-clause-ok : goal.returns-in-Ok-clause-ok

@@ -3,7 +3,7 @@ use Rattle.std.proofs.Common.{[], ap, arith, get_or, refl, sym, take, true, â—Œâ
 use Rattle.std.proofs.lemmas.Grind.{put_two}
 use Rattle.std.proofs.lemmas.List.{flat_map_more, take_more}
 use Rattle.std.specs.Prelude.{flat_map}
-use Rattle.basic_text.specs.Characters.{hex}
+use Rattle.line_text.specs.basic.Characters.{hex}
 use Rattle.file_rescues.proofs.rescue.hashes.HexDisplay.fmt.Goals as goal
 
 pub loop-byte-preserved : goal.loop-byte-preserved

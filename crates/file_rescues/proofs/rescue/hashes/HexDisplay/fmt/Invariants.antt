@@ -2,7 +2,7 @@
 use Rattle.std.proofs.Common.{take}
 use Rattle.std.specs.Fmt.{HasWritten, IsPlainFormatter}
 use Rattle.std.specs.Prelude.{flat_map}
-use Rattle.basic_text.specs.Characters.{hex}
+use Rattle.line_text.specs.basic.Characters.{hex}
 use Rattle.file_rescues.proofs.rescue.hashes.HexDisplay.fmt.Given as goal
 
 abbrev pub invariant-loop-byte : goal.invariant-loop-byte

@@ -1,0 +1,3 @@
+-- Programs in BASIC 2.0, the C64's, as text.
+pub mod Tables
+pub mod Walked

@@ -1,8 +1,0 @@
-pub mod Counts
-pub mod EntryBlocks
-pub mod Filtered
-pub mod Lengths
-pub mod Paddings
-pub mod ReadSoFar
-pub mod Sized
-pub mod Walked

@@ -1,8 +1,0 @@
-pub mod Directories
-pub mod Names
-pub mod Nearness
-pub mod Owned
-pub mod Reached
-pub mod Sharing
-pub mod Sizes
-pub mod Types
