@@ -48,6 +48,7 @@ command_text faults.File = codes "FILE"
 command_text faults.NoMemory = codes "NO MEMORY"
 command_text faults.Device = codes "DEVICE"
 command_text (faults.Short p) = codes "SHORT " ++ place_text p
+command_text faults.NoProgram = codes "NO PROGRAM"
 command_text faults.ShopFile = codes "SHOP FILE"
 command_text faults.InUse = codes "IN USE"
 command_text faults.NotReady = codes "NOT READY"

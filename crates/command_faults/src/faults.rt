@@ -64,6 +64,8 @@ pub enum CommandFault {
     Device,
     /// A file of the image is cut short: its chain ends at this sector, too early.
     Short(Place),
+    /// A file that is to be listed as a program in BASIC doesn't begin with a line of one. Nothing was printed.
+    NoProgram,
     /// A file that is to be renamed or deleted is one of a shop's two files. Nothing was changed.
     ShopFile,
     /// Another program has the image. Nothing was read or changed.
@@ -158,6 +160,7 @@ impl Display for CommandFault {
             CommandFault::NoMemory => f.write_str("NO MEMORY"),
             CommandFault::Device => f.write_str("DEVICE"),
             CommandFault::Short(place) => write!(f, "SHORT {}/{}", place.track(), place.sector()),
+            CommandFault::NoProgram => f.write_str("NO PROGRAM"),
             CommandFault::ShopFile => f.write_str("SHOP FILE"),
             CommandFault::InUse => f.write_str("IN USE"),
             CommandFault::NotReady => f.write_str("NOT READY"),

@@ -92,6 +92,9 @@ pub(crate) const CUT_CHANGE: &str =
 pub(crate) const CUT_LOOK: &str =
     "the file ends there, too early: a sector of it was lost; `bytes` and `extract` take out what is left";
 
+pub(crate) const NO_PROGRAM: &str =
+    "the file isn't a program in BASIC, since it doesn't begin with a line of one; `bytes` prints it";
+
 pub(crate) const FEWER: &str =
     "a file ends there, and its entry counts more blocks; compare it with another copy, or `repair --accept-loss` sets the count";
 
@@ -138,6 +141,7 @@ fn about_fault(fault: CommandFault) -> Advice {
         CommandFault::LogAway => Advice::Away,
         CommandFault::TwoNames => Advice::Image(SECOND_NAME),
         CommandFault::Short(_) => Advice::Image(CUT_CHANGE),
+        CommandFault::NoProgram => Advice::Image(NO_PROGRAM),
         CommandFault::ShopFile => Advice::Image(SHOP_FILE),
         CommandFault::Trimmed => Advice::Image(JUDGED),
         CommandFault::Several(_) => Advice::Nothing,
