@@ -10,7 +10,7 @@ use std::io::{self, Read};
 const MOST_READ: u64 = IMAGE_BYTES as u64 + 1;
 
 /// How many bytes a script may have, or another text: 16 MiB.
-const MOST_SCRIPT: usize = 16 << 20;
+pub const MOST_SCRIPT: usize = 16 << 20;
 
 /// The bytes of a script: all that the reader has left. Its error if reading failed, or if there was no memory for them;
 /// `FileTooLarge` if there are more than 16 MiB. `room` is how many bytes memory is taken for at once: any number will do,
