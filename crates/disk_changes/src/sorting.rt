@@ -15,10 +15,10 @@ use crate::outcomes::changed;
 use arrayvec::ArrayVec;
 use command_faults::CommandFault;
 use d64_image::{MemDisk, Place, Sectors};
+use damaged_files::{Entries, entry_name, read_so_far};
 use disk_layout::{EntryView, Slot};
 use file_changes::overwrite;
 use file_rescues::is_deleted;
-use damaged_files::{Entries, entry_name, read_so_far};
 use std::alloc::Global;
 
 /// The byte of a slot with which its entry begins. Those before it aren't the entry's.

@@ -10,8 +10,8 @@ use crate::drawn_file::DrawnFile;
 use arrayvec::ArrayVec;
 use command_faults::CommandFault;
 use d64_image::{MemDisk, Place};
-use disk_layout::{EntryView, MOST_BLOCKS, POINTERS, Slot};
 use damaged_files::reach_blocks;
+use disk_layout::{EntryView, MOST_BLOCKS, POINTERS, Slot};
 use std::alloc::Global;
 
 /// Room for the sectors of a walk.

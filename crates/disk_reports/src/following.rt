@@ -7,8 +7,8 @@ use crate::sides::{find_wrong, follow_sides};
 use crate::trail::Trail;
 use arrayvec::ArrayVec;
 use d64_image::MemDisk;
-use disk_layout::Slot;
 use damaged_files::reach_file;
+use disk_layout::Slot;
 
 /// What the links of a used entry come to; nothing of one that isn't closed.
 pub(crate) fn follow(disk: &MemDisk, slot: &Slot) -> Trail

@@ -8,9 +8,9 @@ use crate::links::Links;
 use crate::showing::shows;
 use crate::trail::Trail;
 use arrayvec::ArrayVec;
+use damaged_files::entry_name;
 use disk_layout::{Fault, Slot};
 use line_text::write_text;
-use damaged_files::entry_name;
 use std::io::{self, Write};
 
 /// Lists the entries that show the fault, or have the sector at which it is.

@@ -9,9 +9,9 @@ use crate::trail::Trail;
 use arrayvec::ArrayVec;
 use command_faults::CommandFault;
 use d64_image::MemDisk;
+use damaged_files::{DirectorySectors, read_so_far};
 use disk_layout::{Fault, Slot, map_place};
 use layout_check::unsoundness;
-use damaged_files::{DirectorySectors, read_so_far};
 use std::alloc::Global;
 
 /// What the links of a disk come to.

@@ -8,8 +8,8 @@ ghost use Rattle.command_faults.specs.declared.faults.CommandFault.TheVariants a
 use crate::lines::print_name;
 use arrayvec::ArrayVec;
 use command_faults::{CommandFault, load};
-use disk_layout::Slot;
 use damaged_files::{near_entries, read_so_far, type_name};
+use disk_layout::Slot;
 use std::alloc::Global;
 use std::io::{self, Write};
 

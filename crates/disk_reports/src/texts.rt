@@ -2,9 +2,9 @@
 ghost use Rattle.std.specs.Prelude.{◌≡◌, Some, map};
 ghost use Rattle.disk_reports.specs.Texts.{disk_text, entry_text, free_text, name_text, shown};
 
+use damaged_files::TypeText;
 use disk_layout::{BamView, EntryView, Slot};
 use line_text::{CharacterSet, OneLine};
-use damaged_files::TypeText;
 use std::fmt::{self, Display, Formatter};
 
 /// Bytes of the disk as they are printed: a question mark stands for each outside $20 to $7E.

@@ -11,9 +11,9 @@ ghost use Rattle.file_rescues.specs.declared.forms.FileForm.TheVariants as forms
 
 use crate::chains::{print_bytes, read_file};
 use crate::forms::FileForm;
-use line_text::{Listing, is_ended};
 use command_faults::{CommandFault, put};
 use d64_image::{MemDisk, Place};
+use line_text::{Listing, is_ended};
 use std::alloc::Global;
 use std::io::Write;
 

@@ -7,8 +7,8 @@ ghost use Rattle.file_rescues.specs.Found.{HasNone, HasNoneAsked, IsAsked, IsCan
 
 use arrayvec::ArrayVec;
 use d64_image::{MemDisk, Place};
-use disk_layout::{EntryView, Fault, MOST_BLOCKS, Slot};
 use damaged_files::{owners_of, reach_file, read_so_far};
+use disk_layout::{EntryView, Fault, MOST_BLOCKS, Slot};
 
 /// Which entries may be found by their name.
 #[derive(Clone, Copy, Debug, PartialEq, Eq)]

@@ -13,8 +13,8 @@ use crate::pages::arcs::Look;
 use crate::pages::sentences::Summary;
 use crate::petscii::Petscii;
 use crate::verdicts::Verdict;
-use disk_layout::{BamView, EntryView};
 use damaged_files::{TypeText, disk_name, entry_name};
+use disk_layout::{BamView, EntryView};
 use std::fmt::{self, Display, Formatter};
 
 /// The page's style: light and dark, for wide and narrow screens, and for paper. A file has one of twelve colours, which

@@ -15,8 +15,8 @@ use crate::pages::page::DASHES;
 use crate::pages::sentences::Summary;
 use crate::petscii::Petscii;
 use crate::verdicts::Verdict;
-use disk_layout::{BamView, EntryView};
 use damaged_files::{TypeText, disk_name, entry_name};
+use disk_layout::{BamView, EntryView};
 use std::fmt::{self, Display, Formatter};
 
 /// The poster's style: that of a light page, without rules that readers of SVG don't know.

@@ -12,8 +12,8 @@ use crate::pages::arcs::PlaceText;
 use crate::pages::sharing::{Two, two_owners};
 use crate::verdicts::Verdict;
 use d64_image::Place;
-use disk_layout::{BamView, Fault};
 use damaged_files::entry_name;
+use disk_layout::{BamView, Fault};
 use std::fmt::{self, Display, Formatter};
 
 /// What is said of a fault before and after its place.

@@ -19,8 +19,8 @@ use crate::sheets::shades::{SHADES, Shades, shade};
 use crate::verdicts::Verdict;
 use command_faults::{CommandFault, print_text};
 use d64_image::{Place, TRACK_SECTORS, TRACKS};
-use disk_layout::{BamView, Fault};
 use damaged_files::disk_name;
+use disk_layout::{BamView, Fault};
 use std::fmt::{self, Display, Formatter};
 use std::io::Write;
 

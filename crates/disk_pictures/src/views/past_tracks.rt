@@ -10,9 +10,9 @@ ghost use Rattle.command_faults.specs.declared.faults.CommandFault.TheVariants a
 use crate::drawn_file::DrawnFile;
 use command_faults::{CommandFault, print_text};
 use d64_image::Place;
+use damaged_files::entry_name;
 use disk_layout::{EntryView, Slot};
 use line_text::Text;
-use damaged_files::entry_name;
 use std::fmt::{self, Display, Formatter};
 use std::io::Write;
 

@@ -10,9 +10,9 @@ ghost use Rattle.command_faults.specs.declared.faults.CommandFault.TheVariants a
 use crate::drawing::Drawing;
 use command_faults::{CommandFault, print_text};
 use d64_image::{Place, SECTORS};
+use damaged_files::{entry_name, error_at};
 use disk_layout::Slot;
 use line_text::Text;
-use damaged_files::{entry_name, error_at};
 use std::fmt::{self, Display, Formatter};
 use std::io::Write;
 

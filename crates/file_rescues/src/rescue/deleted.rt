@@ -17,8 +17,8 @@ use crate::rescue::slots::used_of;
 use arrayvec::ArrayVec;
 use command_faults::CommandFault;
 use d64_image::{MemDisk, Place};
-use disk_layout::{EntryView, Slot};
 use damaged_files::{Entries, entry_name};
+use disk_layout::{EntryView, Slot};
 use std::alloc::Global;
 
 /// Whether the slot has an entry that was deleted: its type is 0, and it still has a name and a first block.

@@ -23,8 +23,8 @@ use crate::rescue::sharing::owners_of;
 use arrayvec::ArrayVec;
 use command_faults::{CommandFault, load};
 use d64_image::{MemDisk, Place};
-use disk_layout::Fault;
 use damaged_files::{Owners, read_so_far};
+use disk_layout::Fault;
 use sha2::{Digest, Sha256};
 use std::alloc::Global;
 

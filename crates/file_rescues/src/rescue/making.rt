@@ -15,8 +15,8 @@ use crate::rescue::folders::NewFolder;
 use crate::rescue::rescuing::Rescued;
 use command_faults::CommandFault;
 use d64_image::MemDisk;
-use line_text::{Ending, file_name};
 use damaged_files::entry_name;
+use line_text::{Ending, file_name};
 use std::alloc::Global;
 
 /// Makes a file. `NoMemory` if the folder failed for want of memory, and `File` if it failed otherwise.

@@ -7,8 +7,8 @@ ghost use Rattle.file_rescues.specs.rescue.Rescues.{AreRescued, IsRescued};
 use arrayvec::ArrayVec;
 use command_faults::CommandFault;
 use d64_image::{MemDisk, Place};
-use disk_layout::{Fault, MOST_BLOCKS, Slot};
 use damaged_files::reach_file;
+use disk_layout::{Fault, MOST_BLOCKS, Slot};
 use std::alloc::Global;
 
 /// An entry of a directory, and what can be reached of its file.

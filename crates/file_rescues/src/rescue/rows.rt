@@ -8,9 +8,9 @@ ghost use Rattle.file_rescues.specs.rescue.Rescues.{fault_of};
 use crate::rescue::art::is_art;
 use crate::rescue::hashes::Hash;
 use d64_image::Place;
+use damaged_files::{entry_name, type_name};
 use disk_layout::{EntryView, Fault, Slot};
 use line_text::{CharacterSet, Ending, Quoted, Text, file_name};
-use damaged_files::{entry_name, type_name};
 use std::fmt::{self, Display, Formatter};
 
 /// What the index says of a file.

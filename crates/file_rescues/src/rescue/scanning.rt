@@ -11,8 +11,8 @@ ghost use Rattle.file_rescues.specs.rescue.Scanned as scanned;
 
 use crate::rescue::choices::Choice;
 use d64_image::{MemDisk, Place};
-use disk_layout::{DIRECTORY_TRACK, EntryView, Slot};
 use damaged_files::DirectorySectors;
+use disk_layout::{DIRECTORY_TRACK, EntryView, Slot};
 
 /// Whether the first two bytes end a directory, or link to one of its sectors.
 fn has_directory_link(bytes: &[u8; 256]) -> bool

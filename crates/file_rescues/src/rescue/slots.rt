@@ -5,8 +5,8 @@ ghost use Rattle.disk_layout.specs.Directory.{used_slots};
 
 use arrayvec::ArrayVec;
 use d64_image::{MemDisk, Place};
-use disk_layout::add_used;
 use damaged_files::Entries;
+use disk_layout::add_used;
 
 /// The entries of these directory sectors, in order.
 pub(crate) fn used_of(disk: &MemDisk, directory: &[Place]) -> Entries
