@@ -73,7 +73,7 @@ const RECORD_LINES: Value = Value {
     name: "RECORDS",
     word: None,
     count: Count::One,
-    help: "The records as `records` prints them, or /dev/stdin",
+    help: "The records as `records` prints them; - is standard input",
 };
 
 /// `store IMAGE NAME RECORDS [--accept-loss] [--fields] [--at POSITIONS] [--dry-run]`
@@ -112,7 +112,7 @@ const FILE: Value = Value {
     name: "FILE",
     word: None,
     count: Count::One,
-    help: "The path of the file whose bytes it gets, or /dev/stdin",
+    help: "The path of the file whose bytes it gets; - is standard input",
 };
 
 /// The type of a new file.
@@ -149,7 +149,7 @@ const FROM: Value = Value {
     name: "FROM",
     word: None,
     count: Count::One,
-    help: "The image that has the file, or /dev/stdin",
+    help: "The image that has the file; - is standard input",
 };
 
 /// The name of the copy.

@@ -62,7 +62,7 @@ const SCRIPT: Value = Value {
     name: "SCRIPT",
     word: None,
     count: Count::One,
-    help: "The script, a line each message; /dev/stdin is standard input",
+    help: "The script, a line each message; - is standard input",
 };
 
 /// The flag that plays over a log.

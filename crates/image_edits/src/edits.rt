@@ -20,7 +20,7 @@ use disk_changes::{Change, plain_lines};
 use disk_layout::Fault;
 use folder_changes::{HostImages, show_change};
 use image_file::{EndedFile, HostFiles, Locks};
-use opened_files::{Loss, image_at, script_to_play, see_log_away};
+use opened_files::{Loss, image_at, script_to_play, see_changeable, see_log_away};
 use std::alloc::Global;
 use std::fs::OpenFile;
 use std::io::{Read, Write};
@@ -200,8 +200,8 @@ where
     change_taken(rt, path, image.as_slice(), file, &what, out)
 }
 
-/// The bytes of the image at a path, as its shop is now, or of standard input. `LogAway` if its log has the rest, isn't
-/// there, and no loss is accepted.
+/// The bytes of the image at a path, as its shop is now, or of standard input. `TwoNames` if a change of it would be refused
+/// for that; `LogAway` if its log has the rest, isn't there, and no loss is accepted.
 fn image_to_show<F, R>(rt: &R, path: &str, loss: Loss) -> Result<Vec<u8>, CommandFault>
 where
     F: Locks + OpenFile + Drop,
@@ -213,6 +213,7 @@ where
     ensures err { IfErr result (λ refusal. IsUnbegun refusal ⊎ IsAwayFault loss
         (OfImage R.rights R.stands rt.now path.now (λ all. SaysLogAway (take 174849 all))) refusal) }
 {
+    see_changeable(rt, path)?;
     let image = image_at(rt, path)?;
     see_log_away(image.as_slice(), loss)?;
     Ok(image)

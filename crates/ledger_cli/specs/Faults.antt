@@ -18,6 +18,7 @@ job_number jobs.Id = 7
 job_number jobs.Flags = 8
 job_number jobs.Kind = 9
 job_number jobs.Positions = 10
+job_number jobs.Path = 11
 
 -- the exit status for words that give no job: 3 if memory ran out, 0 if help or the version is asked for
 abbrev pub words_status : ErrorKind → ℕ
@@ -38,3 +39,4 @@ job_status jobs.Id = 2
 job_status jobs.Flags = 2
 job_status jobs.Kind = 2
 job_status jobs.Positions = 2
+job_status jobs.Path = 2

@@ -41,11 +41,14 @@ pub enum JobFault {
     /// which the first is 1 and each is greater than the one before; or they are more than 32.
     #[error("POSITIONS")]
     Positions,
+    /// A file that is to be made, replaced or changed is named `-`, which is standard input.
+    #[error("PATH")]
+    Path,
 }
 
 impl JobFault {
     /// The fault's number: 1 for `Words`, 2 for `Tills`, 3 for `Name`, 4 for `Length`, 5 for `Images`, 6
-    /// for `Sector`, 7 for `Id`, 8 for `Flags`, 9 for `Kind`, 10 for `Positions`.
+    /// for `Sector`, 7 for `Id`, 8 for `Flags`, 9 for `Kind`, 10 for `Positions`, 11 for `Path`.
     pub fn number(&self) -> u8
         ensures { result ≡ job_number self.now }
     {
@@ -60,6 +63,7 @@ impl JobFault {
             JobFault::Flags => 8,
             JobFault::Kind => 9,
             JobFault::Positions => 10,
+            JobFault::Path => 11,
         }
     }
 
@@ -76,7 +80,7 @@ impl JobFault {
             JobFault::Tills | JobFault::Name | JobFault::Length => 2,
             JobFault::Images | JobFault::Sector => 2,
             JobFault::Id | JobFault::Flags | JobFault::Kind => 2,
-            JobFault::Positions => 2,
+            JobFault::Positions | JobFault::Path => 2,
         }
     }
 }

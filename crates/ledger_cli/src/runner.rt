@@ -5,6 +5,7 @@ ghost use Rattle.command_faults.specs.declared.faults.CommandFault.TheVariants a
 ghost use Rattle.ledger_jobs.specs.Jobs.{IsFit};
 ghost use Rattle.ledger_cli.specs.declared.runner.Audience.TheVariants.{Person, Program, Waiting};
 
+use crate::dashes::{read_dashes, writes_dash};
 use crate::faults::JobFault;
 use crate::progress::{Watched, is_long};
 use crate::word_refusals::{print_meaning, refuse, refuse_words};
@@ -311,7 +312,8 @@ where
         told
     };
     match line.job {
-        Ok(job) => obey_job(rt, &job, told, err),
+        Ok(job) if writes_dash(&job) => refuse_words(rt, &JobFault::Path, texts, err),
+        Ok(job) => obey_job(rt, &read_dashes(job), told, err),
         Err(fault) => refuse_words(rt, &fault, texts, err),
     }
 }

@@ -54,6 +54,10 @@ fn explain_words<E: Write>(fault: &JobFault, texts: &[&str], err: &mut E) {
             err,
             "ledger: POSITIONS are up to 32 numbers of 1 to 254, which rise from 1, such as 1,25,49"
         ),
+        JobFault::Path => writeln!(
+            err,
+            "ledger: - is standard input, and no file is made or changed there; a file of that name is ./-"
+        ),
     };
 }
 

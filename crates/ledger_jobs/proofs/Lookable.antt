@@ -15,20 +15,20 @@ if-mapped (Some a) f P holds = holds
 -- a job that may be explained may read its first file
 pub read-first : {H : Type 0} (rights : Rights H) (host : H) (job : Job) → MayExplain rights host job
     → IfSome (first_file job) (MayReadImage rights host)
-read-first rights host (jobs.Format image tills) may = may
-read-first rights host (jobs.FormatNew image tills) may = may
-read-first rights host (jobs.New image name id) may = may
-read-first rights host (jobs.Look image what) may = may
-read-first rights host (jobs.Change image effect edit) may = may
-read-first rights host (jobs.Play image script loss) may = may
-read-first rights host (jobs.PlayLogged image script loss) may = may
-read-first rights host (jobs.Dry script) may = may
-read-first rights host (jobs.Serve image loss) may = may
-read-first rights host (jobs.Copy image copy) may = may
-read-first rights host (jobs.Salvage log copy) may = may
-read-first rights host (jobs.Extract choice image folder) may = may
-read-first rights host (jobs.Trim image) may = may
+read-first rights host (jobs.Format image tills) may = may.0
+read-first rights host (jobs.FormatNew image tills) may = may.0
+read-first rights host (jobs.New image name id) may = may.0
+read-first rights host (jobs.Look image what) may = may.0
+read-first rights host (jobs.Change image effect edit) may = may.0
+read-first rights host (jobs.Play image script loss) may = may.0
+read-first rights host (jobs.PlayLogged image script loss) may = may.0
+read-first rights host (jobs.Dry script) may = may.0
+read-first rights host (jobs.Serve image loss) may = may.0
+read-first rights host (jobs.Copy image copy) may = may.0
+read-first rights host (jobs.Salvage log copy) may = may.0
+read-first rights host (jobs.Extract choice image folder) may = may.0
+read-first rights host (jobs.Trim image) may = may.0
 read-first rights host (jobs.Compare before after) may = may.0
-read-first rights host (jobs.Sheet images) may = may
-read-first rights host (jobs.Describe form images) may = may
-read-first rights host (jobs.Several what images) may = may
+read-first rights host (jobs.Sheet images) may = may.0
+read-first rights host (jobs.Describe form images) may = may.0
+read-first rights host (jobs.Several what images) may = may.0

@@ -3,8 +3,9 @@ use Rattle.std.specs.Prelude.{⊤, ℕ, All, IfSome, List, None, Option, Some}
 use Rattle.ledger_jobs.specs.declared.jobs.Job.{Job}
 use Rattle.ledger_jobs.specs.declared.jobs.Job.TheVariants as jobs
 use Rattle.image_file.specs.paths.Rights.{MayRead, Rights}
+use Rattle.image_edits.specs.declared.edit.Edit.TheVariants as edits
 use Rattle.image_edits.specs.EditRights.{MayEdit, MayReadSource}
-use Rattle.opened_files.specs.Rights.{MayReadImage, MayReadText, MayChangeImage, MayMakeImage, MayFillAt}
+use Rattle.opened_files.specs.Rights.{MayLook, MayReadImage, MayReadText, MayChangeImage, MayMakeImage, MayFillAt}
 
 -- the file that a job reads or writes first; none of a job over several images
 abbrev pub first_file : Job → Option (List ℕ)
@@ -23,6 +24,15 @@ first_file (jobs.Extract choice image folder) = Some image.now
 first_file (jobs.Trim image) = Some image.now
 first_file (jobs.Compare before after) = Some before.now
 first_file _ = None
+
+-- the script that a job plays, or the file of the host whose bytes a change takes
+abbrev pub text_file : Job → Option (List ℕ)
+text_file (jobs.Play image script loss) = Some script.now
+text_file (jobs.PlayLogged image script loss) = Some script.now
+text_file (jobs.Dry script) = Some script.now
+text_file (jobs.Change image effect (edits.Put file kind loss name)) = Some file.now
+text_file (jobs.Change image effect (edits.Store records columns loss name)) = Some records.now
+text_file _ = None
 
 module _ {H : Type 0} (rights : Rights H) (host : H) where
   -- what a job needs of the files that its words name
@@ -46,7 +56,11 @@ module _ {H : Type 0} (rights : Rights H) (host : H) where
   MayDo (jobs.Compare before after) = MayReadImage rights host before.now × MayReadImage rights host after.now
   MayDo (jobs.Several what images) = All (λ image. MayReadImage rights host image.now) images.items
 
-  -- what a line for a person below a refusal needs: to read the job's first file, and both that it compares
+  -- a script, or the file whose bytes a change takes, may be read again and its length be asked
+  abbrev pub MayReadAgain : List ℕ → Type 0
+  MayReadAgain path = MayReadText rights host path × MayLook rights host path
+
+  -- what a line for a person below a refusal needs: to read the job's files
   abbrev pub MayExplain : Job → Type 0
   MayExplain (jobs.Compare before after) = MayReadImage rights host before.now × MayReadImage rights host after.now
-  MayExplain job = IfSome (first_file job) (MayReadImage rights host)
+  MayExplain job = IfSome (first_file job) (MayReadImage rights host) × IfSome (text_file job) MayReadAgain

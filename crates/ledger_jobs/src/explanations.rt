@@ -7,6 +7,7 @@ use crate::announcements::{tell_fault, warn_of_cut};
 use crate::failure_lines::{tell_device, tell_files, tell_of, tell_of_either, tell_of_image};
 use crate::job_files::{first_file, image_of, text_of};
 use crate::jobs::Job;
+use crate::line_lines::tell_line;
 use crate::near_names::tell_name;
 use crate::refusal_subjects::{Advice, LOG_AWAY, said_of_fault, subject_of};
 use crate::size_lines::{missized_of, tell_size};
@@ -89,9 +90,9 @@ where
 }
 
 /// Prints for a person, in a line below the refusal's own, which file it is about, what the system said of it, or what to
-/// do. `cause` is why a call of the system failed, if one did. No file is opened for it, with two exceptions: if no file
-/// has the name, or the image has another size, it is locked with others that read it, and read again. If the line can't
-/// be printed, this isn't reported: nobody reads standard error.
+/// do. `cause` is why a call of the system failed, if one did. No file is opened for it, with three exceptions: if no file
+/// has the name, or the image has another size, it is locked with others that read it, and read again; and a text whose
+/// line is refused is read again. If the line can't be printed, this isn't reported: nobody reads standard error.
 pub fn explain<F, R, E>(
     rt: &R,
     job: &Job<'_>,
@@ -124,6 +125,7 @@ where
         }
         Advice::Either(said) => tell_of_either(err, image, text_of(job).unwrap_or(image), said),
         Advice::Text(said) => tell_of(err, text_of(job).unwrap_or(image), said),
+        Advice::Line(number) => tell_line(rt, job, number, err),
         Advice::Made => tell_made(rt, job, err),
         Advice::Nothing => {}
     }

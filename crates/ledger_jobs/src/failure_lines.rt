@@ -4,9 +4,10 @@ ghost use Rattle.opened_files.specs.Rights.{MayLook};
 
 use crate::job_files::{first_file, image_of};
 use crate::jobs::Job;
+use crate::read_again::text_again;
 use image_edits::Edit;
-use image_file::{Failure, HostFiles, ShownPath, regular_at};
-use opened_files::STANDARD_INPUT;
+use image_file::{Failure, HostFiles, MOST_SCRIPT, ShownPath, regular_at};
+use opened_files::{STANDARD_INPUT, size_of};
 use std::fmt::Display;
 use std::io::{self, ErrorKind, Write};
 
@@ -93,8 +94,34 @@ fn image_at_fault<'a, R: HostFiles>(rt: &R, job: &Job<'a>) -> Option<(&'a str, i
     }
 }
 
-/// Prints that a file wasn't read to its end; or that a tape has no program, or several, since the system said nothing of FILE.
-fn tell_unread<E: Write>(job: &Job<'_>, err: &mut E) {
+/// Prints that a text is longer than one that is read. Returns whether the text that a job reads is so long.
+fn tell_long<R: HostFiles, E: Write>(rt: &R, job: &Job<'_>, err: &mut E) -> bool
+    requires { MayExplain R.rights rt.now job.now }
+{
+    let Some(path) = text_again(rt, job) else {
+        return false;
+    };
+    let Some(size) = size_of(rt, path) else {
+        return false;
+    };
+    if size <= MOST_SCRIPT as u64 {
+        return false;
+    }
+    let shown = ShownPath(path);
+    let _ = writeln!(
+        err,
+        "ledger: {shown}: it has {size} bytes, and at most {MOST_SCRIPT} are read"
+    );
+    true
+}
+
+/// Prints why a file wasn't read of which the system said nothing: it is too long, or a tape of no program, or of several.
+fn tell_unread<R: HostFiles, E: Write>(rt: &R, job: &Job<'_>, err: &mut E)
+    requires { MayExplain R.rights rt.now job.now }
+{
+    if tell_long(rt, job, err) {
+        return;
+    }
     match job {
         Job::Change {
             edit: Edit::Put { file, .. },
@@ -125,7 +152,7 @@ pub(crate) fn tell_files<R: HostFiles, E: Write>(
     }
     match image_at_fault(rt, job) {
         Some((image, error)) => tell_of(err, image, error),
-        None => tell_unread(job, err),
+        None => tell_unread(rt, job, err),
     }
 }
 

@@ -1,6 +1,8 @@
 //! What a file is that isn't an image of 35 tracks, by its first bytes and its size, and which program makes one of it.
 //! The marks are those of the formats' own descriptions.
 
+use d64_image::IMAGE_BYTES;
+
 /// The first bytes of files of other formats, and what is said of each.
 const MARKS: [(&[u8], &str); 6] = [
     (
@@ -36,6 +38,12 @@ const LYNX: &[u8; 4] = b"LYNX";
 const MAP: (usize, [u8; 3]) = (0x16500, [18, 1, b'A']);
 
 const WANTED: &str = "an image of 35 tracks without error bytes has 174848";
+
+const SHORTER: &str = "it is cut short, since 35 tracks have 174848; read the disk again";
+
+const LONGER: &str =
+    "it is longer than 35 tracks, which have 174848, and of no size that an image has; \
+     `head -c 174848 OLD > NEW` takes the first 35, then check NEW";
 
 /// What is said of a file of this size, whatever it has.
 fn said_of_size(bytes: u64) -> Option<&'static str> {
@@ -77,8 +85,8 @@ fn is_text(bytes: &[u8]) -> bool {
     !bytes.is_empty()
 }
 
-/// What is said of a file with these bytes, the first ones that it has.
-fn said_of_bytes(bytes: &[u8]) -> &'static str {
+/// What is said of a file of this size with these bytes, the first ones that it has.
+fn said_of_bytes(size: u64, bytes: &[u8]) -> &'static str {
     for (mark, said) in MARKS {
         if bytes.starts_with(mark) {
             return said;
@@ -92,8 +100,13 @@ fn said_of_bytes(bytes: &[u8]) -> &'static str {
     }
     let (at, map) = MAP;
     match bytes.get(at..at + map.len()) {
-        Some(found) if found == map.as_slice() =>
-            "it is cut short, since 35 tracks have 174848; read the disk again",
+        Some(found) if found == map.as_slice() => {
+            if size > IMAGE_BYTES as u64 {
+                LONGER
+            } else {
+                SHORTER
+            }
+        }
         _ => WANTED,
     }
 }
@@ -102,6 +115,6 @@ fn said_of_bytes(bytes: &[u8]) -> &'static str {
 pub(crate) fn said_of_format(size: u64, bytes: &[u8]) -> &'static str {
     match said_of_size(size) {
         Some(said) => said,
-        None => said_of_bytes(bytes),
+        None => said_of_bytes(size, bytes),
     }
 }

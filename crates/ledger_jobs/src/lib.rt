@@ -2,6 +2,7 @@
 #![tactic(auto)]
 
 mod announcements;
+mod bad_lines;
 mod cures;
 mod dispatch;
 mod explanations;
@@ -9,8 +10,10 @@ mod failure_lines;
 mod formats;
 mod job_files;
 mod jobs;
+mod line_lines;
 mod meanings;
 mod near_names;
+mod read_again;
 mod refusal_subjects;
 mod size_lines;
 mod typed_names;

@@ -3,8 +3,8 @@
 use crate::cures::{FORMAT, GEOS};
 use crate::near_names::NO_SUCH_FILE;
 use crate::refusal_subjects::{
-    BAD_LINE, CUT_SHORT, FEWER, FOREIGN_LOG, KEPT, LOCKED, LOG_AWAY, NAMED, NO_MEMORY, NO_ROOM,
-    NO_SHOP, SECOND_NAME, SHOP_FILE, TAKEN, said_of_fault,
+    BAD_LINE, CUT_SHORT, FEWER, FOREIGN_LOG, KEPT, LOCKED, LOG_AWAY, NAMED, NO_MEMORY, NO_PROGRAM,
+    NO_ROOM, NO_SHOP, SECOND_NAME, SHOP_FILE, TAKEN, said_of_fault,
 };
 use crate::size_lines::SIZE;
 use d64_image::Place;
@@ -56,6 +56,7 @@ const MEANINGS: &[(&str, &str)] = &[
     ("DISK FULL", NO_ROOM),
     ("LOCKED", LOCKED),
     ("SHOP FILE", SHOP_FILE),
+    ("NO PROGRAM", NO_PROGRAM),
     ("NO STOCK", NO_SHOP),
     ("NO REQUESTS", NO_SHOP),
     ("BAD CARD", NO_SHOP),
@@ -100,6 +101,10 @@ const MEANINGS: &[(&str, &str)] = &[
         "a sector is a track and a number there, such as 18/0",
     ),
     ("FLAGS", "these flags don't go together"),
+    (
+        "PATH",
+        "`-` is standard input, which is read; a file that is made or changed has a name",
+    ),
     (
         "IMAGES",
         "this command takes one image, or this flag wants several",

@@ -25,6 +25,8 @@ pub(crate) enum Advice {
     Name,
     /// The script, the records or the other image, of which this is printed.
     Text(&'static str),
+    /// A line of records, of this number.
+    Line(usize),
     /// The image or the other image, of which this is printed.
     Either(&'static str),
     /// A file that is to be made.
@@ -128,7 +130,8 @@ fn about_fault(fault: CommandFault) -> Advice {
         CommandFault::NoStock | CommandFault::NoRequests => Advice::Image(NO_SHOP),
         CommandFault::BadCard(_) | CommandFault::BadRequestCard(_) => Advice::Image(NO_SHOP),
         CommandFault::TwoIntents => Advice::Image(NO_SHOP),
-        CommandFault::ScriptLine(_) | CommandFault::RecordsLine(_) => Advice::Text(BAD_LINE),
+        CommandFault::ScriptLine(_) => Advice::Text(BAD_LINE),
+        CommandFault::RecordsLine(number) => Advice::Line(number),
         CommandFault::Geos => Advice::Image(GEOS),
         CommandFault::Format => Advice::Image(FORMAT),
         CommandFault::Device => Advice::Device,

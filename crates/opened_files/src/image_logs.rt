@@ -2,12 +2,13 @@
 ghost use Rattle.std.specs.Prelude.{◌≡◌, IfErr, IfOk, IsNone, false, string_bytes};
 ghost use Rattle.opened_files.specs.Ends.{log_refusal as refusal_of};
 ghost use Rattle.opened_files.specs.HostFiles.{HasNoLog, IsUnbegun, IsUnopened, IsUnread, IsUntaken};
-ghost use Rattle.opened_files.specs.Rights.{MayChangeImage, MayReadFile};
+ghost use Rattle.opened_files.specs.Rights.{MayChangeImage, MayReadFile, MayReadImage};
 ghost use Rattle.image_log.specs.life.LogRights.{MayKeepLogOf, MayReadLogOf, log_of};
 ghost use Rattle.image_file.specs.paths.Rights.{Look, May, MayRead, MayWrite};
 ghost use Rattle.image_file.specs.paths.Standing.{AreOf, IsMissing};
 ghost use Rattle.image_file.specs.paths.Traces.{IsOpened};
 
+use crate::files::STANDARD_INPUT;
 use crate::locks::{lock_exclusive, lock_shared};
 use crate::losses::Loss;
 use command_faults::CommandFault;
@@ -138,6 +139,22 @@ where
     let mut file = opened_to_read(rt, path)?;
     lock_shared(&mut file)?;
     Ok(file)
+}
+
+/// Refuses the image at a path as a change of it would: `TwoNames` if it has a second name, or is mounted by itself. Standard
+/// input, which no change takes, isn't refused.
+pub fn see_changeable<F, R>(rt: &R, path: &str) -> Result<(), CommandFault>
+where
+    F: Locks + OpenFile + Drop,
+    R: HostFiles<File = F> + AllocGlobal,
+    requires { MayReadImage R.rights rt.now path.now }
+    ensures { IfErr result IsUntaken }
+{
+    if path == STANDARD_INPUT {
+        return Ok(());
+    }
+    let file = opened_shared(rt, path)?;
+    see_one_place(rt, path, &file)
 }
 
 /// Lands the log that stands beside the image at a path, which this program has alone. `Log` if it gives no image: nothing

@@ -20,7 +20,7 @@ pub use extents::Extent;
 pub use files::{STANDARD_INPUT, metadata_of, script_to_play, size_of};
 pub use image_logs::{
     accept_loss, log_refusal, logged_image, opened_alone, opened_and_landed, opened_shared,
-    see_no_lost_log, see_size,
+    see_changeable, see_no_lost_log, see_size,
 };
 pub use locks::{read_owned, read_shared, read_synced};
 pub use losses::{Loss, loss_refusal, see_log_away, see_untagged, short_refusal, shortfall_in};

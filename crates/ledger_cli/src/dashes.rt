@@ -1,0 +1,160 @@
+//! `-` in place of a path: standard input, where a file is read.
+ghost use Rattle.image_edits.specs.Edits.{IsFitEdit};
+ghost use Rattle.ledger_jobs.specs.Jobs.{IsFit};
+
+use image_edits::{Edit, Effect};
+use ledger_jobs::Job;
+use opened_files::STANDARD_INPUT;
+
+/// The word that stands for standard input. A file of this name is written `./-`.
+const DASH: &str = "-";
+
+/// Whether a job makes, replaces or changes a file whose path is `-`. Standard input is read, and no file is made of that
+/// name by mistake.
+pub(crate) fn writes_dash(job: &Job<'_>) -> bool {
+    match job {
+        Job::Format { image, .. } | Job::FormatNew { image, .. } | Job::New { image, .. } => *image
+            == DASH,
+        Job::Play { image, .. } | Job::PlayLogged { image, .. } | Job::Serve { image, .. } => *image
+            == DASH,
+        Job::Change {
+            image,
+            effect: Effect::Written,
+            ..
+        } => *image == DASH,
+        Job::Copy { copy, .. } | Job::Salvage { copy, .. } => *copy == DASH,
+        Job::Extract { folder, .. } => *folder == DASH,
+        _ => false,
+    }
+}
+
+/// The path under which a file is read that is named so.
+fn read_path(path: &str) -> &str {
+    if path == DASH { STANDARD_INPUT } else { path }
+}
+
+/// The same of several files.
+fn read_paths<'a>(mut paths: Vec<&'a str>) -> Vec<&'a str> {
+    for path in paths.as_mut_slice() {
+        *path = read_path(path);
+    }
+    paths
+}
+
+/// The change whose file is read under this path.
+fn read_edit(edit: Edit<'_>) -> Edit<'_>
+    requires { IsFitEdit edit }
+    ensures { IsFitEdit result }
+{
+    match edit {
+        Edit::Put {
+            file,
+            kind,
+            loss,
+            name,
+        } => Edit::Put {
+            file: read_path(file),
+            kind,
+            loss,
+            name,
+        },
+        Edit::CopyFile {
+            from,
+            loss,
+            name,
+            to,
+        } => Edit::CopyFile {
+            from: read_path(from),
+            loss,
+            name,
+            to,
+        },
+        Edit::Store {
+            records,
+            columns,
+            loss,
+            name,
+        } => Edit::Store {
+            records: read_path(records),
+            columns,
+            loss,
+            name,
+        },
+        edit => edit,
+    }
+}
+
+/// The job whose files are read under these paths.
+pub(crate) fn read_dashes(job: Job<'_>) -> Job<'_>
+    requires { IsFit job }
+    ensures fit { IsFit result }
+{
+    match job {
+        Job::Look { image, what } => Job::Look {
+            image: read_path(image),
+            what,
+        },
+        Job::Play {
+            image,
+            script,
+            loss,
+        } => Job::Play {
+            image,
+            script: read_path(script),
+            loss,
+        },
+        Job::PlayLogged {
+            image,
+            script,
+            loss,
+        } => Job::PlayLogged {
+            image,
+            script: read_path(script),
+            loss,
+        },
+        Job::Dry { script } => Job::Dry {
+            script: read_path(script),
+        },
+        Job::Copy { image, copy } => Job::Copy {
+            image: read_path(image),
+            copy,
+        },
+        Job::Extract {
+            choice,
+            image,
+            folder,
+        } => Job::Extract {
+            choice,
+            image: read_path(image),
+            folder,
+        },
+        Job::Change {
+            image,
+            effect,
+            edit,
+        } => Job::Change {
+            image: read_path(image),
+            effect,
+            edit: read_edit(edit),
+        },
+        Job::Trim { image } => Job::Trim {
+            image: read_path(image),
+        },
+        Job::Sheet { images } => Job::Sheet {
+            images: read_paths(images),
+        },
+        Job::Describe { form, images } => Job::Describe {
+            form,
+            images: read_paths(images),
+        },
+        Job::Compare { before, after } => Job::Compare {
+            before: read_path(before),
+            after: read_path(after),
+        },
+        Job::Several { what, images } => Job::Several {
+            what,
+            images: read_paths(images),
+        },
+        job => job,
+    }
+}
