@@ -1,24 +1,29 @@
 -- What the changes leave of the first closed relative file of a name.
-use Rattle.std.proofs.Common.{◌≡◌, ◌≢◌, ◌≤◌, ◌+◌, ◌-◌, ◌∙◌, ◌++◌, ◌∷◌, ℕ, Bool, false, List, [], Some, ap, append_assoc, length-append, arith, drop, inl, inr, length, map, option_map, refl, slice_get, subst, suc, sym, take}
+use Rattle.std.proofs.Common.{◌≡◌, ◌≢◌, ◌≤◌, ◌+◌, ◌-◌, ◌∙◌, ◌++◌, ◌∷◌, ℕ, Bool, false, List, [], Some, ap, append_assoc, length-append, arith, drop, inl, inr, length, map, option_map, refl, slice_get, subst, suc, sym, take, true}
 use Rattle.std.specs.Prelude.{Contains, codes, filter, flat_map, replicate, slice_range}
 use Rattle.std.proofs.lemmas.Bool.{cases_lt, false≢true}
 use Rattle.std.proofs.lemmas.List.{drop_at, length-drop, length-replicate, length-take, length-take-le, map-append, set_split, take_at}
 use Rattle.std.proofs.lemmas.Option.{same_Some, slice_get-map}
-use Rattle.std.proofs.lemmas.List.Elements.{Contains-append_left, Contains-append_right, filter-append}
+use Rattle.std.proofs.lemmas.List.Elements.{Contains-append_left, Contains-append_right}
 use Rattle.d64_image.specs.History.{History}
 use Rattle.d64_image.specs.Images.{Image, sector}
 use Rattle.d64_image.specs.Offsets.{overwritten}
 use Rattle.d64_image.specs.declared.place.Place.{Place}
 use Rattle.d64_image.specs.Memory.{disk_image, sectors_in}
 use Rattle.damaged_files.specs.declared.sides.planning.Loss.{Loss}
-use Rattle.damaged_files.specs.declared.sides.planning.Loss.TheVariants.{Refused}
+use Rattle.damaged_files.specs.declared.sides.planning.Loss.TheVariants.{Accepted, Refused}
 use Rattle.disk_changes.proofs.UnsoundArt.{sound-artless}
-use Rattle.disk_changes.specs.Changes.{IsChanged, IsDone}
+use Rattle.disk_changes.specs.Changes.{IsChanged, IsDone, IsFit}
+use Rattle.disk_changes.specs.Copies.{HasLockOf, IsCopyAs, IsRecordCopyOf}
+use Rattle.disk_changes.specs.Rebuilds.{IsBuiltAnew, IsRebuilt}
+use Rattle.disk_changes.specs.declared.changes.Lock.TheVariants.{Set}
+use Rattle.changed_life.proofs.Rebuilt.{built-keeps, named-same}
+use Rattle.changed_life.proofs.Settled.{settled-keeps}
 use Rattle.disk_changes.specs.Deletes.{IsDeleted}
 use Rattle.disk_changes.specs.Makes.{IsMade}
 use Rattle.disk_changes.specs.Puts.{IsPut}
 use Rattle.disk_changes.specs.Renames.{IsRenamed}
-use Rattle.disk_changes.specs.Repairs.{IsRepaired}
+use Rattle.disk_changes.specs.Repairs.{IsMended, IsRepaired}
 use Rattle.disk_changes.specs.ShopFiles.{HasShopFile, IsRelativeOf, IsShopSlot}
 use Rattle.disk_changes.specs.Stores.{IsStored}
 use Rattle.disk_changes.specs.Titles.{IsTitled}
@@ -48,15 +53,25 @@ use Rattle.host_session.proofs.lemmas.writing.SameEntries.{first-kept as still-f
 use Rattle.host_session.proofs.lemmas.writing.Mended.{on-repair, stay-length, stay-records}
 use Rattle.host_session.proofs.lemmas.shop.Shops.{IsShop-one}
 use Rattle.host_session.specs.shop.Shop.{IsShop, Shop}
-use Rattle.layout_check.specs.Mended.{IsMended}
+use Rattle.layout_check.specs.Mended as layouts
 use Rattle.shop_life.proofs.Kept.{kept}
 use Rattle.shop_life.proofs.Later.{at_the_end, begins_at}
 use Rattle.shop_life.specs.Chapters.{IsChapter, KeepsCards}
 use Rattle.shop_life.specs.Lives.{IsLife, Step, disk_at, off, shop_after, went_all}
 use Rattle.shop_life.specs.Lives as lives
 use Rattle.shop_life.specs.OneList.{counted_from}
-use Rattle.changed_life.specs.Changes.{IsJoined, KeepsRecords, KeepsShops}
-use Rattle.changed_life.proofs.Firsts.{first-kept, is_of, not-of}
+use Rattle.changed_life.specs.Changes.{KeepsRecords, KeepsShops, SparesCards}
+use Rattle.changed_life.proofs.Entries.{one-more}
+use Rattle.d64_image.specs.declared.mem_disk.MemDisk.{MemDisk}
+use Rattle.disk_changes.specs.Sorts.{IsSorted}
+use Rattle.disk_changes.specs.Undeletes.{IsKeptRight, IsUndeleted, entry_number, with_type}
+use Rattle.disk_changes.specs.declared.entry_types.EntryType.{EntryType}
+use Rattle.changed_life.proofs.Locked.{locked-keeps}
+use Rattle.changed_life.proofs.Sorted.{sorted-keeps}
+use Rattle.changed_life.proofs.Undeleted.{undeleted-keeps}
+use Rattle.disk_changes.specs.Locks.{IsLockSet, with_lock}
+use Rattle.disk_changes.specs.declared.changes.Lock.{Lock}
+use Rattle.changed_life.proofs.Firsts.{file-at, first-kept, is_of, not-entry, stays-tell}
 use Rattle.changed_life.proofs.Shops.{kept-shop}
 
 -- where the files of the name are the same
@@ -65,19 +80,13 @@ records-kept : (a c : Image) (l m : Layout) (name : List ℕ) (L : ℕ) (n : ℕ
     → record_length f.slot ≡ L
     → (k : ℕ) × (g : File) × IsFirst m name k g × (record_length g.slot ≡ L) × (records c g ≡ records a f)
 records-kept a c l m name L n f same first long =
-    let r = first-kept a c l m name same n f first in
+    let r = first-kept (is_of name) (stays_of a) (stays_of c) l m name (stays-tell a name) (stays-tell c name) same n f first in
     (r.0, r.1, r.2, stay-length a c f r.1 r.3 ∙ long, stay-records a c f r.1 r.3)
-
--- one more among them
-one-more : (p : Stays → Bool) (before after : List Stays) (x : Stays) → p x ≡ false
-    → filter p (before ++ x ∷ after) ≡ filter p (before ++ after)
-one-more p before after x out = filter-append p before (x ∷ after)
-    ∙ ap (λ (zs : List Stays). filter p before ++ zs) (rw out refl) ∙ sym (filter-append p before after)
 
 added : (a c : Image) (l m : Layout) (x : File) (name : List ℕ) → AddsFile a c l m x → ¬ (IsNamed name x)
     → filter (is_of name) (map (stays_of c) m.files) ≡ filter (is_of name) (map (stays_of a) l.files)
 added a c l m x name adds other = ap (filter (is_of name)) adds.has
-    ∙ one-more (is_of name) adds.before adds.after (stays_of c x) (not-of c name x other)
+    ∙ one-more (is_of name) adds.before adds.after (stays_of c x) (not-entry name x other)
     ∙ sym (ap (filter (is_of name)) adds.had)
 
 -- a file that is put isn't relative
@@ -119,25 +128,36 @@ make-keeps image name size cut made x =
         n f (added (sectors_in image) (disk_image made.disk) x.before.layout x.after.layout x.after.file of x.after.adds
         (other of n f first)) first long
 
--- a repair that accepts no loss leaves the same shop
-pub repair-stays : (image : List ℕ) (free : Bool) (made : Changed) (s : Shop) → IsRepaired image free Refused made
+-- a disk that is mended is the same shop's
+mended-stays : (image : List ℕ) (free : Bool) (made : Changed) (s : Shop) → IsMended image free made
     → IsShop (sectors_in image) s → IsShop (disk_image made.disk) s
-repair-stays image free made s x shop =
-    let mended = x.2.mended in
+mended-stays image free made s x shop =
+    let mended = x.mended in
     let old = sectors_in image in
     let new = disk_image made.disk in
     let h = shop.has in
     let same : mended.before ≡ h.layout = IsLayout-one old mended.before h.layout mended.sound h.is_layout in
-    let from : IsMended old h.layout new = subst (λ (l : Layout). IsMended old l new) same (record {
+    let from : layouts.IsMended old h.layout new = subst (λ (l : Layout). layouts.IsMended old l new) same (record {
       layout = mended.after;
       sound = mended.clean.layout;
       same = mended.same;
     }) in
     record { files = shop.files; has = on-repair old new shop.files h from; records = shop.records; is = shop.is }
 
-pub repair-keeps : (image : List ℕ) (free : Bool) (made : Changed) → IsRepaired image free Refused made
+pub repair-stays : (image : List ℕ) (free : Bool) (made : Changed) (s : Shop) → IsRepaired image free Refused made
+    → IsShop (sectors_in image) s → IsShop (disk_image made.disk) s
+repair-stays image free made s x = mended-stays image free made s x.2
+
+mended-keeps : (image : List ℕ) (free : Bool) (made : Changed) → IsMended image free made
     → KeepsShops (sectors_in image) (disk_image made.disk)
-repair-keeps image free made x s shop = (s, repair-stays image free made s x shop, (refl, refl))
+mended-keeps image free made x s shop = (s, mended-stays image free made s x shop, (refl, refl))
+
+-- one change after another
+keeps-both : (a b c : Image) → KeepsShops a b → KeepsShops b c → KeepsShops a c
+keeps-both a b c first second s shop =
+    let r = first s shop in
+    let t = second r.0 r.1 in
+    (t.0, t.1, (t.2.0 ∙ r.2.0, t.2.1 ∙ r.2.1))
 
 -- files whose sectors are the same stay
 stays-all : (a c : Image) (fs : List File) → ((g : File) → Contains fs g → AgreeAt a c g.blocks)
@@ -254,7 +274,7 @@ module _ (image name : List ℕ) (cut : Loss) (made : Changed) (x : IsDeleted im
 
   keeps : (of : List ℕ) (L : ℕ) → ((s : Slot) → IsRelativeOf of L s → IsShopSlot s) → KeepsRecords a c l m of L
   keeps of L shops n f first long =
-      let out = not-of a of lost.file (not-shops image name l x.before.taken.0 sound x.other lost.number lost.file
+      let out = not-entry of lost.file (not-shops image name l x.before.taken.0 sound x.other lost.number lost.file
       lost.of.file lost.of.first of L shops n f first long) in
       records-kept a c l m of L n f (ap (filter (is_of of)) has
       ∙ sym (one-more (is_of of) (map (stays_of a) front) (map (stays_of a) behind) (stays_of a lost.file) out)
@@ -338,9 +358,9 @@ module _ (image from to : List ℕ) (few : length to ≤ 16) (made : Changed) (x
   kept-files : (of : List ℕ) (L : ℕ) → ((s : Slot) → IsRelativeOf of L s → IsShopSlot s)
       → KeepsRecords old-image new-image old-layout new-layout of L
   kept-files of L shops n f first long =
-      let was = not-of old-image of one (not-shops image from old-layout x.before.size x.before.sound x.other x.after.number
+      let was = not-entry of one (not-shops image from old-layout x.before.size x.before.sound x.other x.after.number
       one x.after.of.file x.after.of.first of L shops n f first long) in
-      let is = not-of new-image of now (λ named. x.after.of.free n f.slot
+      let is = not-entry of now (λ named. x.after.of.free n f.slot
       (slice_get-map (λ (y : File). y.slot) old-layout.files n ∙ ap (option_map (λ (y : File). y.slot)) first.file)
       (first.named.1 ∙ sym named.1 ∙ is-named)) in
       let xs = map (stays_of old-image) those-before in
@@ -352,6 +372,41 @@ module _ (image from to : List ℕ) (few : length to ≤ 16) (made : Changed) (x
   pub rename-keeps : KeepsShops (sectors_in image) (disk_image made.disk)
   rename-keeps = kept-shop old-image new-image old-layout new-layout x.before.sound x.after.done.layout
       (kept-files (codes "STOCK") 18 (λ s is. inl is)) (kept-files (codes "REQUESTS") 127 (λ s is. inr is))
+
+-- a file locked or unlocked
+pub lock-keeps : (image name : List ℕ) (lock : Lock) (made : Changed) → IsLockSet image name lock made
+    → KeepsShops (sectors_in image) (disk_image made.disk)
+lock-keeps image name lock made x =
+    let l = x.before.layout in
+    let f = file-at {X = Slot} (λ _. true) (λ (g : File). g.slot) l.files x.number x.entry x.first.there in
+    let named : IsFirstNamed (entries_of l) (slot_name name) x.number f.0.slot = subst
+    (λ (s : Slot). IsFirstNamed (entries_of l) (slot_name name) x.number s) (sym f.2) x.first in
+    subst (KeepsShops (sectors_in image)) (sym (x.after ∙ ap (λ (s : Slot). with_lock (sectors_in image) s lock) (sym f.2)))
+    (locked-keeps image l x.number f.0 lock x.before.size x.before.sound f.1
+    (λ of L i y shops. not-shops image name l x.before.size x.before.sound x.other x.number f.0 f.1 named of L shops i y))
+
+-- the directory in another order
+pub sort-keeps : (image : List ℕ) (made : Changed) → IsSorted image made → KeepsShops (sectors_in image) (disk_image made.disk)
+sort-keeps image made x = subst (KeepsShops (sectors_in image)) (sym x.after)
+    (sorted-keeps image x.bytes x.before.layout x.sound.layout x.before.size x.before.sound x.sound.sound x.reordered)
+
+-- a deleted file that is a file again
+pub undelete-keeps : (image name : List ℕ) (kind : EntryType) (cut : Loss) (made : Changed) → IsUndeleted image name kind cut made
+    → KeepsShops (sectors_in image) (disk_image made.disk)
+undelete-keeps image name kind cut made x =
+    let r = x.retyped in
+    let a = sectors_in image in
+    let mended = kept-right x.bytes cut x.second x.repaired in
+    let m = mended.mended.before in
+    let is : IsLayout (with_type a r.entry kind) m = subst (λ (i : Image). IsLayout i m) r.is mended.mended.sound in
+    let first : KeepsShops a (sectors_in x.bytes) = subst (KeepsShops a) (sym r.is)
+    (undeleted-keeps image name r.before.layout r.entry (entry_number kind) r.before.size r.before.sound r.of m is) in
+    subst (λ (d : MemDisk). KeepsShops a (disk_image d)) (sym x.disk)
+    (keeps-both a (sectors_in x.bytes) (disk_image x.second.disk) first (mended-keeps x.bytes false x.second mended))
+  where
+    kept-right : (bytes : List ℕ) (cut : Loss) (second : Changed) → IsKeptRight bytes cut second → IsMended bytes false second
+    kept-right bytes Refused second y = y.2
+    kept-right bytes Accepted second y = y
 
 -- records stored in a file of another name
 pub store-keeps : (image name given : List ℕ) (cut : Loss) (made : Changed) → IsStored image name given cut made
@@ -376,44 +431,110 @@ store-keeps image name given cut made x no-stock no-requests =
           records-same (sectors_in image) (disk_image made.disk) f (o.bytes n f away first.file),
         )
 
--- What comes of a change that is joined.
-joined-keeps : (what : Change) (image : List ℕ) (made : Changed) → IsJoined what → IsDone what image made
+-- a file that may be locked then
+lock-after : (a : Image) (entry : Slot) (to : List ℕ) (first : Changed) (disk : MemDisk)
+    → KeepsShops a (disk_image first.disk) → HasLockOf entry to first disk → KeepsShops a (disk_image disk)
+lock-after a entry to first disk keeps (inl (unlocked, same)) = subst (λ (d : MemDisk). KeepsShops a (disk_image d)) (sym same) keeps
+lock-after a entry to first disk keeps (inr (locked, bytes, held, (second, is, same))) =
+    subst (λ (d : MemDisk). KeepsShops a (disk_image d)) (sym same)
+    (keeps-both a (sectors_in bytes) (disk_image second.disk) (subst (KeepsShops a) (sym held) keeps)
+    (lock-keeps bytes to Set second is))
+
+-- records copied into a new file: its name is no shop's, because those files are there
+records-copied : (entry : Slot) (given to image : List ℕ) (cut : Loss) (made : Changed)
+    → IsRecordCopyOf entry given to image cut made → KeepsShops (sectors_in image) (disk_image made.disk)
+records-copied entry given to image cut made x s shop =
+    let a = sectors_in image in
+    let l = x.new.before.layout in
+    let h = shop.has in
+    let same : h.layout ≡ l = IsLayout-one a h.layout l h.is_layout x.new.before.usable.clean.layout in
+    let other : (name : List ℕ) (n : ℕ) (f : File) → IsFirst h.layout name n f → slot_name to ≢ slot_name name =
+    λ name n f first e.
+    let one = subst (λ (k : Layout). IsFirst k name n f) same first in
+    x.new.free (f, get-contains l.files n f one.file, one.named.1 ∙ sym e) in
+    let filled : KeepsShops a (disk_image x.second.disk) = keeps-both a (sectors_in x.bytes) (disk_image x.second.disk)
+    (subst (KeepsShops a) (sym x.held) (make-keeps image to (record_length entry) cut x.first x.new))
+    (store-keeps x.bytes to given cut x.second x.filled
+    (other (codes "STOCK") h.stock_place h.stock_file h.stock_first)
+    (other (codes "REQUESTS") h.requests_place h.requests_file h.requests_first)) in
+    lock-after a entry to x.second made.disk filled x.lock s shop
+
+copied-as : (entry : Slot) (content source name to image : List ℕ) (cut : Loss) (made : Changed)
+    → IsCopyAs entry content source name to image cut made → KeepsShops (sectors_in image) (disk_image made.disk)
+copied-as entry content source name to image cut made (inl (plain, x)) =
+    lock-after (sectors_in image) entry to x.first made.disk (put-keeps image to x.kind content cut x.first x.put) x.lock
+copied-as entry content source name to image cut made (inr (relative, given, text, x)) =
+    records-copied entry given to image cut made x
+
+-- a disk repaired, whether or not a loss is accepted
+repair-keeps : (image : List ℕ) (free : Bool) (cut : Loss) (made : Changed) → IsRepaired image free cut made
     → KeepsShops (sectors_in image) (disk_image made.disk)
-joined-keeps (changes.Rename from to) image made joined done = rename-keeps image from.now to.now joined made done
-joined-keeps (changes.Title id name) image made joined done = title-keeps image name.now id made done
-joined-keeps (changes.Lock lock name) image made joined done = absurd joined
-joined-keeps (changes.Delete name cut) image made joined done = delete-keeps image name.now cut made done
-joined-keeps (changes.Undelete kind name cut) image made joined done = absurd joined
-joined-keeps changes.Sort image made joined done = absurd joined
-joined-keeps (changes.Put name kind content cut) image made joined done =
+repair-keeps image free Refused made x = mended-keeps image free made x.2
+repair-keeps image free Accepted made x =
+    let a = sectors_in image in
+    let m = x.mended.mended in
+    subst (KeepsShops a) (sym x.disk) (keeps-both a (sectors_in x.bytes) (disk_image x.second.disk)
+    (settled-keeps image x.bytes m.before x.size x.settled m.sound) (mended-keeps x.bytes free x.second x.mended))
+
+-- side sectors built anew, and then that
+anew-keeps : (image : List ℕ) (free : Bool) (cut : Loss) (made : Changed) → IsBuiltAnew image free cut made
+    → KeepsShops (sectors_in image) (disk_image made.disk)
+anew-keeps image free cut made x s shop =
+    let a = sectors_in image in
+    let first : KeepsShops a (sectors_in x.bytes) =
+    built-keeps a (sectors_in x.bytes) shop.has.layout shop.has.is_layout x.built.2 in
+    subst (λ (d : MemDisk). KeepsShops a (disk_image d)) (sym x.disk)
+    (keeps-both a (sectors_in x.bytes) (disk_image x.second.disk) first
+    (repair-keeps x.bytes free cut x.second x.repaired)) s shop
+
+rebuild-keeps : (image : List ℕ) (free : Bool) (cut : Loss) (made : Changed) → IsRebuilt image free cut made
+    → KeepsShops (sectors_in image) (disk_image made.disk)
+rebuild-keeps image free cut made (inl x) = anew-keeps image free cut made x
+rebuild-keeps image free cut made (inr x) = λ s shop.
+    let a = sectors_in image in
+    let same : sectors_in x.bytes ≡ a = named-same a (sectors_in x.bytes) shop.has.layout shop.has.is_layout x.named in
+    subst (λ (d : MemDisk). KeepsShops a (disk_image d)) (sym x.disk)
+    (subst (λ (i : Image). KeepsShops i (disk_image x.second.disk)) same
+    (anew-keeps x.bytes free cut x.second x.built)) s shop
+
+-- What comes of a change.
+done-keeps : (what : Change) (image : List ℕ) (made : Changed) → IsFit what → SparesCards what → IsDone what image made
+    → KeepsShops (sectors_in image) (disk_image made.disk)
+done-keeps (changes.Rename from to) image made fit spares done = rename-keeps image from.now to.now fit made done
+done-keeps (changes.Title id name) image made fit spares done = title-keeps image name.now id made done
+done-keeps (changes.Lock lock name) image made fit spares done = lock-keeps image name.now lock made done
+done-keeps (changes.Delete name cut) image made fit spares done = delete-keeps image name.now cut made done
+done-keeps (changes.Undelete kind name cut) image made fit spares done = undelete-keeps image name.now kind cut made done
+done-keeps changes.Sort image made fit spares done = sort-keeps image made done
+done-keeps (changes.Put name kind content cut) image made fit spares done =
     put-keeps image name.now kind content.now cut made done
-joined-keeps (changes.CopyFile source name to cut) image made joined done = absurd joined
-joined-keeps (changes.Make name L cut) image made joined done = make-keeps image name.now L cut made done
-joined-keeps (changes.Store name text cut) image made joined done =
-    store-keeps image name.now text.now cut made done joined.0 joined.1
-joined-keeps (changes.Repair free cut) image made joined done = repair-keeps image free made
-    (subst (λ (x : Loss). IsRepaired image free x made) joined done)
-joined-keeps (changes.Rebuild free cut) image made joined done = absurd joined
+done-keeps (changes.CopyFile source name to cut) image made fit spares done =
+    copied-as done.entry done.content source.now name.now to.now image cut made done.copy
+done-keeps (changes.Make name L cut) image made fit spares done = make-keeps image name.now L cut made done
+done-keeps (changes.Store name text cut) image made fit spares done =
+    store-keeps image name.now text.now cut made done spares.0 spares.1
+done-keeps (changes.Repair free cut) image made fit spares done = repair-keeps image free cut made done
+done-keeps (changes.Rebuild free cut) image made fit spares done = rebuild-keeps image free cut made done
 
 -- a shop's disk has no art that would be put aside
-pub changes-keep : (what : Change) (image : List ℕ) (made : Changed) → IsJoined what → IsChanged what image made
-    → KeepsShops (sectors_in image) (disk_image made.disk)
-changes-keep what image made joined (inl done) s shop = joined-keeps what image made joined done s shop
-changes-keep what image made joined (inr beside) s shop = absurd
+pub changes-keep : (what : Change) (image : List ℕ) (made : Changed) → IsFit what → SparesCards what
+    → IsChanged what image made → KeepsShops (sectors_in image) (disk_image made.disk)
+changes-keep what image made fit spares (inl done) s shop = done-keeps what image made fit spares done s shop
+changes-keep what image made fit spares (inr beside) s shop = absurd
     (sound-artless image beside.1.aside.entries (shop.has.layout, shop.has.is_layout) beside.1.aside.art)
 
 -- a chapter that ends with it
 pub chapter : {D : Type 0} (hist : History D) (s : Shop) (disk last next : D) (steps : List (Step D)) (what : Change)
     (image : List ℕ) (made : Changed) → IsShop (hist.image disk) s → IsLife hist (off disk) steps
-    → went_all (off disk) steps ≡ off last → hist.image last ≡ sectors_in image → IsJoined what → IsChanged what image made
+    → went_all (off disk) steps ≡ off last → hist.image last ≡ sectors_in image → IsFit what → SparesCards what → IsChanged what image made
     → hist.image next ≡ disk_image made.disk
     → (t : Shop) × IsChapter hist disk (record { steps = steps; next = next; shop = t })
-chapter hist s disk last next steps what image made shop life ended is joined changed after =
+chapter hist s disk last next steps what image made shop life ended is fit spares changed after =
     let k = kept hist s [] (off disk) steps (begins_at hist s disk shop) life in
     let u = shop_after s (counted_from [] k.0) in
     let at : IsShop (hist.image last) u = subst (λ (p : lives.Place _). IsShop (hist.image (disk_at p)) u) ended
     (at_the_end hist s [] (off disk) steps k.0 (begins_at hist s disk shop) k.1).shop in
-    let r = changes-keep what image made joined changed u (subst (λ (i : Image). IsShop i u) is at) in (
+    let r = changes-keep what image made fit spares changed u (subst (λ (i : Image). IsShop i u) is at) in (
       r.0,
       record {
         life = life;

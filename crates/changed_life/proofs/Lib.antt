@@ -1,3 +1,11 @@
 mod Firsts
+mod Blocks
 mod Shops
+mod Entries
+mod OneByte
+mod Locked
+mod Undeleted
+mod Sorted
+mod Settled
+mod Rebuilt
 mod Changed

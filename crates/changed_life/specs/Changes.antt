@@ -1,7 +1,6 @@
--- What commands between two lives leave of a shop: which of them keep its cards and tills. All of it is our own.
-use Rattle.std.specs.Prelude.{◌≡◌, ◌≢◌, ◌≤◌, ℕ, List, codes, length}
+-- What commands between two lives leave of a shop. All of it is our own.
+use Rattle.std.specs.Prelude.{◌≡◌, ◌≢◌, ℕ, List, codes}
 use Rattle.d64_image.specs.Images.{Image}
-use Rattle.damaged_files.specs.declared.sides.planning.Loss.TheVariants.{Refused}
 use Rattle.disk_changes.specs.declared.changes.Change.{Change}
 use Rattle.disk_changes.specs.declared.changes.Change.TheVariants as changes
 use Rattle.disk_layout.specs.Layout.{File, Layout, record_length}
@@ -19,15 +18,8 @@ abbrev pub KeepsRecords : (old new : Image) → Layout → Layout → (name : Li
 KeepsRecords old new l m name L = (n : ℕ) (f : File) → IsFirst l name n f → record_length f.slot ≡ L
     → (k : ℕ) × (g : File) × IsFirst m name k g × (record_length g.slot ≡ L) × (records new g ≡ records old f)
 
--- The changes of which it is proved that they keep a shop's cards: another name of the disk or of a file, which has at most sixteen
--- bytes; a file less or more; records stored in a file of another name than a shop's; and a repair that accepts no loss.
-abbrev pub IsJoined : Change → Type 0
-IsJoined (changes.Rename from to) = length to.now ≤ 16
-IsJoined (changes.Title id name) = Unit {0}
-IsJoined (changes.Delete name cut) = Unit {0}
-IsJoined (changes.Put name kind content cut) = Unit {0}
-IsJoined (changes.Make name L cut) = Unit {0}
-IsJoined (changes.Store name text cut) = (slot_name name.now ≢ slot_name (codes "STOCK"))
+-- the change stores no records in a file of the name of one of a shop's files
+abbrev pub SparesCards : Change → Type 0
+SparesCards (changes.Store name text cut) = (slot_name name.now ≢ slot_name (codes "STOCK"))
     × (slot_name name.now ≢ slot_name (codes "REQUESTS"))
-IsJoined (changes.Repair free cut) = cut ≡ Refused
-IsJoined _ = ⊥
+SparesCards _ = Unit {0}

@@ -1,10 +1,10 @@
 //! Laws of the changes between two lives, each the contract of a function that does nothing.
 ghost use Rattle.std.specs.Prelude.{◌≡◌, ℕ, Bool, List, codes};
-ghost use Rattle.changed_life.specs.Changes.{IsJoined, KeepsRecords, KeepsShops};
+ghost use Rattle.changed_life.specs.Changes.{KeepsRecords, KeepsShops, SparesCards};
 ghost use Rattle.d64_image.specs.Images.{Image};
 ghost use Rattle.d64_image.specs.Memory.{disk_image, sectors_in};
 ghost use Rattle.damaged_files.specs.declared.sides.planning.Loss.TheVariants.{Refused};
-ghost use Rattle.disk_changes.specs.Changes.{IsChanged};
+ghost use Rattle.disk_changes.specs.Changes.{IsChanged, IsFit};
 ghost use Rattle.disk_changes.specs.Repairs.{IsRepaired};
 ghost use Rattle.disk_changes.specs.declared.changes.Change.{Change};
 ghost use Rattle.disk_changes.specs.declared.changes.Changed.{Changed};
@@ -23,9 +23,10 @@ pub fn kept_files_keep_the_cards()
         → KeepsShops old new }
 {}
 
-/// What `change` leaves of a shop's disk is the disk of a shop with the same cards and tills, if the change is one of these.
+/// What `change` leaves of a shop's disk is the disk of a shop with the same cards and tills. This holds of each change but one
+/// that stores records in a file of a shop.
 pub fn the_changes_keep_the_cards()
-    ensures { (what : Change) (image : List ℕ) (made : Changed) → IsJoined what → IsChanged what image made
+    ensures { (what : Change) (image : List ℕ) (made : Changed) → IsFit what → SparesCards what → IsChanged what image made
         → KeepsShops (sectors_in image) (disk_image made.disk) }
 {}
 
@@ -39,7 +40,7 @@ pub fn a_repair_leaves_the_same_shop()
 pub fn a_change_begins_a_chapter<D: Sectors>()
     ensures { (s : Shop) (disk last next : D) (steps : List (Step D)) (what : Change) (image : List ℕ) (made : Changed)
         → IsShop (D.history.image disk) s → IsLife D.history (off disk) steps → went_all (off disk) steps ≡ off last
-        → D.history.image last ≡ sectors_in image → IsJoined what → IsChanged what image made
+        → D.history.image last ≡ sectors_in image → IsFit what → SparesCards what → IsChanged what image made
         → D.history.image next ≡ disk_image made.disk
         → (t : Shop) × IsChapter D.history disk (record { steps = steps; next = next; shop = t }) }
 {}

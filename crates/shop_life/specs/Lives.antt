@@ -42,7 +42,7 @@ pub data Step (D : Type 0) : Type 0 where
   loses_power : D → Step D
   -- the session ended, and its disk stays
   ends : Step D
-  -- without a session, the disk was repaired or copied, or came to another device
+  -- without a session, the disk was copied, or came to another device
   moves : D → Step D
 
 -- where an opening leads
