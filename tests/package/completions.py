@@ -5,7 +5,8 @@
 
 NAME is the command, the others are its completions' files. bash and zsh run at a terminal of their own, where lines are typed with
 the tabulator key in them; a stand-in for the command prints the words that it gets. fish is asked what it would complete. Files'
-names have blanks and quotation marks. Wants Debian's packages bash, zsh and fish. The status is 1 where a shell says something else."""
+names have blanks and quotation marks. All is done again under the short name `ledger`, once what KEEPERS says for each shell was done.
+Wants Debian's packages bash, zsh and fish. The status is 1 where a shell says something else."""
 
 import os
 import pty
@@ -103,11 +104,11 @@ def see(shell, name, terminal, first):
     return len(LINES)
 
 
-def see_fish(name, file, folder, path):
+def see_fish(name, first, folder, path):
     """Asks fish what it would complete at the end of each line that ends with a tabulator key; gives how many there were."""
     asked = [(typed.removesuffix("\t"), words[-1]) for typed, words in LINES if typed.count("\t") == 1 and typed.endswith("\t")]
     for typed, wanted in asked:
-        done = subprocess.run(["fish", "--no-config", "-c", f"source {file}; complete -C $argv[1]", f"{name} {typed}"], cwd=folder,
+        done = subprocess.run(["fish", "--no-config", "-c", f"{first}; complete -C $argv[1]", f"{name} {typed}"], cwd=folder,
                               stdout=subprocess.PIPE, check=True, text=True, env={"PATH": f"{path}:/usr/bin:/bin", "HOME": str(folder)})
         found = [row.split("\t")[0].replace("\\", "") for row in done.stdout.splitlines()]
         want(any(it.endswith(wanted.removeprefix("./")) for it in found), f"fish: {typed!r} gives {found}, not {wanted}")
@@ -124,11 +125,14 @@ def main(name, bash, zsh, fish):
         (path / name).write_text(STAND_IN)
         (path / name).chmod(0o755)
         (functions / f"_{name}").write_bytes(Path(zsh).read_bytes())
-        tried = see("bash", name, Terminal(["bash", "--norc", "--noprofile", "-i"], folder, path), (
-            "bind 'set enable-bracketed-paste off'", f"source {Path(bash).resolve()}"))
-        tried += see("zsh", name, Terminal(["zsh", "-f", "-i"], folder, path), (
-            f"fpath=({functions} $fpath); unset zle_bracketed_paste; autoload -Uz compinit; compinit -u -D",))
-        tried += see_fish(name, Path(fish).resolve(), folder, path)
+        (path / "ledger").symlink_to(name)
+        tried = 0
+        for typed, for_zsh, for_fish in ((name, (), ""), ("ledger", (f"compdef _{name} ledger",), f"; complete -c ledger -w {name}")):
+            tried += see("bash", typed, Terminal(["bash", "--norc", "--noprofile", "-i"], folder, path), (
+                "bind 'set enable-bracketed-paste off'", f"source {Path(bash).resolve()}"))
+            tried += see("zsh", typed, Terminal(["zsh", "-f", "-i"], folder, path), (
+                f"fpath=({functions} $fpath); unset zle_bracketed_paste; autoload -Uz compinit; compinit -u -D", *for_zsh))
+            tried += see_fish(typed, f"source {Path(fish).resolve()}{for_fish}", folder, path)
     print(f"completions: {tried} lines completed by bash, zsh and fish: no difference")
 
 

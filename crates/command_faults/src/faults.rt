@@ -64,7 +64,7 @@ pub enum CommandFault {
     Device,
     /// A file of the image is cut short: its chain ends at this sector, too early.
     Short(Place),
-    /// A file that is to be listed as a program in BASIC doesn't begin with a line of one. Nothing was printed.
+    /// A file that was listed as a program in BASIC is none: it has no end of one, and doesn't begin with a line of one.
     NoProgram,
     /// A file that is to be renamed or deleted is one of a shop's two files. Nothing was changed.
     ShopFile,

@@ -75,8 +75,9 @@ file with this name, and reports UNCLOSED if that isn't closed.
 
 Exit status:
   0  the program was listed to its end
-  1  LAYOUT and a fault, or SHORT (the file has lost its end, or is no program):
-     what can be read was printed; or NO FILE, IMAGE SIZE, LOG: nothing was
+  1  LAYOUT and a fault, SHORT (the program has lost its end), NO PROGRAM (the
+     file is none): what can be read was printed; or NO FILE, IMAGE SIZE, LOG:
+     nothing was
   2  NAME
   3  FILE, NO MEMORY, IN USE
 

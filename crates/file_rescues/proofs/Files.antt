@@ -1,8 +1,9 @@
 -- What is known of the file of a name when its bytes are printed.
-use Rattle.std.proofs.Common.{◌≡◌, ◌∙◌, ◌⊎◌, ◌*◌, ◌^◌, ◌<◌, ◌≤◌, Err, List, None, Ok, Option, Result, Some, ap, arith, get_or, inl, inr, length, refl, subst, sym, ℕ}
-use Rattle.std.proofs.lemmas.Option.{slice_get_read, slice_get_within}
+use Rattle.std.proofs.Common.{◌≡◌, ◌∙◌, ◌⊎◌, ◌*◌, ◌^◌, ◌<◌, ◌≤◌, Bool, Err, List, None, Ok, Option, Result, Some, ap, arith, get_or, inl, inr, length, refl, subst, sym, ℕ}
+use Rattle.std.proofs.lemmas.Bool.{false≢true}
+use Rattle.std.proofs.lemmas.Option.{none-some, slice_get_read, slice_get_within}
 use Rattle.std.specs.Option.{option_or}
-use Rattle.std.specs.Prelude.{IfErr, IfOk}
+use Rattle.std.specs.Prelude.{◌↔◌, IfErr, IfOk, IsTrue, false, true}
 use Rattle.damaged_files.specs.cut.Told.{IsToldOfDisk, IsToldOfImage}
 use Rattle.d64_image.specs.Images.{Image}
 use Rattle.d64_image.specs.Memory.{sectors_in}
@@ -125,23 +126,44 @@ module _ {W : Type 0} (image : List ℕ) (kind : Kind) (name : List ℕ) (Printe
   put-stopped new fault file why (inr (is, same)) =
       subst (λ (w : CommandFault). IsFileFault image kind name Printed old new w) (sym is) (file.size, same)
 
--- the end of the printing is the place that was found, or otherwise the one past which the program goes on
-pub ended-past : {A : Type 0} (Told : A → Option Place → Type 0) (past_of : A → Option Place) (past : Option Place)
-    (r r' : Result (Option Place) CommandFault) → r' ≡ end_or_past r past
-    → IfOk r (λ cut. (p : (a : A) × (past ≡ past_of a)) × Told p.0 cut)
-    → IfOk r' (λ cut. (a : A) × (found : Option Place) × Told a found × (cut ≡ option_or found (past_of a)))
-ended-past {A} Told past_of past (Ok found) r' is ((a, at), told) = subst (λ (e : Result (Option Place) CommandFault).
-    IfOk e (λ cut. (a : A) × (found : Option Place) × Told a found × (cut ≡ option_or found (past_of a)))) (sym is)
-    (a, found, told, ap (option_or found) at)
-ended-past {A} Told past_of past (Err why) r' is told = subst (λ (e : Result (Option Place) CommandFault).
-    IfOk e (λ cut. (a : A) × (found : Option Place) × Told a found × (cut ≡ option_or found (past_of a)))) (sym is) tt
+-- The printing ends at the place that was found, or otherwise at the one past which the program goes on, if the file has the
+-- form in which it was printed.
+pub ended-past : {A : Type 0} (Told : A → Option Place → Type 0) (past_of : A → Option Place) (Has : A → Type 0)
+    (past : Option Place) (has_form : Bool) (r r' : Result (Option Place) CommandFault) → r' ≡ end_or_past r past has_form
+    → IfOk r (λ cut. (p : (a : A) × (past ≡ past_of a) × (IsTrue has_form ↔ Has a)) × Told p.0 cut)
+    → IfOk r' (λ cut. (a : A) × (found : Option Place) × Told a found × (cut ≡ option_or found (past_of a))
+    × (found ≡ None → Has a))
+ended-past {A} Told past_of Has past true (Ok None) r' is ((a, at, has), told) =
+    subst (λ (e : Result (Option Place) CommandFault). IfOk e (λ cut. (a : A) × (found : Option Place) × Told a found
+    × (cut ≡ option_or found (past_of a)) × (found ≡ None → Has a))) (sym is) (a, None, told, at, λ none. has.0 refl)
+ended-past {A} Told past_of Has past false (Ok None) r' is told = subst (λ (e : Result (Option Place) CommandFault).
+    IfOk e (λ cut. (a : A) × (found : Option Place) × Told a found × (cut ≡ option_or found (past_of a))
+    × (found ≡ None → Has a))) (sym is) tt
+ended-past {A} Told past_of Has past has_form (Ok (Some place)) r' is ((a, at, has), told) =
+    subst (λ (e : Result (Option Place) CommandFault). IfOk e (λ cut. (a : A) × (found : Option Place) × Told a found
+    × (cut ≡ option_or found (past_of a)) × (found ≡ None → Has a))) (sym is)
+    (a, Some place, told, refl, λ none. absurd (none-some place (sym none)))
+ended-past {A} Told past_of Has past has_form (Err why) r' is told = subst (λ (e : Result (Option Place) CommandFault).
+    IfOk e (λ cut. (a : A) × (found : Option Place) × Told a found × (cut ≡ option_or found (past_of a))
+    × (found ≡ None → Has a))) (sym is) tt
 
-pub stopped-past : (Why : CommandFault → Type 0) (past : Option Place) (r r' : Result (Option Place) CommandFault)
-    → r' ≡ end_or_past r past → IfErr r Why → IfErr r' Why
-stopped-past Why past (Ok found) r' is why =
-    subst (λ (e : Result (Option Place) CommandFault). IfErr e Why) (sym is) tt
-stopped-past Why past (Err fault) r' is why =
-    subst (λ (e : Result (Option Place) CommandFault). IfErr e Why) (sym is) why
+-- or it ends with a fault, or because the file hasn't that form
+pub stopped-past : {A : Type 0} (Told : A → Option Place → Type 0) (past_of : A → Option Place) (Has : A → Type 0)
+    (past : Option Place) (has_form : Bool) (Why : CommandFault → Type 0) (r r' : Result (Option Place) CommandFault)
+    → r' ≡ end_or_past r past has_form
+    → IfOk r (λ cut. (p : (a : A) × (past ≡ past_of a) × (IsTrue has_form ↔ Has a)) × Told p.0 cut) → IfErr r Why
+    → IfErr r' (λ why. ((why ≡ faults.NoProgram) × (a : A) × Told a None × ¬ (Has a)) ⊎ Why why)
+stopped-past {A} Told past_of Has past true Why (Ok None) r' is told why = subst (λ (e : Result (Option Place) CommandFault).
+    IfErr e (λ why. ((why ≡ faults.NoProgram) × (a : A) × Told a None × ¬ (Has a)) ⊎ Why why)) (sym is) tt
+stopped-past {A} Told past_of Has past false Why (Ok None) r' is ((a, at, has), told) why =
+    subst (λ (e : Result (Option Place) CommandFault). IfErr e (λ why. ((why ≡ faults.NoProgram) × (a : A) × Told a None
+    × ¬ (Has a)) ⊎ Why why)) (sym is) (inl (refl, a, told, λ holds. false≢true (has.1 holds)))
+stopped-past {A} Told past_of Has past has_form Why (Ok (Some place)) r' is told why =
+    subst (λ (e : Result (Option Place) CommandFault). IfErr e (λ why. ((why ≡ faults.NoProgram) × (a : A) × Told a None
+    × ¬ (Has a)) ⊎ Why why)) (sym is) tt
+stopped-past {A} Told past_of Has past has_form Why (Err fault) r' is told why =
+    subst (λ (e : Result (Option Place) CommandFault). IfErr e (λ why. ((why ≡ faults.NoProgram) × (a : A) × Told a None
+    × ¬ (Has a)) ⊎ Why why)) (sym is) (inr why)
 
 -- what was printed of the bytes of a file
 pub bytes-part : {W : Type 0} (contents : W → Option (List ℕ)) (form : FileForm) (candidates : Candidates)

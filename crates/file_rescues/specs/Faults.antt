@@ -1,6 +1,5 @@
 -- What is reported of a job that isn't done. Our own.
-use Rattle.std.specs.Prelude.{◌≡◌, ℕ, Err, None, Ok, Option, Result, Some}
-use Rattle.std.specs.Option.{option_or}
+use Rattle.std.specs.Prelude.{◌≡◌, ℕ, Bool, Err, None, Ok, Option, Result, Some, false, true}
 use Rattle.d64_image.specs.Images.{Image}
 use Rattle.d64_image.specs.declared.place.Place.{Place}
 use Rattle.damaged_files.specs.cut.Told.{IsToldOfDisk}
@@ -20,7 +19,9 @@ abbrev pub keep_none : Option Fault → CommandFault
 keep_none None = faults.NoFile
 keep_none (Some fault) = faults.Layout fault
 
--- how the printing of a file ends; without a place, at this one
-abbrev pub end_or_past : Result (Option Place) CommandFault → Option Place → Result (Option Place) CommandFault
-end_or_past (Ok found) past = Ok (option_or found past)
-end_or_past (Err fault) past = Err fault
+-- how the printing of a file ends; without a place, at this one, or because it hasn't the form in which it was printed
+abbrev pub end_or_past : Result (Option Place) CommandFault → Option Place → Bool → Result (Option Place) CommandFault
+end_or_past (Ok None) past true = Ok past
+end_or_past (Ok None) past false = Err faults.NoProgram
+end_or_past (Ok (Some place)) past has_form = Ok (Some place)
+end_or_past (Err fault) past has_form = Err fault

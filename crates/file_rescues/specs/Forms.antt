@@ -1,5 +1,5 @@
 -- How what is taken out of an image is printed. All of it is our own.
-use Rattle.std.specs.Prelude.{ℕ, zero, suc, ◌+◌, ◌-◌, ◌++◌, List, [], None, Option, codes, decimal, get_or, if◌then◌else◌, length, slice_get, ⊤}
+use Rattle.std.specs.Prelude.{◌≡◌, true, ℕ, zero, suc, ◌+◌, ◌-◌, ◌++◌, List, [], None, Option, codes, decimal, get_or, if◌then◌else◌, length, slice_get, ⊤}
 use Rattle.line_text.specs.basic.Listings.{is_ended, listing}
 use Rattle.d64_image.specs.declared.place.Place.{Place}
 use Rattle.line_text.specs.bytes.Texts.{record_line, trimmed}
@@ -9,6 +9,7 @@ use Rattle.line_text.specs.petscii.Quoted.{quoted}
 use Rattle.line_text.specs.columns.Columns.{columns_of}
 use Rattle.line_text.specs.columns.Pieces.{piece_columns}
 use Rattle.line_text.specs.columns.Positions.{ArePositions, starts}
+use Rattle.file_rescues.specs.Programs.{is_program}
 use Rattle.file_rescues.specs.Records.{records_text}
 use Rattle.file_rescues.specs.declared.forms.ByteForm.{ByteForm}
 use Rattle.file_rescues.specs.declared.forms.ByteForm.TheVariants as bytes
@@ -64,6 +65,11 @@ bytes_as (bytes.Text set) file = readable set file
 abbrev pub file_as : FileForm → List ℕ → List ℕ
 file_as (files.Bytes form) file = bytes_as form file
 file_as files.Listing file = listing file
+
+-- A file has this form: only a program is listed.
+abbrev pub HasForm : FileForm → List ℕ → Type 0
+HasForm (files.Bytes form) file = ⊤
+HasForm files.Listing file = is_program file ≡ true
 
 -- the last block of a file whose program goes on past it
 abbrev pub past_end : FileForm → (file : List ℕ) (blocks : List Place) → Option Place

@@ -4,5 +4,6 @@ pub mod Faults
 pub mod Forms
 pub mod Found
 pub mod Printed
+pub mod Programs
 pub mod Records
 pub mod Whole

@@ -11,7 +11,7 @@ use Rattle.disk_layout.specs.Records.{records}
 use Rattle.disk_layout.specs.declared.faults.Fault.{Fault}
 use Rattle.command_faults.specs.Outputs.{HandsPart}
 use Rattle.file_rescues.specs.Bytes.{HasFile, HasNoFile, file_bytes}
-use Rattle.file_rescues.specs.Forms.{file_as, past_end, records_as}
+use Rattle.file_rescues.specs.Forms.{HasForm, file_as, past_end, records_as}
 use Rattle.file_rescues.specs.Records.{HasNoReached, HasNoRecordFile, IsReachedFile, IsRecordFile, records_of}
 use Rattle.command_faults.specs.declared.faults.CommandFault.{CommandFault}
 use Rattle.command_faults.specs.declared.faults.CommandFault.TheVariants as faults
@@ -90,6 +90,7 @@ AreBytesTaken contents form candidates image name old new cut =
     × IsToldOfImage image (Some printed.file.number) found
     × (cut ≡ option_or found
     (past_end form (file_bytes (sectors_in image) printed.file.blocks printed.file.last) printed.file.blocks))
+    × (found ≡ None → HasForm form (file_bytes (sectors_in image) printed.file.blocks printed.file.last))
 
 -- what was printed of bytes that aren't all printed: nothing, or a beginning of those that can be reached
 abbrev pub IsBytesPart : {W : Type 0} → (W → Option (List ℕ)) → FileForm → Candidates → (image name : List ℕ) → W → W
@@ -132,11 +133,20 @@ IsFileFault image kind name Printed old new faults.NoFile = HasNoFile image kind
 IsFileFault image kind name Printed old new faults.File = (fault : Option Fault) × HasFile image kind name fault
 IsFileFault image kind name Printed old new _ = ⊥
 
--- why not all bytes of a file are printed
+-- all of them were, no check says that the file is cut short, and it hasn't the form in which it was printed
+abbrev pub IsNoProgram : {W : Type 0} → (W → Option (List ℕ)) → FileForm → Candidates → (image name : List ℕ) → W → W
+    → CommandFault → Type 0
+IsNoProgram contents form candidates image name old new why = (why ≡ faults.NoProgram)
+    × (printed : AreBytesPrinted contents form candidates image name old new None)
+    × IsToldOfImage image (Some printed.file.number) None
+    × ¬ (HasForm form (file_bytes (sectors_in image) printed.file.blocks printed.file.last))
+
+-- why not all bytes of a file are printed, or they aren't those of a program
 abbrev pub IsBytesFault : {W : Type 0} → (W → Option (List ℕ)) → FileForm → Candidates → (image name : List ℕ) → W → W
     → CommandFault → Type 0
-IsBytesFault contents form candidates image name old new fault = IsFileFault image (Any candidates) name
-    (AreBytesPrinted contents form candidates image name old new) old new fault
+IsBytesFault contents form candidates image name old new fault =
+    IsNoProgram contents form candidates image name old new fault
+    ⊎ IsFileFault image (Any candidates) name (AreBytesPrinted contents form candidates image name old new) old new fault
 
 -- why not all records of a file that may be unclosed are
 abbrev pub IsUnclosedFault : {W : Type 0} → (W → Option (List ℕ)) → RecordForm → (image name : List ℕ) → W → W

@@ -25,16 +25,18 @@ pub(crate) fn ended(disk: &mut MemDisk, file: &FoundFile) -> Result<Option<Place
     }
 }
 
-/// How the printing ends; without a place, at this one.
+/// How the printing ends; without a place, at this one, or because the file hasn't the form in which it was printed.
 fn end_or(
     end: Result<Option<Place>, CommandFault>,
     past: Option<Place>,
+    has_form: bool,
 ) -> Result<Option<Place>, CommandFault>
-    ensures { result ≡ end_or_past end past }
+    ensures { result ≡ end_or_past end past has_form }
 {
     match end {
-        Ok(found) => Ok(found.or(past)),
-        Err(fault) => Err(fault),
+        Ok(None) if has_form => Ok(past),
+        Ok(None) => Err(CommandFault::NoProgram),
+        end => end,
     }
 }
 
@@ -58,7 +60,8 @@ pub(crate) fn no_file(ended: Option<Fault>) -> CommandFault
 /// too; `Unclosed` at the entry's directory sector. Nothing else is checked.
 ///
 /// At Ok it returns the place where the file that was printed is cut short, if the disk is sound and the file is
-/// (`find_cut` of `damaged_files`).
+/// (`find_cut` of `damaged_files`). `NoProgram` if it isn't, and no program was listed: then all bytes were printed as if it were
+/// one.
 ///
 /// Nothing was printed after `ImageSize`, `NoMemory`, and `NoFile` if no candidate has the name; nor after `Layout` if
 /// none has it in a directory that ends early. After `File` the output failed: it has a first part of the bytes in this
@@ -81,7 +84,7 @@ pub fn bytes_image<W: Write>(
         Ok(file) => file,
         Err(ended) => return Err(no_file(ended)),
     };
-    let past = print_file(alloc, out, &disk, blocks.as_slice(), file.last, form)?;
+    let listed = print_file(alloc, out, &disk, blocks.as_slice(), file.last, form)?;
     flush(out)?;
-    end_or(ended(&mut disk, &file), past)
+    end_or(ended(&mut disk, &file), listed.0, listed.1)
 }

@@ -1,16 +1,17 @@
 //! A file as it is printed: its bytes, or the listing of its program.
-ghost use Rattle.std.specs.Prelude.{◌≡◌, ◌⊎◌, ◌≤◌, IfErr, IfOk, OnErr, length, vec_items};
+ghost use Rattle.std.specs.Prelude.{◌≡◌, ◌⊎◌, ◌↔◌, ◌≤◌, IsTrue, IfErr, IfOk, OnErr, length, vec_items};
 ghost use Rattle.std.specs.Io.KnownBytes.{Appends};
 ghost use Rattle.line_text.specs.basic.Listings.{listing};
 ghost use Rattle.command_faults.specs.Outputs.{HandsPart};
 ghost use Rattle.d64_image.specs.Memory.{disk_image};
 ghost use Rattle.file_rescues.specs.Bytes.{file_bytes};
-ghost use Rattle.file_rescues.specs.Forms.{file_as, past_end};
+ghost use Rattle.file_rescues.specs.Forms.{HasForm, file_as, past_end};
 ghost use Rattle.command_faults.specs.declared.faults.CommandFault.TheVariants as faults;
 ghost use Rattle.file_rescues.specs.declared.forms.FileForm.TheVariants as forms;
 
 use crate::chains::{print_bytes, read_file};
 use crate::forms::FileForm;
+use crate::programs::is_program;
 use command_faults::{CommandFault, put};
 use d64_image::{MemDisk, Place};
 use line_text::{Listing, is_ended};
@@ -30,7 +31,7 @@ fn listing_text(alloc: Global, program: &[u8]) -> Result<Vec<u8>, CommandFault>
 }
 
 /// Prints the listing of the program in a file with these blocks, up to the index `last` of the last one. Returns the last
-/// block if the program goes on past it. `File` if the output failed: then it has a first part; or `NoMemory`, and then
+/// block if the program goes on past it, and whether the file is a program. `File` if the output failed: then it has a first part; or `NoMemory`, and then
 /// nothing was printed.
 fn print_listing<W: Write>(
     alloc: Global,
@@ -38,11 +39,12 @@ fn print_listing<W: Write>(
     disk: &MemDisk,
     blocks: &[Place],
     last: u8,
-) -> Result<Option<Place>, CommandFault>
+) -> Result<(Option<Place>, bool), CommandFault>
     requires { length blocks.now ≤ 720 }
-    ensures ok { IfOk result (λ past. Appends (W.contents out.old) (W.contents out.new)
+    ensures ok { IfOk result (λ told. Appends (W.contents out.old) (W.contents out.new)
         (listing (file_bytes (disk_image disk.now) blocks.now last))
-        × (past ≡ past_end forms.Listing (file_bytes (disk_image disk.now) blocks.now last) blocks.now)) }
+        × (told.0 ≡ past_end forms.Listing (file_bytes (disk_image disk.now) blocks.now last) blocks.now)
+        × (IsTrue told.1 ↔ HasForm forms.Listing (file_bytes (disk_image disk.now) blocks.now last))) }
     ensures part { OnErr result (HandsPart (W.contents out.old) (W.contents out.new)
         (listing (file_bytes (disk_image disk.now) blocks.now last))) }
     ensures err { IfErr result (λ fault. (fault ≡ faults.File) ⊎ ((fault ≡ faults.NoMemory) × (out.new ≡ out.old))) }
@@ -50,15 +52,16 @@ fn print_listing<W: Write>(
     let program = read_file(alloc, disk, blocks, last)?;
     let text = listing_text(alloc, program.as_slice())?;
     put(out, text.as_slice())?;
-    if is_ended(program.as_slice()) {
-        Ok(None)
+    let past = if is_ended(program.as_slice()) {
+        None
     } else {
-        Ok(blocks.last().copied())
-    }
+        blocks.last().copied()
+    };
+    Ok((past, is_program(program.as_slice())))
 }
 
 /// Prints a file with these blocks, up to the index `last` of the last one, in this form. Returns the last block if a
-/// program goes on past it. `File` if the output failed: then it has a first part; or `NoMemory`, and then nothing was
+/// program goes on past it, and whether the file has this form. `File` if the output failed: then it has a first part; or `NoMemory`, and then nothing was
 /// printed.
 pub(crate) fn print_file<W: Write>(
     alloc: Global,
@@ -67,18 +70,19 @@ pub(crate) fn print_file<W: Write>(
     blocks: &[Place],
     last: u8,
     form: FileForm,
-) -> Result<Option<Place>, CommandFault>
+) -> Result<(Option<Place>, bool), CommandFault>
     requires { length blocks.now ≤ 720 }
-    ensures ok { IfOk result (λ past. Appends (W.contents out.old) (W.contents out.new)
+    ensures ok { IfOk result (λ told. Appends (W.contents out.old) (W.contents out.new)
         (file_as form (file_bytes (disk_image disk.now) blocks.now last))
-        × (past ≡ past_end form (file_bytes (disk_image disk.now) blocks.now last) blocks.now)) }
+        × (told.0 ≡ past_end form (file_bytes (disk_image disk.now) blocks.now last) blocks.now)
+        × (IsTrue told.1 ↔ HasForm form (file_bytes (disk_image disk.now) blocks.now last))) }
     ensures part { OnErr result (HandsPart (W.contents out.old) (W.contents out.new)
         (file_as form (file_bytes (disk_image disk.now) blocks.now last))) }
     ensures err { IfErr result (λ fault. (fault ≡ faults.File) ⊎ ((fault ≡ faults.NoMemory) × (out.new ≡ out.old))) }
 {
     match form {
         FileForm::Bytes(form) => match print_bytes(out, disk, blocks, last, form) {
-            Ok(()) => Ok(None),
+            Ok(()) => Ok((None, true)),
             Err(fault) => Err(fault),
         },
         FileForm::Listing => print_listing(alloc, out, disk, blocks, last),

@@ -8,6 +8,7 @@ mod finding;
 mod forms;
 mod line_printing;
 mod piece_printing;
+mod programs;
 mod record_printing;
 // What can be rescued of the files of a disk, written to a folder that is new.
 mod rescue;

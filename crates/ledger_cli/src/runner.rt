@@ -8,6 +8,7 @@ ghost use Rattle.ledger_cli.specs.declared.runner.Audience.TheVariants.{Person, 
 use crate::dashes::{read_dashes, writes_dash};
 use crate::faults::JobFault;
 use crate::progress::{Watched, is_long};
+use crate::unread_words::tell_unread;
 use crate::word_refusals::{print_meaning, refuse, refuse_words};
 use crate::words::command_line;
 use command_faults::CommandFault;
@@ -356,7 +357,11 @@ where
 }
 
 /// The words of the command line. If they can't be had, that is reported, and the exit status is returned.
-fn words_of<R: Env + AllocGlobal, E: Write>(rt: &R, err: &mut E) -> Result<Vec<String>, u8> {
+fn words_of<R: Env + AllocGlobal, E: Write>(
+    rt: &R,
+    told: Audience,
+    err: &mut E,
+) -> Result<Vec<String>, u8> {
     let collected = match env::args(rt) {
         Ok(words) => words.collect(rt.alloc()),
         Err(error) if error.kind() == io::ErrorKind::InvalidData => {
@@ -364,6 +369,9 @@ fn words_of<R: Env + AllocGlobal, E: Write>(rt: &R, err: &mut E) -> Result<Vec<S
                 err,
                 "error: invalid UTF-8 was detected in one or more arguments"
             );
+            if told != Audience::Program {
+                tell_unread(rt, rt.alloc(), err);
+            }
             return Err(WORDS);
         }
         Err(error) => return Err(refuse(err, &error)),
@@ -383,7 +391,7 @@ where
     E: Write,
 {
     let err = &mut LimitedErrors::new(rt, err);
-    match words_of(rt, err) {
+    match words_of(rt, told, err) {
         Ok(words) => obey(rt, words.as_slice(), told, err),
         Err(status) => status,
     }

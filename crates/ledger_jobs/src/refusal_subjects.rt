@@ -95,7 +95,7 @@ pub(crate) const CUT_LOOK: &str =
     "the file ends there, too early: a sector of it was lost; `bytes` and `extract` take out what is left";
 
 pub(crate) const NO_PROGRAM: &str =
-    "the file isn't a program in BASIC, since it doesn't begin with a line of one; `bytes` prints it";
+    "the file isn't a program in BASIC: it has no end of one, and doesn't begin with a line of one; `bytes` prints it";
 
 pub(crate) const FEWER: &str =
     "a file ends there, and its entry counts more blocks; compare it with another copy, or `repair --accept-loss` sets the count";
