@@ -5,8 +5,8 @@
 
 PROGRAM is what `tools/program` prints. The disks are those of cc1541 and cbmconvert (Debian's packages of these names), shops, and
 all of them with bytes changed at random. Of each disk `free` and 60 sectors are compared. For `trim` each disk is given error bytes,
-five tracks more, or both, some sectors that weren't read, and some links past track 35. Every other command has to refuse such an
-image. The status is 1 if something differs."""
+five tracks more, or both, some sectors that weren't read, and some links past track 35. `list`, `check` and `show` have to refuse such
+an image. The status is 1 if something differs."""
 
 import random
 import subprocess
@@ -18,10 +18,8 @@ sys.dont_write_bytecode = True
 sys.path.insert(0, str(Path(__file__).resolve().parents[1] / "lib"))
 from disks import blank, of_cbmconvert, of_cc1541, customers, shop_after_a_day, TOOLS
 from drawn import BLOCKS, LETTERS, MAP, PLACES, SHIFTED, Disk, start
+from missing import missing_lines
 from trial import conduct, need
-
-# what the drive reports for an error byte (the D64 layout)
-ERRORS = {2: "20", 3: "21", 4: "22", 5: "23", 6: "24", 7: "25", 8: "26", 9: "27", 10: "28", 11: "29", 15: "74"}
 
 
 def run(program, *words):
@@ -79,39 +77,10 @@ def sector_text(disk, fault, place):
     return "".join(line + "\n" for line in lines)
 
 
-def beyond(disk, entry, raw, at, places):
-    """The line of a chain that goes on past track 35."""
-    track = disk.sector(places[-1])[0] if places else raw[at]
-    if not 36 <= track <= 40:
-        return ""
-    place = places[-1] if places else entry.place
-    return f'BEYOND {place[0]}/{place[1]} "{entry.name}"\n'
-
-
-def owner_name(disk, place):
-    """The name of the entry that has the sector, in quotation marks after a space; nothing if it is no entry's."""
-    owner = disk.owner.get(place) if disk.has_directory else None
-    if owner is None or owner[0] in ("map", "directory"):
-        return ""
-    return f' "{disk.entries[owner[0]].name}"'
-
-
 def trim_text(image, errors, fault):
     """What `trim` reports of the tracks of an image with these error bytes."""
-    disk = Disk(image)
-    lines = []
-    for place, error in zip(PLACES, errors):
-        if error != 1:
-            lines.append(f"ERROR {ERRORS.get(error, f'BYTE {error}')} {place[0]}/{place[1]}{owner_name(disk, place)}\n")
-    if not disk.has_directory:
-        return "".join(lines) + fault + "\n"
-    slots = [(place, disk.sector(place)[at:at + 32]) for place in disk.directory for at in range(0, 256, 32)]
-    for entry, (place, raw) in zip(disk.entries, [it for it in slots if it[1][2]]):
-        entry.place = place
-        lines.append(beyond(disk, entry, raw, 3, entry.blocks))
-        if entry.is_relative():
-            lines.append(beyond(disk, entry, raw, 21, entry.sides))
-    return "".join(lines)
+    told = missing_lines(image, errors)
+    return told if Disk(image).has_directory else told + fault + "\n"
 
 
 def changed(image, chance, count):
@@ -162,7 +131,7 @@ class Comparison:
             told = trim_text(image, errors, fault).encode()
             self.see("trim", run(self.program, "trim", path), (1 if told else 0, image, told), f"{name} {len(tail)} {count}")
             if tail or count:
-                for command in ("check", "list", "map", "free"):
+                for command in ("check", "list", "show"):
                     got = run(self.program, command, path)
                     self.see("refused", got, (1, b"", b"IMAGE SIZE\n"), f"{name} {command}")
                 explained = run(self.program, "check", "--explain", path)[2]
