@@ -47,14 +47,18 @@ format = with_rule (with_rule (over_image (codes "format")) (required_behind (co
 abbrev pub may_be_text : App → App
 may_be_text a = with_rule (with_rule a (flag (codes "text"))) (flag (codes "mixed"))
 
--- list IMAGE.. [--text] [--mixed]
-abbrev pub list : App
-list = may_be_text (over_images (codes "list"))
+-- a subcommand that takes an image of more tracks, or with error bytes, if --as-is is given
+abbrev pub may_be_as_is : App → App
+may_be_as_is a = with_rule a (flag (codes "as-is"))
 
--- check IMAGE.. [--json] [--csv] [--all]
+-- list IMAGE.. [--text] [--mixed] [--as-is]
+abbrev pub list : App
+list = may_be_as_is (may_be_text (over_images (codes "list")))
+
+-- check IMAGE.. [--json] [--csv] [--all] [--as-is]
 abbrev pub check : App
-check = with_rule (with_rule (with_rule (over_images (codes "check")) (flag (codes "json"))) (flag (codes "csv")))
-    (flag (codes "all"))
+check = may_be_as_is (with_rule (with_rule (with_rule (over_images (codes "check")) (flag (codes "json"))) (flag (codes "csv")))
+    (flag (codes "all")))
 
 -- plan IMAGE.. [--json] [--csv]
 abbrev pub plan : App
@@ -64,9 +68,9 @@ plan = with_rule (with_rule (over_images (codes "plan")) (flag (codes "json"))) 
 abbrev pub may_accept_loss : App → App
 may_accept_loss a = with_rule a (flag (codes "accept-loss"))
 
--- show IMAGE [--accept-loss]
+-- show IMAGE [--accept-loss] [--as-is]
 abbrev pub show : App
-show = may_accept_loss (over_image (codes "show"))
+show = may_be_as_is (may_accept_loss (over_image (codes "show")))
 
 -- play IMAGE SCRIPT [--sync] [--accept-loss]
 abbrev pub play : App

@@ -1,11 +1,11 @@
 //! The subcommands that look at disks: the words of each, and what help says of it, at most 80 columns wide.
 use crate::subcommands::Subcommand;
-use crate::values::{Count, IMAGE, IMAGES, MIXED, TEXT, Value};
+use crate::values::{AS_IS, Count, IMAGE, IMAGES, MIXED, TEXT, Value};
 
 /// The subcommands that look at disks, in the order in which help lists them.
 pub(crate) const LOOKS: &[Subcommand] = &[LIST, CHECK, PLAN, MAP, PICTURE, FREE, SECTOR];
 
-/// `list IMAGE.. [--text] [--mixed]`
+/// `list IMAGE.. [--text] [--mixed] [--as-is]`
 const LIST: Subcommand = Subcommand {
     name: "list",
     about: "Print the directory of an image, or of several",
@@ -15,6 +15,8 @@ It prints the disk's name, a line for each entry, and how many blocks are free.
 `?` stands for a byte that ASCII lacks; --text and --mixed show its character.
 With several images each line begins with the image's name, also for an image
 that is refused. The exit status is then the highest of all.
+With --as-is it takes an image of 40 or 42 tracks, or with error bytes, too, and
+prints the directory of its first 35 tracks.
 
 Exit status:
   0  the directory was printed
@@ -22,7 +24,7 @@ Exit status:
   3  FILE, NO MEMORY, IN USE
 
 Example: ledger list old.d64",
-    values: &[IMAGES, TEXT, MIXED],
+    values: &[IMAGES, TEXT, MIXED, AS_IS],
 };
 
 /// The flag that describes images by objects.
@@ -49,7 +51,7 @@ const ALL: Value = Value {
     help: "Print every fault, each with the files that it concerns",
 };
 
-/// `check IMAGE.. [--json] [--csv] [--all]`
+/// `check IMAGE.. [--json] [--csv] [--all] [--as-is]`
 const CHECK: Subcommand = Subcommand {
     name: "check",
     about: "Check the layout of images: print OK, or a fault and its sector",
@@ -77,15 +79,19 @@ the fault concerns, `free` counts blocks, and `sha1` and `sha256` are hashes of
 the image. With --csv each has a row of a table, but without `files`. With --all
 every fault is printed with its files, for example OWNEDTWICE 6/17 \"A\" \"B\":
 first the one that check prints without it; MAPWRONG only if the files are
-sound. --json goes before --csv, and both before --all.
+sound. --json goes before --csv, and both before --all and --as-is.
+With --as-is it takes an image of 40 or 42 tracks, or with error bytes, too, and
+checks its first 35 tracks. After that it prints a line for each sector that the
+drive couldn't read, ERROR 23 17/4 \"MENU\", and for each file that goes on beyond
+track 35, BEYOND 17/4 \"MENU\". Then the status isn't 0.
 
 Exit status:
   0  OK
-  1  a fault, IMAGE SIZE, LOG
+  1  a fault, ERROR, BEYOND, IMAGE SIZE, LOG
   3  FILE, NO MEMORY, IN USE
 
 Example: ledger check ./*.[dD]64",
-    values: &[IMAGES, JSON, CSV, ALL],
+    values: &[IMAGES, JSON, CSV, ALL, AS_IS],
 };
 
 /// `plan IMAGE.. [--json] [--csv]`
@@ -123,12 +129,14 @@ It draws a damaged disk too, as far as its links can be followed:
   =  the directory                      ?  taken, but in no file
   a  a block of the file with letter a  !  the sector of the fault
   A  a side sector of that file
+If the image has 40 or 42 tracks, or error bytes, it draws the first 35 tracks,
+and prints ERROR and BEYOND at the end, as check --as-is does.
 With several images each line begins with the image's name, also for an image
 that is refused. The exit status is then the highest of all.
 
 Exit status:
   0  the disk is clean
-  1  a fault, or the image is refused
+  1  a fault, ERROR, BEYOND, or the image is refused
   3  FILE, NO MEMORY, IN USE
 
 Example: ledger map old.d64",
@@ -170,10 +178,12 @@ A sheet has a tile for each image, also for one that is refused. The exit status
 is then the highest of all. With --compare the page shows the second image,
 marks the sectors that differ from the first, and lists the files and records
 that changed. The exit status is that of the second image.
+If the image has 40 or 42 tracks, or error bytes, it draws the first 35 tracks.
+The page of one image has the lines ERROR and BEYOND of map below the drawing.
 
 Exit status:
   0  the disk is clean
-  1  a fault, or the image is refused
+  1  a fault, ERROR or BEYOND on the page, or the image is refused
   2  IMAGES: several without --sheet, more than 400, not two with --compare, or
      two of --svg, --sheet and --compare
   3  FILE, NO MEMORY, IN USE

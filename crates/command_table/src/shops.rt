@@ -1,6 +1,6 @@
 //! The subcommands that run a shop: the words of each, and what help says of it, at most 80 columns wide.
 use crate::subcommands::Subcommand;
-use crate::values::{ACCEPT_AWAY, ACCEPT_LOSS, Count, IMAGE, Value};
+use crate::values::{ACCEPT_AWAY, ACCEPT_LOSS, AS_IS, Count, IMAGE, Value};
 
 /// The subcommands that run a shop, in the order in which help lists them.
 pub(crate) const SHOPS: &[Subcommand] = &[FORMAT, SHOW, PLAY, DRY, SERVE, COPY];
@@ -40,13 +40,14 @@ Example: ledger format --new shop.d64 --tills 4",
     values: &[IMAGE, TILLS, ONLY_NEW],
 };
 
-/// `show IMAGE [--accept-loss]`
+/// `show IMAGE [--accept-loss] [--as-is]`
 const SHOW: Subcommand = Subcommand {
     name: "show",
     about: "Print the cards, and the last two requests of each till",
     more: "\
 It prints TOP (the highest item number that has room), a CARD for each item, and
-for each till its last two requests as TILL and PRIOR.
+for each till its last two requests as TILL and PRIOR. With --as-is it takes an
+image of 40 or 42 tracks, or with error bytes, too.
 
 Exit status:
   0  the shop was printed
@@ -54,7 +55,7 @@ Exit status:
   3  FILE, NO MEMORY, IN USE
 
 Example: ledger show shop.d64",
-    values: &[IMAGE, ACCEPT_AWAY],
+    values: &[IMAGE, ACCEPT_AWAY, AS_IS],
 };
 
 /// The script of a subcommand.

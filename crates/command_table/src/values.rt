@@ -112,3 +112,11 @@ pub(crate) const ACCEPT_LOSS: Value = Value {
     count: Count::Flag,
     help: "Go on without the lost end (SHORT) or log (LOG AWAY)",
 };
+
+/// The flag of those that take a disk alone: of a longer image they take its disk.
+pub(crate) const AS_IS: Value = Value {
+    name: "as-is",
+    word: Some("as-is"),
+    count: Count::Flag,
+    help: "Take an image of 40 or 42 tracks, or with error bytes, too",
+};

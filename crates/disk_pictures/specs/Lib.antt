@@ -8,6 +8,7 @@ pub mod Html
 pub mod Legends
 pub mod Maps
 pub mod Markup
+pub mod Missing
 pub mod Outcomes
 pub mod Owners
 pub mod Petscii

@@ -26,11 +26,13 @@ pub use laws::{
     sectors_are_drawn_once, sound_disks_are_drawn_as_laid_out, tiles_have_683_sectors,
 };
 pub use map_printing::map_image;
+pub use pages::missing_block::print_missing_block;
 pub use pages::picture_printing::picture_image;
 pub use pages::poster_printing::poster_image;
 pub use sheets::sheet_printing::{
     MOST_TILES, sheet_begin, sheet_finish, sheet_refusal, sheet_tile,
 };
 pub use views::free_printing::free_image;
+pub use views::missing::missing_lines;
 pub use views::sector_printing::sector_image;
 pub use views::trimming::trim_image;

@@ -2,6 +2,7 @@
 pub(crate) mod arcs;
 pub(crate) mod kinds;
 pub(crate) mod legend;
+pub(crate) mod missing_block;
 pub(crate) mod others;
 pub(crate) mod page;
 pub(crate) mod picture_printing;

@@ -3,3 +3,4 @@ pub mod ExtractSaid
 pub mod Listed
 pub mod Looked
 pub mod NewFolders
+pub mod Reported

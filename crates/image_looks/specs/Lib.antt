@@ -8,4 +8,5 @@ pub mod Looks
 pub mod NewFolders
 pub mod Overviews
 pub mod Plans
+pub mod Reports
 pub mod SheetPages

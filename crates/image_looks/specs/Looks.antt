@@ -1,16 +1,13 @@
 -- What comes of a look at an image: what it prints, and why it doesn't. All of it is our own.
-use Rattle.std.specs.Prelude.{◌⊎◌, ◌≡◌, ℕ, List, None, Option, Some, Result, Ok, Err, length}
-use Rattle.std.specs.Io.KnownBytes.{Appends}
-use Rattle.d64_image.specs.Memory.{sectors_in}
+use Rattle.std.specs.Prelude.{◌⊎◌, ◌≡◌, ℕ, List, None, Option, Some, Result, Ok, Err}
 use Rattle.d64_image.specs.declared.place.Place.{Place}
 use Rattle.disk_layout.specs.declared.faults.Fault.{Fault}
-use Rattle.disk_pictures.specs.Outcomes.{IsMapPrinted, IsPictureFault, IsPicturePrinted, IsPosterPrinted}
+use Rattle.disk_pictures.specs.Outcomes.{IsPictureFault, IsPosterPrinted}
 use Rattle.disk_pictures.specs.Views.{AreFreePrinted, IsSectorPrinted, IsViewFault}
 use Rattle.disk_reports.specs.AllFaults.{AreListed}
-use Rattle.disk_layout.specs.Clean.{IsVerdict}
 use Rattle.disk_reports.specs.Listings.{IsCheckFault, IsListFault, IsListed}
+use Rattle.damaged_files.specs.reached.Sizes.{disk_of}
 use Rattle.disk_reports.specs.Outcomes.{IsDescribeFault}
-use Rattle.disk_reports.specs.Texts.{verdict_text}
 use Rattle.file_rescues.specs.Printed.{AreBytesTaken, AreRecordsTaken as AreClosedTaken, AreUnclosedTaken, IsBytesFault, IsBytesPart, IsRecordsFault, IsRecordsPart, IsUnclosedFault, IsUnclosedPart}
 use Rattle.file_rescues.specs.declared.finding.Candidates.{Candidates}
 use Rattle.file_rescues.specs.declared.finding.Candidates.TheVariants.{All, Closed}
@@ -23,6 +20,10 @@ use Rattle.opened_files.specs.Ends.{JobEnd, IsPrintEnd, IsQuietPrint}
 use Rattle.opened_files.specs.Losses.{IsAwayEnd, IsNear}
 use Rattle.opened_files.specs.Names.{name_bytes}
 use Rattle.damaged_files.specs.declared.sides.planning.Loss.{Loss}
+use Rattle.image_looks.specs.Reports.{IsChecked, IsReportEnd}
+use Rattle.image_looks.specs.declared.reporting.Report.TheVariants as reports
+use Rattle.image_looks.specs.declared.kinds.DiskLook.{DiskLook}
+use Rattle.image_looks.specs.declared.kinds.DiskLook.TheVariants as disks
 use Rattle.image_looks.specs.declared.kinds.Look.{Look}
 use Rattle.image_looks.specs.declared.kinds.Look.TheVariants as looks
 use Rattle.command_faults.specs.declared.faults.CommandFault.TheVariants as faults
@@ -60,24 +61,28 @@ module _ {W : Type 0} (contents : W → Option (List ℕ)) where
       IsBytesFault contents form candidates image name old new fault
       × IsBytesPart contents form candidates image name old new
 
-  -- the verdict of a check was printed
-  abbrev pub IsChecked : (image : List ℕ) → W → W → Option Fault → Type 0
-  IsChecked image old new found = (length image ≡ 174848) × IsVerdict (sectors_in image) found
-      × Appends (contents old) (contents new) (verdict_text found)
-
   -- what it holds of a shop was printed, unless its log has the rest and that loss isn't accepted
   abbrev pub IsShowEnd : Loss → (image : List ℕ) → W → W → JobEnd → Type 0
   IsShowEnd loss image old new end = IsAwayEnd loss (SaysLogAway image) old new end
       ⊎ (IsNear loss image × IsQuietPrint (IsShown contents image) (IsShowFault image) old new end)
 
+  -- a look at the disk in an image ended so
+  abbrev pub IsAsIs : DiskLook → (image : List ℕ) → W → W → JobEnd → Type 0
+  IsAsIs (disks.List form) image old new end =
+      IsQuietPrint (IsListed contents form (disk_of image)) (IsListFault (disk_of image)) old new end
+  IsAsIs disks.Check image old new end = IsReportEnd contents reports.Verdict image old new end
+  IsAsIs disks.Faults image old new end = IsReportEnd contents reports.Faults image old new end
+  IsAsIs (disks.Show loss) image old new end = IsShowEnd loss (disk_of image) old new end
+
   -- a look at an image ended so
   abbrev pub IsLook : Look → (image : List ℕ) → W → W → JobEnd → Type 0
   IsLook (looks.List form) image old new end = IsQuietPrint (IsListed contents form image) (IsListFault image) old new end
-  IsLook looks.Check image old new end = IsPrintEnd (IsChecked image) (IsCheckFault image) old new end
+  IsLook looks.Check image old new end = IsPrintEnd (IsChecked contents image) (IsCheckFault image) old new end
   IsLook looks.Faults image old new end = IsPrintEnd (AreListed contents image) (IsDescribeFault image) old new end
   IsLook (looks.Show loss) image old new end = IsShowEnd loss image old new end
-  IsLook looks.Map image old new end = IsPrintEnd (IsMapPrinted contents image) (IsPictureFault image) old new end
-  IsLook looks.Picture image old new end = IsPrintEnd (IsPicturePrinted contents image) (IsPictureFault image) old new end
+  IsLook (looks.AsIs what) image old new end = IsAsIs what image old new end
+  IsLook looks.Map image old new end = IsReportEnd contents reports.Map image old new end
+  IsLook looks.Picture image old new end = IsReportEnd contents reports.Picture image old new end
   IsLook looks.Poster image old new end = IsPrintEnd (IsPosterPrinted contents image) (IsPictureFault image) old new end
   IsLook looks.Free image old new end = IsQuietPrint (AreFreePrinted contents image) (IsViewFault image) old new end
   IsLook (looks.Sector p) image old new end =

@@ -7,6 +7,9 @@ use Rattle.disk_reports.specs.Listings.{IsCheckFault}
 use Rattle.disk_reports.specs.Outcomes.{IsCheckedAmong}
 use Rattle.opened_files.specs.Ends.{IsPrintEnd, JobEnd, end_line, end_status}
 use Rattle.image_looks.specs.Looks.{IsLook}
+use Rattle.image_looks.specs.Reports.{IsReportEnd}
+use Rattle.image_looks.specs.declared.reporting.Report.TheVariants.{Among}
+use Rattle.image_looks.specs.declared.kinds.DiskLook.TheVariants as disks
 use Rattle.image_looks.specs.declared.kinds.Look.{Look}
 use Rattle.image_looks.specs.declared.kinds.Look.TheVariants as looks
 use Rattle.line_text.specs.Named.{named}
@@ -21,7 +24,8 @@ pub record IsToldAs {W : Type 0} (contents : W → Option (List ℕ)) (name text
 abbrev pub IsAmong : {W : Type 0} → (W → Option (List ℕ)) → Look → (image : List ℕ) → W → W → JobEnd → Type 0
 IsAmong contents what image old new end =
     (what ≡ looks.Check → IsPrintEnd (IsCheckedAmong contents image) (IsCheckFault image) old new end)
-    × (what ≢ looks.Check → IsLook contents what image old new end)
+    × (what ≡ looks.AsIs disks.Check → IsReportEnd contents Among image old new end)
+    × (what ≢ looks.Check → what ≢ looks.AsIs disks.Check → IsLook contents what image old new end)
 
 -- An image was one of several: over an output that held nothing, this text was printed of it, and it ended so.
 pub record IsOneOfSeveral {W : Type 0} (contents : W → Option (List ℕ)) (what : Look) (name image : List ℕ)

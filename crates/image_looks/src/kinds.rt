@@ -7,6 +7,19 @@ use disk_reports::NameForm;
 use file_rescues::{Candidates, FileForm, RecordForm};
 use opened_files::{Extent, Loss, Name};
 
+/// What is printed of a disk of 35 tracks alone, unless it is asked for in an image as that is.
+#[derive(Clone, Copy)]
+pub enum DiskLook {
+    /// Its directory, with the names in this form.
+    List(NameForm),
+    /// Whether its layout is clean, and otherwise the first fault that a check finds.
+    Check,
+    /// All faults that hold, that one first, each with the files that it concerns.
+    Faults,
+    /// What it holds of a shop.
+    Show(Loss),
+}
+
 /// What is printed of one image, which isn't written.
 #[derive(Drop)]
 pub enum Look {
@@ -19,7 +32,11 @@ pub enum Look {
     /// What it holds of a shop: how far new cards may go, the cards, and the last two requests of each till. `Loss` says
     /// what is done if its log has the rest and isn't there.
     Show(Loss),
-    /// Which sector is whose, and what a check reports: a line for each track, for a terminal.
+    /// One of these four of the disk in an image that may have 40 or 42 tracks, or error bytes. After a check follows what isn't on
+    /// that disk: a line for each sector that a drive couldn't read, and for each file that goes on past track 35.
+    AsIs(DiskLook),
+    /// Which sector is whose, and what a check reports: a line for each track, for a terminal. After that follows what isn't on the
+    /// disk, as after a check of an image as it is.
     Map,
     /// The same as an HTML page with a drawing of the disk.
     Picture,
@@ -57,6 +74,7 @@ impl Look {
     {
         match self {
             Look::List(_) | Look::Check | Look::Faults | Look::Show(_) => Extent::Disk,
+            Look::AsIs(_) | Look::Map | Look::Picture => Extent::Whole,
             _ => Extent::FirstTracks,
         }
     }

@@ -10,12 +10,13 @@ mod looks;
 mod new_folders;
 mod overviews;
 mod plans;
+mod reporting;
 mod sheets;
 
 pub use comparisons::{comparing_run, do_comparing};
 pub use descriptions::{ImageForm, do_describing};
 pub use extracting::{do_extracting, extract_run};
-pub use kinds::Look;
+pub use kinds::{DiskLook, Look};
 pub use looks::{do_look, look};
 pub use new_folders::FolderPlace;
 pub use overviews::{do_several, overview_run};

@@ -1,18 +1,17 @@
 //! What is printed of one image: over its bytes, and over those at a path.
-ghost use Rattle.std.specs.Prelude.{◌≡◌, ◌≢◌, IfErr, IfOk};
-ghost use Rattle.command_faults.specs.declared.faults.CommandFault.TheVariants as faults;
-ghost use Rattle.disk_reports.specs.AllFaults.{AreListed};
-ghost use Rattle.disk_reports.specs.Outcomes.{IsDescribeFault};
+ghost use Rattle.std.specs.Prelude.{◌≡◌, IfErr, IfOk};
 ghost use Rattle.image_looks.specs.LookRuns.{IsLookedAt};
-ghost use Rattle.image_looks.specs.Looks.{AreRecordsTaken, IsLook, IsShowEnd, WhyNoRecords, taken_end as end_of};
+ghost use Rattle.image_looks.specs.Looks.{AreRecordsTaken, IsAsIs, IsLook, IsShowEnd, WhyNoRecords, taken_end as end_of};
 ghost use Rattle.opened_files.specs.Rights.{MayReadImage};
 
-use crate::kinds::Look;
-use command_faults::{CommandFault, flush};
+use crate::kinds::{DiskLook, Look};
+use crate::reporting::{Report, faults_image, report_image};
+use command_faults::CommandFault;
 use d64_image::Place;
+use damaged_files::disk_in;
 use disk_layout::Fault;
-use disk_pictures::{free_image, map_image, picture_image, poster_image, sector_image};
-use disk_reports::{check_image, list_faults, list_image};
+use disk_pictures::{free_image, poster_image, sector_image};
+use disk_reports::{check_image, list_image};
 use file_rescues::{Candidates, RecordForm, bytes_image, records_image, unclosed_records_image};
 use image_file::{HostFiles, Locks};
 use opened_files::{Loss, image_as, run_end, see_log_away};
@@ -20,21 +19,6 @@ use shop_commands::show_image;
 use std::alloc::Global;
 use std::fs::OpenFile;
 use std::io::{Read, Write};
-
-/// Prints all faults of an image that hold, and hands on what the output held back.
-fn faults_image<W: Write>(
-    alloc: Global,
-    image: &[u8],
-    out: &mut W,
-) -> Result<Option<Fault>, CommandFault>
-    ensures ok { IfOk result (AreListed W.contents image.now out.old out.new) }
-    ensures err { IfErr result (IsDescribeFault image.now) }
-    ensures untouched { IfErr result (λ fault. (fault ≢ faults.File) → out.new ≡ out.old) }
-{
-    let found = list_faults(alloc, image, out)?;
-    flush(out)?;
-    Ok(found)
-}
 
 /// How it ended that a file was taken out: it is all there is of it, or it is cut short there.
 fn taken_end(ended: Result<Option<Place>, CommandFault>) -> Result<Option<Fault>, CommandFault>
@@ -78,12 +62,30 @@ fn take_records<W: Write>(
     }
 }
 
+/// Prints what is asked of the disk in an image that may have more tracks, or error bytes.
+fn look_as_is<W: Write>(
+    alloc: Global,
+    what: DiskLook,
+    image: &[u8],
+    out: &mut W,
+) -> Result<Option<Fault>, CommandFault>
+    ensures { IsAsIs W.contents what image.now out.old out.new result }
+{
+    match what {
+        DiskLook::List(form) => run_end(list_image(alloc, disk_in(image), form, out)),
+        DiskLook::Check => report_image(alloc, Report::Verdict, image, out),
+        DiskLook::Faults => report_image(alloc, Report::Faults, image, out),
+        DiskLook::Show(loss) => print_shop(alloc, disk_in(image), loss, out),
+    }
+}
+
 /// Prints what is asked of an image, and hands on what the output held back. Returns the fault that a check of it reports, if
 /// that is printed.
 ///
 /// `ImageSize`, `NoMemory`, and what the command of this look finds wrong with the image: nothing was printed then, unless
 /// the records or bytes of a damaged file are. `File` if the output failed, which may then have a part. `Short` if the file
-/// that was printed is cut short. `LogAway` if a shop is to be shown whose log has the rest, and that loss isn't accepted:
+/// that was printed is cut short. `Trimmed`: a check found no fault, and lines that were printed say what isn't on the disk of
+/// the image. `LogAway` if a shop is to be shown whose log has the rest, and that loss isn't accepted:
 /// nothing was printed.
 pub fn look<W: Write>(
     alloc: Global,
@@ -98,8 +100,9 @@ pub fn look<W: Write>(
         Look::Check => check_image(alloc, image, out),
         Look::Faults => faults_image(alloc, image, out),
         Look::Show(loss) => print_shop(alloc, image, loss, out),
-        Look::Map => map_image(alloc, image, out),
-        Look::Picture => picture_image(alloc, image, out),
+        Look::AsIs(disk) => look_as_is(alloc, disk, image, out),
+        Look::Map => report_image(alloc, Report::Map, image, out),
+        Look::Picture => report_image(alloc, Report::Picture, image, out),
         Look::Poster => poster_image(alloc, image, out),
         Look::Free => run_end(free_image(alloc, image, out)),
         Look::Sector(place) => run_end(sector_image(alloc, image, place, out)),

@@ -9,8 +9,9 @@ ghost use Rattle.line_text.specs.Named.{named};
 ghost use Rattle.opened_files.specs.Rights.{MayReadImage};
 
 use crate::each_image::{PrintsImage, print_each, several_end};
-use crate::kinds::Look;
+use crate::kinds::{DiskLook, Look};
 use crate::looks::look;
+use crate::reporting::{Report, report_image};
 use command_faults::CommandFault;
 use disk_layout::Fault;
 use disk_reports::check_among;
@@ -66,6 +67,7 @@ fn look_among<W: Write>(
 {
     match what {
         Look::Check => check_among(alloc, image, out),
+        Look::AsIs(DiskLook::Check) => report_image(alloc, Report::Among, image, out),
         _ => look(alloc, what, image, out),
     }
 }

@@ -5,11 +5,15 @@ use Rattle.clap.specs.Words.{Row, Text, found_of, rows_of}
 use Rattle.clap.specs.declared.parser.matches.ArgMatches.{ArgMatches}
 use Rattle.ledger_jobs.specs.Jobs.{IsFit}
 use Rattle.ledger_jobs.specs.declared.jobs.Job.{Job}
+use Rattle.damaged_files.specs.declared.sides.planning.Loss.{Loss}
+use Rattle.disk_reports.specs.declared.texts.NameForm.{NameForm}
+use Rattle.image_looks.specs.declared.kinds.DiskLook.TheVariants as disks
 use Rattle.image_looks.specs.declared.kinds.Look.{Look}
 use Rattle.image_looks.specs.declared.kinds.Look.TheVariants as looks
 use Rattle.ledger_cli.specs.Flags.{is_given}
 use Rattle.ledger_cli.specs.Images.{IsCheckJob, IsLookJob, IsPlanJob}
-use Rattle.ledger_cli.specs.Looks.{IsAlone, IsAskedBy, IsOne, check_in, description_in, word_of}
+use Rattle.ledger_cli.specs.Forms.{loss_in, name_form_in}
+use Rattle.ledger_cli.specs.Looks.{IsAlone, IsAskedBy, IsOne, check_in, description_in, disk_look_in, word_of}
 use Rattle.ledger_cli.specs.Jobs.{IsJob, IsNoJob}
 use Rattle.ledger_cli.specs.declared.faults.JobFault.{JobFault}
 use Rattle.ledger_cli.proofs.Parses.{met-has}
@@ -19,6 +23,9 @@ abbrev IsOfMany : Look → Type 0
 IsOfMany (looks.List form) = ⊤
 IsOfMany looks.Check = ⊤
 IsOfMany looks.Faults = ⊤
+IsOfMany (looks.AsIs (disks.List form)) = ⊤
+IsOfMany (looks.AsIs disks.Check) = ⊤
+IsOfMany (looks.AsIs disks.Faults) = ⊤
 IsOfMany looks.Map = ⊤
 IsOfMany _ = ⊥
 
@@ -26,6 +33,9 @@ alone : (what : Look) (rows : List Row) → IsOfMany what → IsOne rows → IsA
 alone (looks.List form) rows many one = one
 alone looks.Check rows many one = one
 alone looks.Faults rows many one = one
+alone (looks.AsIs (disks.List form)) rows many one = one
+alone (looks.AsIs disks.Check) rows many one = one
+alone (looks.AsIs disks.Faults) rows many one = one
 alone looks.Map rows many one = one
 alone _ rows many one = absurd many
 
@@ -46,11 +56,28 @@ viewing-met o found name at what r told some is many by (inr (inr none)) =
     let P : Result Job JobFault → Type 0 = λ j. MatchResult j (IsJob found) (IsNoJob [] found) × IfOk j IsFit in
     subst P (sym none.1) (none.2, tt)
 
--- with --all or without, a check is asked for
-check-met : (rows : List Row) (all : Bool) → is_given (codes "all") rows ≡ all → description_in rows ≡ None
+-- with --all or without, a check is asked for, of a disk alone or of the one in an image
+check-met : (rows : List Row) (all whole : Bool) → is_given (codes "all") rows ≡ all → is_given (codes "as-is") rows ≡ whole
+    → description_in rows ≡ None
     → (word_of (check_in rows) ≡ codes "check") × IsOfMany (check_in rows) × IsAskedBy (check_in rows) rows
-check-met rows true given plain = rw given (refl, tt, (plain, given))
-check-met rows false given plain = rw given (refl, tt, (plain, given))
+check-met rows true true given asked plain = rw (given, asked) (refl, tt, (asked, (plain, given)))
+check-met rows true false given asked plain = rw (given, asked) (refl, tt, (asked, (plain, given)))
+check-met rows false true given asked plain = rw (given, asked) (refl, tt, (asked, (plain, given)))
+check-met rows false false given asked plain = rw (given, asked) (refl, tt, (asked, (plain, given)))
+
+-- and so is a directory
+pub list-met : (rows : List Row) (whole : Bool) (form : NameForm) → is_given (codes "as-is") rows ≡ whole → form ≡ name_form_in rows
+    → (word_of (disk_look_in (disks.List form) rows) ≡ codes "list") × IsOfMany (disk_look_in (disks.List form) rows)
+    × IsAskedBy (disk_look_in (disks.List form) rows) rows
+list-met rows true form asked is = rw asked (refl, tt, (asked, is))
+list-met rows false form asked is = rw asked (refl, tt, (asked, is))
+
+-- and a shop
+pub show-met : (rows : List Row) (whole : Bool) (loss : Loss) → is_given (codes "as-is") rows ≡ whole → loss ≡ loss_in rows
+    → (word_of (disk_look_in (disks.Show loss) rows) ≡ codes "show") × IsAlone (disk_look_in (disks.Show loss) rows) rows
+    × IsAskedBy (disk_look_in (disks.Show loss) rows) rows
+show-met rows true loss asked is = rw asked (refl, tt, (asked, is))
+show-met rows false loss asked is = rw asked (refl, tt, (asked, is))
 
 -- what checks images, or describes each, is the job of `check`
 pub checking-met : (o : Option (Bor Text × Bor ArgMatches)) (found : Option (Text × List Row)) (name : Bor Text)
@@ -59,7 +86,7 @@ pub checking-met : (o : Option (Bor Text × Bor ArgMatches)) (found : Option (Te
     → o ≡ Some (name, at) → name.now ≡ codes "check"
     → IsCheckJob (rows_of (found_of at.now)) r → MatchResult r (IsJob found) (IsNoJob [] found) × IfOk r IsFit
 checking-met o found name at r told some is (inl (viewed, job)) =
-    let asked = check-met (rows_of (found_of at.now)) _ refl viewed in
+    let asked = check-met (rows_of (found_of at.now)) _ _ refl refl viewed in
     viewing-met o found name at (check_in (rows_of (found_of at.now))) r told some (is ∙ sym asked.0) asked.1 asked.2 job
 checking-met o found name at r told some is (inr (inl (form, images, same, are))) =
     let P : Result Job JobFault → Type 0 = λ j. MatchResult j (IsJob found) (IsNoJob [] found) × IfOk j IsFit in

@@ -8,11 +8,20 @@ use Rattle.disk_reports.specs.declared.describing.DescriptionForm.TheVariants as
 use Rattle.disk_reports.specs.declared.plans.PlanForm.{PlanForm}
 use Rattle.disk_reports.specs.declared.plans.PlanForm.TheVariants as plans
 use Rattle.file_rescues.specs.declared.forms.FileForm.TheVariants as files
+use Rattle.image_looks.specs.declared.kinds.DiskLook.{DiskLook}
+use Rattle.image_looks.specs.declared.kinds.DiskLook.TheVariants as disks
 use Rattle.image_looks.specs.declared.kinds.Look.{Look}
 use Rattle.image_looks.specs.declared.kinds.Look.TheVariants as looks
 use Rattle.ledger_cli.specs.Flags.{is_given}
 use Rattle.ledger_cli.specs.Forms.{IsRecordForm, byte_form_in, candidates_in, loss_in, name_form_in}
 use Rattle.ledger_cli.specs.Numbers.{place_in}
+
+-- the subcommand that prints this of a disk
+abbrev pub disk_word : DiskLook → Text
+disk_word (disks.List form) = codes "list"
+disk_word disks.Check = codes "check"
+disk_word disks.Faults = codes "check"
+disk_word (disks.Show loss) = codes "show"
 
 -- the subcommand that prints this
 abbrev pub word_of : Look → Text
@@ -20,6 +29,7 @@ word_of (looks.List form) = codes "list"
 word_of looks.Check = codes "check"
 word_of looks.Faults = codes "check"
 word_of (looks.Show loss) = codes "show"
+word_of (looks.AsIs what) = disk_word what
 word_of looks.Map = codes "map"
 word_of looks.Picture = codes "picture"
 word_of looks.Poster = codes "picture"
@@ -29,9 +39,24 @@ word_of (looks.Records form candidates name) = codes "records"
 word_of (looks.Bytes (files.Bytes form) candidates name) = codes "bytes"
 word_of (looks.Bytes files.Listing candidates name) = codes "basic"
 
+-- this look at a disk alone
+abbrev pub alone : DiskLook → Look
+alone (disks.List form) = looks.List form
+alone disks.Check = looks.Check
+alone disks.Faults = looks.Faults
+alone (disks.Show loss) = looks.Show loss
+
+-- this look at a disk: at one alone, but with --as-is at the one in an image as that is
+abbrev pub disk_look_in : DiskLook → List Row → Look
+disk_look_in what rows = if is_given (codes "as-is") rows then looks.AsIs what else alone what
+
 -- which faults the flags ask for: the first, but with --all all of them
+abbrev pub faults_in : List Row → DiskLook
+faults_in rows = if is_given (codes "all") rows then disks.Faults else disks.Check
+
+-- the same, of a disk alone or of the one in an image
 abbrev pub check_in : List Row → Look
-check_in rows = if is_given (codes "all") rows then looks.Faults else looks.Check
+check_in rows = disk_look_in (faults_in rows) rows
 
 -- how images are to be described, if they are; --json wins over --csv
 abbrev pub description_in : List Row → Option DescriptionForm
@@ -49,12 +74,24 @@ plan_of (Some forms.Csv) = plans.Csv
 abbrev pub plan_in : List Row → PlanForm
 plan_in rows = plan_of (description_in rows)
 
--- the values and the flags ask for this; with --json or --csv `check` describes images in place of it
+-- the values and the flags ask for this of a disk; with --json or --csv `check` describes images in place of it
+abbrev pub IsDiskAsked : DiskLook → List Row → Type 0
+IsDiskAsked (disks.List form) rows = form ≡ name_form_in rows
+IsDiskAsked disks.Check rows = (description_in rows ≡ None) × (is_given (codes "all") rows ≡ false)
+IsDiskAsked disks.Faults rows = (description_in rows ≡ None) × (is_given (codes "all") rows ≡ true)
+IsDiskAsked (disks.Show loss) rows = loss ≡ loss_in rows
+
+-- of a disk alone
+abbrev pub IsAloneAsked : DiskLook → List Row → Type 0
+IsAloneAsked what rows = (is_given (codes "as-is") rows ≡ false) × IsDiskAsked what rows
+
+-- the values and the flags ask for this
 abbrev pub IsAskedBy : Look → List Row → Type 0
-IsAskedBy (looks.List form) rows = form ≡ name_form_in rows
-IsAskedBy looks.Check rows = (description_in rows ≡ None) × (is_given (codes "all") rows ≡ false)
-IsAskedBy looks.Faults rows = (description_in rows ≡ None) × (is_given (codes "all") rows ≡ true)
-IsAskedBy (looks.Show loss) rows = loss ≡ loss_in rows
+IsAskedBy (looks.List form) rows = IsAloneAsked (disks.List form) rows
+IsAskedBy looks.Check rows = IsAloneAsked disks.Check rows
+IsAskedBy looks.Faults rows = IsAloneAsked disks.Faults rows
+IsAskedBy (looks.Show loss) rows = IsAloneAsked (disks.Show loss) rows
+IsAskedBy (looks.AsIs what) rows = (is_given (codes "as-is") rows ≡ true) × IsDiskAsked what rows
 IsAskedBy looks.Picture rows = is_given (codes "svg") rows ≡ false
 IsAskedBy looks.Poster rows = is_given (codes "svg") rows ≡ true
 IsAskedBy (looks.Sector place) rows = place_in rows ≡ Some place
@@ -74,11 +111,17 @@ IsOne rows = length (values (codes "IMAGE") rows) < 2
 abbrev pub IsForOne : List Row → Type 0
 IsForOne rows = (is_given (codes "sheet") rows ≡ false) × (is_given (codes "compare") rows ≡ false) × IsOne rows
 
--- where several images may be given, there is one
+-- where several images may be given of which this is printed, there is one
+abbrev pub IsDiskAlone : DiskLook → List Row → Type 0
+IsDiskAlone (disks.Show loss) rows = ⊤
+IsDiskAlone _ rows = IsOne rows
+
+-- the same of each look
 abbrev pub IsAlone : Look → List Row → Type 0
 IsAlone (looks.List form) rows = IsOne rows
 IsAlone looks.Check rows = IsOne rows
 IsAlone looks.Faults rows = IsOne rows
+IsAlone (looks.AsIs what) rows = IsDiskAlone what rows
 IsAlone looks.Map rows = IsOne rows
 IsAlone looks.Picture rows = IsForOne rows
 IsAlone looks.Poster rows = IsForOne rows

@@ -5,7 +5,7 @@ ghost use Rattle.ledger_cli.specs.Forms.{record_form as of_set};
 ghost use Rattle.ledger_cli.specs.Forms.{effect_in, loss_in, repair_job, unowned_in};
 ghost use Rattle.ledger_cli.specs.Forms.{AreAskedColumns, IsAskedForm, byte_form_in, name_form_in, set_in};
 ghost use Rattle.ledger_cli.specs.Forms.{candidates_in, choice_in};
-ghost use Rattle.ledger_cli.specs.Looks.{check_in};
+ghost use Rattle.ledger_cli.specs.Looks.{alone as alone_look, check_in, disk_look_in, faults_in};
 
 use crate::faults::JobFault;
 use crate::positions::columns_asked;
@@ -14,7 +14,7 @@ use clap::ArgMatches;
 use disk_reports::NameForm;
 use file_rescues::{ByteForm, Candidates, Choice, RecordForm};
 use image_edits::{Columns, Edit, Effect, Unowned};
-use image_looks::Look;
+use image_looks::{DiskLook, Look};
 use ledger_jobs::Job;
 use line_text::CharacterSet;
 use opened_files::Loss;
@@ -145,15 +145,45 @@ pub(crate) fn choice<'a>(matches: &ArgMatches<'a>) -> Choice
     }
 }
 
-/// Which faults of an image are printed.
+/// What is printed of a disk alone.
+fn alone(what: DiskLook) -> Look
+    ensures { result ≡ alone_look what }
+{
+    match what {
+        DiskLook::List(form) => Look::List(form),
+        DiskLook::Check => Look::Check,
+        DiskLook::Faults => Look::Faults,
+        DiskLook::Show(loss) => Look::Show(loss),
+    }
+}
+
+/// The same of a disk alone, or of the one in an image as that is.
+pub(crate) fn disk_look<'a>(matches: &ArgMatches<'a>, what: DiskLook) -> Look
+    ensures { result ≡ disk_look_in what (rows_of (found_of matches.now)) }
+{
+    if is_given(matches, "as-is") {
+        Look::AsIs(what)
+    } else {
+        alone(what)
+    }
+}
+
+/// Which faults of a disk are printed.
+fn faults<'a>(matches: &ArgMatches<'a>) -> DiskLook
+    ensures { result ≡ faults_in (rows_of (found_of matches.now)) }
+{
+    if is_given(matches, "all") {
+        DiskLook::Faults
+    } else {
+        DiskLook::Check
+    }
+}
+
+/// Which faults are printed, and of which images.
 pub(crate) fn checked<'a>(matches: &ArgMatches<'a>) -> Look
     ensures { result ≡ check_in (rows_of (found_of matches.now)) }
 {
-    if is_given(matches, "all") {
-        Look::Faults
-    } else {
-        Look::Check
-    }
+    disk_look(matches, faults(matches))
 }
 
 /// How names of a disk are printed.

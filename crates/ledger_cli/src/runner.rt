@@ -15,7 +15,7 @@ use command_faults::CommandFault;
 use disk_layout::Fault;
 use image_edits::do_trim;
 use image_file::{EndedFile, Failure, Failures, LimitedErrors, Locks, NotedRuntime, Subject};
-use image_looks::{ImageForm, Look};
+use image_looks::{DiskLook, ImageForm, Look};
 use ledger_jobs::{Job, announce, do_job, explain, files_of, meaning_of, tell_verdict};
 use opened_files::end;
 use shop_jobs::JobOutput;
@@ -177,7 +177,7 @@ where
 fn is_kept_out(job: &Job<'_>, ended: Result<Option<Fault>, CommandFault>) -> bool {
     match job {
         Job::Look {
-            what: Look::Show(_),
+            what: Look::Show(_) | Look::AsIs(DiskLook::Show(_)),
             ..
         } => matches!(ended, Err(CommandFault::InUse)),
         _ => false,
@@ -189,7 +189,7 @@ fn is_looked_through(job: &Job<'_>) -> bool {
     match job {
         Job::Look { what, .. } | Job::Several { what, .. } => !matches!(
             what,
-            Look::List(_) | Look::Check | Look::Faults | Look::Show(_)
+            Look::List(_) | Look::Check | Look::Faults | Look::Show(_) | Look::AsIs(_)
         ),
         Job::Sheet { .. } | Job::Compare { .. } | Job::Trim { .. } => true,
         Job::Describe { form, .. } => matches!(form, ImageForm::Planned(_)),

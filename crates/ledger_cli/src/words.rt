@@ -8,7 +8,7 @@ ghost use Rattle.ledger_cli.specs.Jobs.{IsHeard, IsJob, IsNoJob, IsParse, is_exp
 use crate::faults::JobFault;
 use crate::file_copies::copying_file;
 use crate::file_types::entry_type_named;
-use crate::forms::{byte_form, choice, loss, name_form, repairing};
+use crate::forms::{byte_form, choice, disk_look, loss, name_form, repairing};
 use crate::images::{checking, picturing, planning, viewing};
 use crate::names::{
     deleting, empty_disk, locking, making, putting, renaming, sorting, storing, taking_file,
@@ -21,7 +21,7 @@ use clap::{ArgMatches, Error};
 use command_table::ledger_command;
 use disk_changes::Lock;
 use file_rescues::FileForm;
-use image_looks::Look;
+use image_looks::{DiskLook, Look};
 use ledger_jobs::Job;
 use std::alloc::{AllocError, Global};
 
@@ -42,11 +42,14 @@ fn job_of<'a>(alloc: Global, matches: &ArgMatches<'a>) -> Result<Job<'a>, JobFau
             Some(tills) => Ok(formatting(found, image, tills)),
             None => Err(JobFault::Tills),
         },
-        "list" => viewing(alloc, found, Look::List(name_form(found))),
+        "list" => {
+            let what = disk_look(found, DiskLook::List(name_form(found)));
+            viewing(alloc, found, what)
+        }
         "check" => checking(alloc, found),
         "plan" => planning(alloc, found),
         "show" => Ok(Job::Look {
-            what: Look::Show(loss(found)),
+            what: disk_look(found, DiskLook::Show(loss(found))),
             image,
         }),
         "play" => Ok(playing(found, image, script)),

@@ -49,15 +49,19 @@ const LONGER: &str =
 fn said_of_size(bytes: u64) -> Option<&'static str> {
     match bytes {
         175_531 => Some(
-            "35 tracks and error bytes; `ledger trim OLD > NEW` leaves the error bytes out",
+            "35 tracks and error bytes; list, check and show take it with --as-is, and `ledger trim OLD > NEW` leaves the error bytes out",
         ),
-        196_608 => Some("40 tracks; `ledger trim OLD > NEW` takes the first 35, then check NEW"),
+        196_608 => Some(
+            "40 tracks; list, check and show take it with --as-is, and `ledger trim OLD > NEW` takes the first 35, then check NEW",
+        ),
         197_376 => Some(
-            "40 tracks and error bytes; `ledger trim OLD > NEW` takes the first 35, then check NEW",
+            "40 tracks and error bytes; list, check and show take it with --as-is, and `ledger trim OLD > NEW` takes the first 35, then check NEW",
         ),
-        205_312 => Some("42 tracks; `ledger trim OLD > NEW` takes the first 35, then check NEW"),
+        205_312 => Some(
+            "42 tracks; list, check and show take it with --as-is, and `ledger trim OLD > NEW` takes the first 35, then check NEW",
+        ),
         206_114 => Some(
-            "42 tracks and error bytes; `ledger trim OLD > NEW` takes the first 35, then check NEW",
+            "42 tracks and error bytes; list, check and show take it with --as-is, and `ledger trim OLD > NEW` takes the first 35, then check NEW",
         ),
         349_696 | 351_062 => Some("a D71 image; cbmconvert puts its files on a disk of 35 tracks"),
         819_200 | 822_400 => Some("a D81 image; cbmconvert puts its files on a disk of 35 tracks"),

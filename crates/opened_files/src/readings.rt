@@ -124,5 +124,6 @@ where
     match extent {
         Extent::Disk => image_at(rt, path),
         Extent::FirstTracks => first_tracks_at(rt, path),
+        Extent::Whole => long_image_at(rt, path),
     }
 }

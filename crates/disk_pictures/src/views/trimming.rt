@@ -32,7 +32,7 @@ impl Display for LayoutLine {
 }
 
 /// What is drawn of the tracks, or why their directory can't be read.
-fn drawn_of(alloc: Global, tracks: &[u8]) -> Result<Result<Drawing, Fault>, CommandFault>
+pub(crate) fn drawn_of(alloc: Global, tracks: &[u8]) -> Result<Result<Drawing, Fault>, CommandFault>
     requires { length tracks.now ≡ 174848 }
     ensures ok { IfOk result (λ drawn. MatchResult drawn
         (λ drawing. IsDrawn (sectors_in tracks.now) (drawn_in drawing))

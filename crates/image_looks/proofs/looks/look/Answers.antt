@@ -1,12 +1,13 @@
 -- How a look ended is how its command did.
 use Rattle.std.proofs.Common.{List, subst, ℕ}
-use Rattle.disk_pictures.specs.Outcomes.{IsMapPrinted, IsPictureFault, IsPicturePrinted, IsPosterPrinted}
+use Rattle.disk_pictures.specs.Outcomes.{IsPictureFault, IsPosterPrinted}
 use Rattle.disk_pictures.specs.Views.{AreFreePrinted, IsSectorPrinted, IsViewFault}
 use Rattle.disk_reports.specs.AllFaults.{AreListed}
 use Rattle.disk_reports.specs.Listings.{IsCheckFault, IsListFault, IsListed}
 use Rattle.disk_reports.specs.Outcomes.{IsDescribeFault}
 use Rattle.file_rescues.specs.Printed.{AreBytesTaken}
-use Rattle.image_looks.specs.Looks.{AreRecordsTaken, IsChecked, IsTakingEnd, WhyNoBytes, WhyNoRecords}
+use Rattle.image_looks.specs.Reports.{IsChecked}
+use Rattle.image_looks.specs.Looks.{AreRecordsTaken, IsTakingEnd, WhyNoBytes, WhyNoRecords}
 use Rattle.image_looks.proofs.Looked.{if-all, if-both, no-cut-records, printed, quietly-printed, taken}
 use Rattle.image_looks.proofs.looks.look.Goals as goal
 
@@ -31,17 +32,14 @@ returns-in-Faults g c =
 pub returns-in-Show : goal.returns-in-Show
 returns-in-Show g c = rw c.in-Show.is c.print_shop.ensures
 
+pub returns-in-AsIs : goal.returns-in-AsIs
+returns-in-AsIs g c = rw c.in-AsIs.is c.look_as_is.ensures
+
 pub returns-in-Map : goal.returns-in-Map
-returns-in-Map g c =
-    let done = c.map_image in
-    rw c.in-Map.is (printed c.args.out.now done.new.out (IsMapPrinted g.W.Write.contents c.args.image.now) (IsPictureFault c.args.image.now) done.result
-    done.ensures.ok done.ensures.err done.ensures.untouched)
+returns-in-Map g c = rw c.in-Map.is c.report_image.ensures
 
 pub returns-in-Picture : goal.returns-in-Picture
-returns-in-Picture g c =
-    let done = c.picture_image in
-    rw c.in-Picture.is (printed c.args.out.now done.new.out (IsPicturePrinted g.W.Write.contents c.args.image.now) (IsPictureFault c.args.image.now) done.result
-    done.ensures.ok done.ensures.err done.ensures.untouched)
+returns-in-Picture g c = rw c.in-Picture.is c.report_image-in-Picture.ensures
 
 pub returns-in-Poster : goal.returns-in-Poster
 returns-in-Poster g c =

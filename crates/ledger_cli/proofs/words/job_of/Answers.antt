@@ -7,7 +7,9 @@ use Rattle.image_edits.specs.declared.edit.Edit.TheVariants as edits
 use Rattle.disk_changes.specs.declared.changes.Lock.TheVariants.{Cleared, Set}
 use Rattle.ledger_jobs.specs.declared.jobs.Job.TheVariants as jobs
 use Rattle.file_rescues.specs.declared.forms.FileForm.TheVariants as files
+use Rattle.image_looks.specs.declared.kinds.Look.{Look}
 use Rattle.image_looks.specs.declared.kinds.Look.TheVariants as looks
+use Rattle.ledger_cli.specs.Images.{IsLookJob}
 use Rattle.ledger_jobs.specs.Jobs.{IsFit}
 use Rattle.ledger_cli.specs.Jobs.{IsJob}
 use Rattle.ledger_cli.specs.Flags.{is_given}
@@ -19,7 +21,7 @@ use Rattle.ledger_cli.proofs.Named.{making-met, named-met, putting-met, records-
 use Rattle.ledger_cli.proofs.Named.{storing-met, titling-met}
 use Rattle.ledger_cli.proofs.Parses.{copy-fit, copy-met, format-fit, format-met, met-has, met-is, play-fit, play-met}
 use Rattle.ledger_cli.proofs.Parses.{repair-fit, repair-met}
-use Rattle.ledger_cli.proofs.Views.{checking-met, planning-met, viewing-met}
+use Rattle.ledger_cli.proofs.Views.{checking-met, list-met, planning-met, show-met, viewing-met}
 use Rattle.ledger_cli.proofs.words.job_of.Goals as goal
 
 pub returns-in_default : goal.returns-in_default
@@ -52,8 +54,11 @@ returns-in-None c = record {
 
 pub returns-in-list : goal.returns-in-list
 returns-in-list c =
-    let met = viewing-met c.parsed_subcommand.result _ c.in-Some.name c.in-Some.found (looks.List c.name_form.result)
-    c.viewing.result c.parsed_subcommand.ensures c.in-Some.is c.in-list.is tt c.name_form.ensures c.viewing.ensures in
+    let rows = rows_of (found_of c.in-Some.found.now) in
+    let asked = list-met rows _ c.name_form.result refl c.name_form.ensures in
+    let viewed = subst (λ (what : Look). IsLookJob rows what c.viewing.result) c.disk_look-what.ensures c.viewing.ensures in
+    let met = viewing-met c.parsed_subcommand.result _ c.in-Some.name c.in-Some.found _
+    c.viewing.result c.parsed_subcommand.ensures c.in-Some.is (c.in-list.is ∙ sym asked.0) asked.1 asked.2 viewed in
     record { job = met.0; fit = met.1 }
 
 pub returns-in-check : goal.returns-in-check
@@ -69,11 +74,16 @@ returns-in-plan c =
     record { job = met.0; fit = met.1 }
 
 pub returns-in-show : goal.returns-in-show
-returns-in-show c = record {
-  job = met-has c.parsed_subcommand.result _ c.in-Some.name c.in-Some.found _ _ c.parsed_subcommand.ensures c.in-Some.is c.in-show.is
-      (c.value_of-image.ensures, tt, c.loss.ensures);
-  fit = tt;
-}
+returns-in-show c =
+    let rows = rows_of (found_of c.in-Some.found.now) in
+    let asked = show-met rows _ c.loss.result refl c.loss.ensures in
+    record {
+      job = subst (λ (what : Look). IsJob (subcommand_rows_of c.args.matches.now) (jobs.Look c.value_of-image.result what))
+          (sym c.disk_look.ensures)
+          (met-has c.parsed_subcommand.result _ c.in-Some.name c.in-Some.found _ _ c.parsed_subcommand.ensures c.in-Some.is
+          (c.in-show.is ∙ sym asked.0) (c.value_of-image.ensures, asked.1, asked.2));
+      fit = tt;
+    }
 
 pub returns-in-play : goal.returns-in-play
 returns-in-play c =

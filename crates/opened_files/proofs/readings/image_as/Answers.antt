@@ -14,3 +14,8 @@ pub returns-in-FirstTracks-clause-read : goal.returns-in-FirstTracks-clause-read
 returns-in-FirstTracks-clause-read g c = λ other none all holds.
     subst (λ (e : Extent). IfOk c.first_tracks_at.result (λ image. vec_items image ≡ taken_as e all)) (sym c.in-FirstTracks.is)
     (c.first_tracks_at.ensures.read other none all holds)
+
+pub returns-in-Whole-clause-read : goal.returns-in-Whole-clause-read
+returns-in-Whole-clause-read g c = λ other none all holds.
+    subst (λ (e : Extent). IfOk c.long_image_at.result (λ image. vec_items image ≡ taken_as e all)) (sym c.in-Whole.is)
+    (c.long_image_at.ensures.read other none all holds)

@@ -2,7 +2,7 @@
 use Rattle.std.proofs.Common.{refl}
 use Rattle.std.proofs.lemmas.Result.{err_from_is_err_and}
 use Rattle.image_looks.proofs.Listed.{listed-kept}
-use Rattle.image_looks.proofs.looks.faults_image.Goals as goal
+use Rattle.image_looks.proofs.reporting.faults_image.Goals as goal
 
 pub returns-in_err-found : goal.returns-in_err-found
 returns-in_err-found g c =
