@@ -153,3 +153,4 @@ heard-as-asked (Err faults.Id) asked heard same = same
 heard-as-asked (Err faults.Flags) asked heard same = same
 heard-as-asked (Err faults.Kind) asked heard same = same
 heard-as-asked (Err faults.Positions) asked heard same = same
+heard-as-asked (Err faults.Path) asked heard same = same

@@ -148,7 +148,7 @@ AreRefusedColumns found fault = Has found (codes "records") (λ rows. HasNoColum
 
 -- why there is none: the words are refused for one of these kinds, or memory ran out. Or the number of tills, a name, the
 -- length of a record, the sector, the ID of a disk, the type of a file or a list of positions isn't valid, or two flags
--- exclude one another
+-- exclude one another. A path isn't looked at here
 abbrev pub IsNoJob : Kinds → Option (Text × List Row) → JobFault → Type 0
 IsNoJob kinds found (faults.Words e) = HasKind kinds e
 IsNoJob kinds found faults.Tills = (kinds ≡ []) × Has found (codes "format") (λ rows. tills_in rows ≡ None)
@@ -164,3 +164,4 @@ IsNoJob kinds found faults.Kind =
     ⊎ Has found (codes "undelete") (λ rows. entry_type_in rows ≡ None))
 IsNoJob kinds found faults.Flags = (kinds ≡ []) × AreRefusedColumns found faults.Flags
 IsNoJob kinds found faults.Positions = (kinds ≡ []) × AreRefusedColumns found faults.Positions
+IsNoJob kinds found faults.Path = ⊥
