@@ -1,11 +1,6 @@
 pub mod lemmas
 pub mod Cuts
-pub mod Handled
 pub mod Kept
 pub mod LinesGiven
 pub mod Long
-pub mod Same
-pub mod Served
-pub mod Taken
 pub mod Together
-pub mod Turns

@@ -1,9 +1,4 @@
 pub mod logged
-pub mod Answering
 pub mod Batches
-pub mod FlushedReplies
-pub mod Giving
-pub mod Inputs
 pub mod Read
 pub mod Scripts
-pub mod Serves

@@ -2,8 +2,7 @@
 ghost use Rattle.std.specs.Prelude.{◌≡◌, ◌≤◌, vec_capacity};
 ghost use Rattle.line_server.specs.Batches.{BatchInput, IsBatchGiven, IsBatchTaken, of_bytes, texts_of};
 
-use crate::reading::{has_line, read_line};
-use crate::sources::drop_cr;
+use crate::reading::{drop_cr, has_line, read_line};
 use arrayvec::ArrayVec;
 use host_session::Next;
 use std::io::BufRead;

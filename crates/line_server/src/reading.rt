@@ -3,6 +3,7 @@ ghost use Rattle.std.specs.Prelude.{◌≡◌, ◌≢◌, ◌++◌, ◌<◌, ◌
 ghost use Rattle.std.specs.Prelude.{[], None, is_some, length, slice_index, take};
 ghost use Rattle.std.specs.Io.KnownBytes.{Consumes, IsAtEnd};
 ghost use Rattle.line_server.specs.Read.{LacksLf, TookPart, lf_after};
+ghost use Rattle.line_text.specs.scripts.Lines.{without_cr};
 
 use arrayvec::ArrayVec;
 use std::io::{self, BufRead, Error, ErrorKind};
@@ -84,6 +85,15 @@ pub(crate) fn read_line<R: BufRead>(
         }
     }
     Err(Error::from(ErrorKind::TimedOut))
+}
+
+/// Drops one CR at the end of a line.
+pub(crate) fn drop_cr(line: &mut ArrayVec<u8, 40>)
+    ensures { line.new.items ≡ without_cr line.old.items }
+{
+    if let Some(&b'\r') = line.as_slice().last() {
+        let _ = line.pop();
+    }
 }
 
 /// Whether a whole line is among the bytes at hand, of which there are so many. It takes none of them, and doesn't wait.

@@ -1,7 +1,6 @@
 pub mod Brought
 pub mod Written
 pub mod Ends
-pub mod Noted
 pub mod SnapshotRights
 pub mod SnapshotPremises
 pub mod KnownFolders

@@ -4,7 +4,6 @@ pub mod Files
 pub mod WholeFiles
 pub mod Shops
 pub mod WholeShops
-pub mod Noted
 pub mod Snapshots
 pub mod KnownFolders
 pub mod KnownServices

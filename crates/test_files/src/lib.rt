@@ -5,14 +5,12 @@
 
 mod disk;
 mod disk_file;
-mod noting;
 mod runs;
 mod snapshots;
 mod whole_file;
 
 pub use disk::{Disk, IMAGE_BYTES};
 pub use disk_file::{DiskFile, Lock};
-pub use noting::{NotedLines, NotedReplies, RecordedReply};
 pub use runs::play_in_file;
 pub use snapshots::host::Snapshot;
 pub use snapshots::jobs::{

@@ -12,6 +12,5 @@ mod images;
 #[cfg(test)]
 mod known_disk_rows;
 #[cfg(test)]
-mod noted_rows;
 #[cfg(test)]
 mod run_rows;

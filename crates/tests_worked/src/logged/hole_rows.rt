@@ -1,8 +1,9 @@
 //! An input that fails once: the run ends, and it isn't asked again.
 use crate::comparing::same_at;
 use crate::disks::fresh;
+use crate::logged::logs::begun;
 use host_session::{LoopFault, PrintedReplies};
-use line_server::serve;
+use line_server::{Room, serve_batches};
 use std::io::{self, BufRead, ErrorKind, Read};
 use std::process::Abort;
 
@@ -41,8 +42,12 @@ fn served(
         fails,
         left: b"1,1,S,1,5\n",
     };
+    let disk = fresh(rt);
+    let (image, _) = disk.bytes().as_chunks::<256>();
+    let mut log = begun(rt, image).expect(rt, "a log");
+    let mut room = Room::new(rt.alloc()).expect(rt, "there is memory");
     let mut out = PrintedReplies::new(Vec::new(rt.alloc()));
-    let ended = serve(fresh(rt), &mut input, &mut out);
+    let ended = serve_batches(disk, &mut log, &mut input, &mut out, &mut room);
     let fault = match ended {
         Ok(_) => None,
         Err((fault, _)) => Some(fault),
