@@ -6,9 +6,10 @@
 A file of another in the place of a log that is made, or of a log, stays; what a run that was killed left doesn't block. A log with
 many blocks is read to its end, and so is each byte of an image, from a log and from standard input. Paths of 250 bytes are as good as
 short ones, also beside a service; a sheet has each of forty images. A change that changes nothing says what it did. Where strace is
-there: what is made, forgotten or extracted is synced in its folder, and a log or a copy in the making is its owner's alone. A reader
-beside a service sees what the service wrote last, also once that has landed."""
+there: what is made, forgotten or extracted is synced in its folder, and a log or a copy in the making is its owner's alone. What comes to
+a name between a look and a call stays. A reader syncs the log that it shows, also one that lands meanwhile."""
 
+import fcntl
 import os
 import re
 import shutil
@@ -16,6 +17,7 @@ import stat
 import subprocess
 import sys
 import tempfile
+import time
 from pathlib import Path
 
 sys.dont_write_bytecode = True
@@ -89,7 +91,7 @@ def every_byte(room, see):
     service = Service(image)
     service.ask(b"1,1,R,7,1\n")
     see("a copy beside a service", ran("copy", image, room / "beside.d64").returncode, 0)
-    see("the last byte of it", (room / "beside.d64").read_bytes()[LAST], 0xA5)
+    see("the last byte of it", (room / "beside.d64").exists() and (room / "beside.d64").read_bytes()[LAST], 0xA5)
     sector = ran("sector", image, "35/16").stdout
     see("the last sector, beside a service", b"a5" in sector.lower(), True)
     see("the service ends", service.end(), 0)
@@ -148,6 +150,20 @@ def long_paths(room, see):
     see("show at a long path beside a service", (done.returncode, b"TILL 1,2" in done.stdout), (0, True))
     see("put at a long path beside a service", ran("put", image, "B", text, "--type", "seq").stderr, b"IN USE\n")
     see("the service at a long path ends", service.end(), 0)
+
+
+def short_logs(room, see):
+    """A log that isn't as long as a log is none, although its commits are there."""
+    image = shop(room / "short.d64")
+    service = Service(image)
+    service.ask(b"1,1,R,7,1\n")
+    service.kill()
+    log = Path(f"{image}-log")
+    os.truncate(log, 4096 * 100)
+    for words in (["show", image], ["copy", image, room / "short-copy.d64"], ["repair", image]):
+        done = ran(*words)
+        see(f"{words[0]} beside a log that was cut", (done.returncode, done.stdout, done.stderr), (1, b"", b"LOG\n"))
+    see("a log that was cut stays", log.stat().st_size, 4096 * 100)
 
 
 def sheets(room, see):
@@ -222,6 +238,79 @@ def synced_names(room, see):
     see("a log that is forgotten is synced", (done.returncode, bool(gone and synced) and max(synced) > max(gone)), (0, True))
 
 
+def late(room, words, inject, act):
+    """A run with these words, one of whose calls comes late, and what is done meanwhile."""
+    line = ["strace", "-f", "-qq", "-o", room / "late", "-e", f"trace={inject.partition(':')[0]}", "-e", f"inject={inject}", PROGRAM, *words]
+    with subprocess.Popen([str(it) for it in line], stdin=subprocess.DEVNULL, stdout=subprocess.PIPE, stderr=subprocess.PIPE) as run:
+        time.sleep(0.5)
+        act()
+        printed, told = run.communicate(timeout=60)
+    return run.returncode, printed, told
+
+
+def meanwhile(room, see):
+    """What comes to a name between a look and the call that would take it is kept."""
+    if not shutil.which("strace"):
+        return
+    image, text = shop(room / "late.d64"), room / "text"
+    text.write_bytes(b"TEXT")
+    ran("put", image, "A", text, "--type", "seq")
+    folder = room / "late-files"
+    done = late(room, ["extract", image, folder], "mkdir:delay_exit=1000000", folder.mkdir)
+    see("extract to a folder that came meanwhile", (done[0], list(folder.iterdir())), (1, []))
+    making = room / "late-copy.d64.new"
+
+    def replaces(path, held):
+        """Puts another file in the place of that which has a name."""
+        other = room / "other"
+        other.write_bytes(held)
+        other.rename(path)
+
+    done = late(room, ["copy", image, room / "late-copy.d64"], "fsync:error=EIO:when=1:delay_enter=1000000", lambda: replaces(making, b"mine"))
+    see("a copy that fails", (done[0], done[1]), (3, b""))
+    see("another's file in the place of what was made", making.exists() and making.read_bytes(), b"mine")
+    service = Service(image)
+    service.ask(b"1,1,R,7,1\n")
+    service.kill()
+    log = Path(f"{image}-log")
+    held = log.read_bytes()
+    image.unlink()
+    done = late(room, ["format", image, "--tills", 2], "fsync:when=1:delay_enter=1000000", lambda: replaces(log, held))
+    see("format beside a log that another came for", (done[0] != 0, log.exists()), (True, True))
+    small = room / "small"
+    small.write_bytes(b"no image")
+    with small.open("rb") as file:
+        fcntl.flock(file, fcntl.LOCK_EX)
+        see("format over a file that is in use", (ran("format", small, "--tills", 2).stderr, small.read_bytes()), (b"IN USE\n", b"no image"))
+
+
+def views(room, see):
+    """A reader syncs the log that it shows, and a log that lands while it is read is shown as it was read."""
+    if not shutil.which("strace"):
+        return
+    (room / "text").write_bytes(b"TEXT")
+    image = shop(room / "view.d64")
+    service = Service(image)
+    service.ask(b"1,1,R,7,1\n")
+    done, calls = calls_of(room, "show", image)
+    see("a log is synced before it is shown", (done.returncode, any("fdatasync(" in it and "view.d64-log>" in it for it in calls)), (0, True))
+    told = room / "reads"
+    subprocess.run([str(it) for it in ["strace", "-y", "-o", told, "-e", "trace=read", PROGRAM, "show", image]], capture_output=True)
+    reads = told.read_text(errors="replace").splitlines()
+    last = max(n for n, it in enumerate(reads, 1) if "view.d64-log>" in it)
+
+    def lands():
+        service.ask(b"1,2,R,7,1\n")
+        service.end()
+
+    status, printed, said = late(room, ["show", image], f"read:delay_exit=1000000:when={last}", lands)
+    see("show of a log that lands meanwhile", (status, b"TILL 1," in printed, said), (0, True, b""))
+    done, calls = calls_of(room, "put", image, "A", room / "text", "--type", "seq")
+    made = [n for n, it in enumerate(calls) if "O_CREAT" in it and "view.d64-log.new" in it]
+    synced = [n for n, it in enumerate(calls) if "fsync(" in it and f"<{room}>" in it]
+    see("names are synced before a change", (done.returncode, bool(made and synced) and min(synced) < min(made)), (0, True))
+
+
 def main(given):
     global PROGRAM
     PROGRAM = given.program
@@ -235,7 +324,7 @@ def main(given):
 
     with tempfile.TemporaryDirectory() as name:
         room = Path(name).resolve()
-        for part in (every_byte, long_logs, other_files, kept_logs, long_paths, sheets, same_again, synced_names):
+        for part in (every_byte, long_logs, other_files, kept_logs, long_paths, short_logs, sheets, same_again, synced_names, meanwhile, views):
             part(room, see)
     print("\n".join([*wrong, f"unbound_calls: {tried} looks, {len(wrong)} wrong"]))
     return tried - len(wrong), len(wrong)
