@@ -110,12 +110,14 @@ def other_files(room, see):
     left = shop(room / "left.d64")
     Path(f"{left}-log.new").write_bytes(bytes(LOG_BYTES))
     see("a service after a run that left a log in the making", ran("serve", left, input=b"1,1,R,7,1\n").returncode, 0)
-    image = shop(room / "foreign.d64")
-    Path(f"{image}-log").write_bytes(b"somebody's notes")
-    held = image.read_bytes()
-    see("format beside another's file", ran("format", image, "--tills", 2).returncode != 0, True)
-    see("another's file where a log would stand", Path(f"{image}-log").read_bytes(), b"somebody's notes")
-    see("the image beside it", image.read_bytes() == held, True)
+    for name, held in (("short", b"somebody's notes"), ("as long as a log", b"X" * LOG_BYTES)):
+        image = shop(room / f"foreign-{name.replace(' ', '-')}.d64")
+        log = Path(f"{image}-log")
+        log.write_bytes(held)
+        before = image.read_bytes()
+        see(f"format beside another's file, {name}", ran("format", image, "--tills", 2).returncode != 0, True)
+        see(f"another's file where a log would stand, {name}", log.exists() and log.read_bytes() == held, True)
+        see(f"the image beside another's file, {name}", image.read_bytes() == before, True)
 
 
 def kept_logs(room, see):
