@@ -240,14 +240,17 @@ def synced_names(room, see):
     see("a log that is forgotten is synced", (done.returncode, bool(gone and synced) and max(synced) > max(gone)), (0, True))
 
 
-def late(room, words, inject, act):
-    """A run with these words, one of whose calls comes late, and what is done meanwhile."""
-    line = ["strace", "-f", "-qq", "-o", room / "late", "-e", f"trace={inject.partition(':')[0]}", "-e", f"inject={inject}", PROGRAM, *words]
+def late(room, words, inject, is_due, act):
+    """A run with these words, one of whose calls comes two seconds late, and what is done meanwhile, once that is due."""
+    told = room / "late"
+    told.unlink(missing_ok=True)
+    line = ["strace", "-f", "-qq", "-o", told, "-e", f"trace={inject.partition(':')[0]}", "-e", f"inject={inject}", PROGRAM, *words]
     with subprocess.Popen([str(it) for it in line], stdin=subprocess.DEVNULL, stdout=subprocess.PIPE, stderr=subprocess.PIPE) as run:
-        time.sleep(0.5)
+        while run.poll() is None and not is_due():
+            time.sleep(0.02)
         act()
-        printed, told = run.communicate(timeout=60)
-    return run.returncode, printed, told
+        printed, said = run.communicate(timeout=120)
+    return run.returncode, printed, said
 
 
 def meanwhile(room, see):
@@ -258,7 +261,7 @@ def meanwhile(room, see):
     text.write_bytes(b"TEXT")
     ran("put", image, "A", text, "--type", "seq")
     folder = room / "late-files"
-    done = late(room, ["extract", image, folder], "mkdir:delay_exit=1000000", folder.mkdir)
+    done = late(room, ["extract", image, folder], "mkdir:delay_exit=2000000", Path(f"{folder}.new").exists, folder.mkdir)
     see("extract to a folder that came meanwhile", (done[0], list(folder.iterdir())), (1, []))
     making = room / "late-copy.d64.new"
 
@@ -268,7 +271,8 @@ def meanwhile(room, see):
         other.write_bytes(held)
         other.rename(path)
 
-    done = late(room, ["copy", image, room / "late-copy.d64"], "fsync:error=EIO:when=1:delay_enter=1000000", lambda: replaces(making, b"mine"))
+    done = late(room, ["copy", image, room / "late-copy.d64"], "fsync:error=EIO:when=1:delay_enter=2000000", making.exists,
+                lambda: replaces(making, b"mine"))
     see("a copy that fails", (done[0], done[1]), (3, b""))
     see("another's file in the place of what was made", making.exists() and making.read_bytes(), b"mine")
     service = Service(image)
@@ -277,7 +281,8 @@ def meanwhile(room, see):
     log = Path(f"{image}-log")
     held = log.read_bytes()
     image.unlink()
-    done = late(room, ["format", image, "--tills", 2], "fsync:when=1:delay_enter=1000000", lambda: replaces(log, held))
+    done = late(room, ["format", image, "--tills", 2], "fsync:when=1:delay_enter=2000000", Path(f"{image}.new").exists,
+                lambda: replaces(log, held))
     see("format beside a log that another came for", (done[0] != 0, log.exists()), (True, True))
     small = room / "small"
     small.write_bytes(b"no image")
@@ -305,7 +310,11 @@ def views(room, see):
         service.ask(b"1,2,R,7,1\n")
         service.end()
 
-    status, printed, said = late(room, ["show", image], f"read:delay_exit=1000000:when={last}", lands)
+    def has_read():
+        """Whether all reads before the last one of the log were made."""
+        return (room / "late").exists() and (room / "late").read_bytes().count(b"\n") >= last - 1
+
+    status, printed, said = late(room, ["show", image], f"read:delay_exit=2000000:when={last}", has_read, lands)
     see("show of a log that lands meanwhile", (status, b"TILL 1," in printed, said), (0, True, b""))
     done, calls = calls_of(room, "put", image, "A", room / "text", "--type", "seq")
     made = [n for n, it in enumerate(calls) if "O_CREAT" in it and "view.d64-log.new" in it]
