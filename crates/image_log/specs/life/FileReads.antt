@@ -6,11 +6,11 @@ use Rattle.image_log.specs.life.Tags.{IsTagged, untagged}
 
 module _ {F : Type 0} (remaining : F → Option (List ℕ)) (position : F → Option ℕ) (bytes : F → Option (List ℕ)) where
   -- A file was sought to a place, and then reads gave these bytes of it.
-  pub record AreReadAt (old new : F) (place : ℕ) (read : List ℕ) : Type 0 where
+  pub record AreReadAt (old new : F) (place : ℕ) (got : List ℕ) : Type 0 where
     pub sought : F
     pub at : IfSome (position old) (λ _. position sought ≡ Some place)
     pub same : Keeps (bytes old) (bytes sought)
-    pub read : Consumes (remaining sought) (remaining new) read
+    pub gives : Consumes (remaining sought) (remaining new) got
 
   -- The last eight bytes of sector 18/0 were the tag's, and zeros were put in their place, and synced; or the file was read alone.
   pub record IsTagTaken (r : Remains F) (old new : F) : Type 0 where
