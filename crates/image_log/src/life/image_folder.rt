@@ -1,6 +1,5 @@
 //! The folder of an image, of a host.
 ghost use Rattle.image_log.specs.life.Checks.{IsCounted};
-ghost use Rattle.image_log.specs.life.FileReads.{AreReadAt};
 ghost use Rattle.image_log.specs.life.Folders.{Acts, Folder, HasSector, IsImageWritten, IsNow, LeavesSector, Same, with_sector};
 ghost use Rattle.image_log.specs.life.HostLogs.{untagged_folders};
 ghost use Rattle.image_log.specs.life.LogRights.{MayKeepLogOf, MayReadLogOf, log_of};
@@ -8,7 +7,7 @@ ghost use Rattle.image_log.specs.life.Mixes.{IsTorn};
 ghost use Rattle.image_log.specs.life.Tags.{HasTag, IsTagged, IsTaggedIfRoom, untagged};
 ghost use Rattle.image_file.specs.paths.Rights.{Read as ToRead};
 ghost use Rattle.image_file.specs.paths.Standing.{IsMissing};
-ghost use Rattle.std.specs.Prelude.{◌≡◌, [], IfOk, IfSome, IsNone, List, OnOk, Some, false, flat_map, length, slice_index_or, string_bytes, true, ℕ};
+ghost use Rattle.std.specs.Prelude.{◌≡◌, [], IfOk, IfSome, IsNone, List, OnOk, Some, false, length, slice_index_or, string_bytes, true, ℕ};
 
 use crate::life::checks::Checks;
 use crate::life::host_folder::HostFolder;
@@ -60,9 +59,7 @@ pub(crate) fn log_to_read<R: HostFiles>(rt: &R, names: &LogNames) -> io::Result<
 /// Reads the 683 sectors of an image's file.
 pub(crate) fn read_sectors<F: Read + Seek>(file: &mut F, image: &mut [[u8; 256]]) -> io::Result<()>
     requires { length image.old ≡ 683 }
-    ensures size { length image.new ≡ length image.old }
-    ensures read { OnOk result (AreReadAt F.Read.remaining F.Seek.stream_position F.Seek.stream_bytes file.old file.new 0
-        (flat_map (λ sector. sector) image.new)) }
+    ensures { length image.new ≡ length image.old }
 {
     file.seek(SeekFrom::Start(0))?;
     file.read_exact(image.as_flattened_mut())

