@@ -4,7 +4,7 @@
 In README.md and docs/*.md a line `<!-- FILE: NAME -->` stands before a block of code that quotes the definition NAME of FILE, with
 the comment over it. Of a FILE of Rust NAME is a trait that is implemented there, and the block has a line for each of its functions:
 name and body; or it is a function or a trait, which the block has without comments, attributes and blank lines. Both have to be the
-same, line by line. `--write` puts the definition into the block. Without words nothing is written, and the status is 1 where a block
+same, line by line. `<!-- FILE: NAME without A, B -->` leaves out these functions of a trait, whose bodies a clause binds. `--write` puts the definition into the block. Without words nothing is written, and the status is 1 where a block
 isn't up to date, where NAME isn't there, or where nothing is quoted."""
 
 import re
@@ -12,7 +12,7 @@ import sys
 from pathlib import Path
 
 TOP = Path(__file__).resolve().parents[2]
-QUOTE = re.compile(r"(<!-- (\S+): (\w+) -->\n+```\w*\n)(.*?)(```\n)", re.S)
+QUOTE = re.compile(r"(<!-- (\S+): (\w+)(?: without ([\w, ]+?))? -->\n+```\w*\n)(.*?)(```\n)", re.S)
 
 
 def bodies(lines, trait):
@@ -53,14 +53,22 @@ def definition(file, name):
     return "".join(f"{line.removeprefix(inset)}\n" for line in lines[begin : end + 1])
 
 
+def left_out(lines, names):
+    """The lines of a trait without those of these functions; None where one of them isn't there."""
+    absent = [it for it in names if not re.search(rf"(?m)^{it}: ", lines)]
+    return None if absent else "".join(f"{it}\n" for it in lines.splitlines() if it.partition(":")[0] not in names)
+
+
 def main(words):
     faults = quoted = 0
     for page in [TOP / "README.md", *sorted((TOP / "docs").glob("*.md"))]:
         text = page.read_text(encoding="utf-8")
         made = text
-        for head, file, name, block, foot in QUOTE.findall(text):
+        for head, file, name, without, block, foot in QUOTE.findall(text):
             quoted += 1
             wanted = definition(file, name) if (TOP / file).exists() else None
+            if wanted and without:
+                wanted = left_out(wanted, without.split(", "))
             if wanted is None:
                 print(f"{page.relative_to(TOP)}: {file} has no {name}")
                 faults += 1

@@ -37,6 +37,7 @@ module _ {N F : Type 0} (inner : N → F) where
   -- what a host says of calls that were made
   abbrev pub traces_in : {M G : Type 0} → (M → G) → Traces F G → Traces N M
   traces_in file t = record {
+    seen = λ n. t.seen (inner n);
     opened = λ n how path m. t.opened (inner n) how path (file m);
     moved = λ n. t.moved (inner n);
     renamed = λ n. t.renamed (inner n);

@@ -1,4 +1,6 @@
 //! Files that one program at a time writes.
+ghost use Rattle.std.specs.Prelude.{⊤};
+
 use crate::durability::WritesAt;
 use crate::reading::read_image;
 use crate::remaining::EndedFile;
@@ -9,12 +11,17 @@ use std::io::{self, Read};
 /// A file that programs lock before they read or write it. The lock isn't waited for, and it falls with the open file,
 /// also if the program dies. It binds programs that ask for it, and no others.
 pub trait Locks: WritesAt + EndedFile + Read {
-    ghost use Rattle.std.specs.Prelude.{◌≡◌, IfOk, IfSome, OnOk, take, vec_items};
+    ghost use Rattle.std.specs.Prelude.{◌≡◌, Err, IfOk, IfSome, OnOk, take, vec_items};
+    ghost use Rattle.std.specs.declared.fs.locks.TryLockError.TheVariants.{WouldBlock};
+
+    // another program had a lock on it when it was asked for one
+    ghost IsTaken: { Self → Type 0 } = { λ _. ⊤ };
 
     /// Locks the file for this program alone. `WouldBlock` if another has a lock on it.
     fn lock_alone(&mut self) -> Result<(), TryLockError>
         ensures owned { OnOk result (Self.IsOwned self.new) }
         ensures shared { OnOk result (Self.IsShared self.new) }
+        ensures taken { result ≡ Err WouldBlock → IsTaken self.new }
         ensures held { Self.held self.new ≡ Self.held self.old }
         ensures remains { Self.EndedFile.remains.held self.new ≡ Self.EndedFile.remains.held self.old }
         ensures unread { Self.unread self.new ≡ Self.unread self.old };
@@ -22,6 +29,7 @@ pub trait Locks: WritesAt + EndedFile + Read {
     /// Locks the file so that others may read it too, and none writes it. `WouldBlock` if another has it alone.
     fn lock_shared(&mut self) -> Result<(), TryLockError>
         ensures shared { OnOk result (Self.IsShared self.new) }
+        ensures taken { result ≡ Err WouldBlock → IsTaken self.new }
         ensures held { Self.held self.new ≡ Self.held self.old }
         ensures unread { Self.unread self.new ≡ Self.unread self.old };
 

@@ -1,5 +1,6 @@
 //! Files that are overwritten, and what may remain of them after a power loss.
-ghost use Rattle.std.specs.Prelude.{OnOk};
+ghost use Rattle.std.specs.Prelude.{◌≡◌, OnOk, bit_and};
+ghost use Rattle.std.specs.Fs.{metadata_mode};
 ghost use Rattle.image_file.specs.Remains.{IsBroughtWhole, IsEndedBehind, IsFinished, IsPutOver, Remains, unknown};
 
 use std::fs::{File, Metadata, Permissions};
@@ -34,7 +35,9 @@ pub trait EndedFile {
 }
 
 /// The mode of a file in the making that is to be guarded as another: only its owner may use it.
-pub fn private_mode(like: &Metadata) -> u32 {
+pub fn private_mode(like: &Metadata) -> u32
+    ensures { result ≡ bit_and (metadata_mode like.now) 0o600 }
+{
     like.mode() & 0o600
 }
 

@@ -122,6 +122,7 @@ IsOpenedBy host how path file = ⊤
 -- what a snapshot says of calls that were made
 abbrev pub snapshot_traces : Traces Snapshot SnapshotFile
 snapshot_traces = record {
+  seen = λ _ _ _. ⊤;
   opened = IsOpenedBy;
   moved = λ _ _ _. ⊤;
   renamed = λ _ _ _. ⊤;

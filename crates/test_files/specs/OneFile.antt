@@ -31,6 +31,7 @@ module _ (path image : List ℕ) where
   -- it was made, and moved
   abbrev pub one_traces : Traces Unit Stage
   one_traces = record {
+    seen = λ _ _ _. ⊥;
     opened = λ _ how at f. (at ≡ aside_of path []) × (f ≡ Made);
     moved = λ _ from to. (from ≡ aside_of path []) × (to ≡ path);
     renamed = λ _ _ _. ⊥;

@@ -1,11 +1,14 @@
 -- What a host says of calls that were made. Our own.
 use Rattle.std.specs.Prelude.{◌≡◌, [], ℕ, List, Option, Some, ⊤}
+use Rattle.std.specs.declared.fs.attrs.Metadata.{Metadata}
 use Rattle.image_file.specs.Remains.{Remains}
 use Rattle.image_file.specs.Replacing.{NowAll}
 use Rattle.image_file.specs.paths.Rights.{Make, Use, Write}
 
 -- Facts that only calls of a host give.
 pub record Traces (H F : Type 0) : Type 1 where
+  -- this is what stood at a path when it was looked at
+  pub seen : H → List ℕ → Metadata → Type 0
   -- this file was opened in this way at a path, or made there, and is as it was then
   pub opened : H → Use → List ℕ → F → Type 0
   -- what had the first path got the second one, at which nothing stood
@@ -20,6 +23,7 @@ pub record Traces (H F : Type 0) : Type 1 where
 -- of a host that says nothing
 abbrev pub untraced : {H F : Type 0} → Traces H F
 untraced = record {
+  seen = λ _ _ _. ⊤;
   opened = λ _ _ _ _. ⊤;
   moved = λ _ _ _. ⊤;
   renamed = λ _ _ _. ⊤;

@@ -204,6 +204,8 @@ impl<F: WritesAt> WritesAt for NotedFile<'_, '_, F> {
 }
 
 impl<F: Locks> Locks for NotedFile<'_, '_, F> {
+    ghost IsTaken = { λ noted. F.IsTaken noted.file };
+
     ghost reads = { λ noted. F.reads noted.file };
 
     fn lock_alone(&mut self) -> Result<(), TryLockError> {

@@ -26,7 +26,8 @@ pub trait HostFiles {
     /// What stands at a path.
     fn look_at(&self, path: &str) -> io::Result<Metadata>
         requires { May rights self.now Look path.now }
-        ensures { IsMissing stands self.now path.now → IsErr result };
+        ensures missing { IsMissing stands self.now path.now → IsErr result }
+        ensures seen { IfOk result (traces.seen self.now path.now) };
 
     /// Whether anything has this path as its name, also a symbolic link that leads nowhere.
     fn is_named(&self, path: &str) -> io::Result<bool>

@@ -1,7 +1,9 @@
 //! Names of open files. Such a name may come to lead elsewhere.
-ghost use Rattle.std.specs.Prelude.{◌≡◌, false};
+ghost use Rattle.std.specs.Prelude.{◌≡◌, false, true};
+ghost use Rattle.std.specs.Fs.{metadata_len};
 ghost use Rattle.std.proofs.Props.{props};
 ghost use Rattle.image_file.specs.paths.Rights.{Look, May};
+ghost use Rattle.image_file.specs.paths.Names.{IsSeenAs};
 ghost use Rattle.image_file.specs.paths.Standing.{IsMissing};
 
 use crate::paths::host::HostFiles;
@@ -19,12 +21,16 @@ pub struct Identity {
 
 impl Identity {
     /// The file that this metadata describes.
-    fn of(found: &Metadata) -> Identity {
+    fn of(found: &Metadata) -> Identity
+        ensures { result.bytes ≡ metadata_len found.now }
+    {
         Identity::sized(found, found.len())
     }
 
     /// The file that this metadata describes, once it has this many bytes.
-    pub fn sized(found: &Metadata, bytes: u64) -> Identity {
+    pub fn sized(found: &Metadata, bytes: u64) -> Identity
+        ensures { result.bytes ≡ bytes }
+    {
         Identity {
             device: found.dev(),
             number: found.ino(),
@@ -36,7 +42,8 @@ impl Identity {
 /// Whether a path leads to this file, and that has as many bytes. False if the system can't say.
 pub fn leads_to<R: HostFiles>(rt: &R, path: &str, file: Identity) -> bool
     requires { May R.rights rt.now Look path.now }
-    ensures { IsMissing R.stands rt.now path.now → result ≡ false }
+    ensures missing { IsMissing R.stands rt.now path.now → result ≡ false }
+    ensures seen { result ≡ true → IsSeenAs R.traces rt.now path.now file }
 {
     match rt.look_at(path) {
         Ok(found) => Identity::of(&found) == file,

@@ -1,7 +1,7 @@
 //! Files that can be opened without waiting, and that are no devices.
-ghost use Rattle.std.specs.Prelude.{IfOk, IsErr};
+ghost use Rattle.std.specs.Prelude.{◌≡◌, IfOk, IsErr, Ok};
 ghost use Rattle.std.specs.Fs.{IsFile, file_type};
-ghost use Rattle.image_file.specs.paths.Rights.{Look, May, MayRead, MayWrite, Write as ToWrite};
+ghost use Rattle.image_file.specs.paths.Rights.{Look, May, MayRead, MayWrite, Read as ToRead, Write as ToWrite};
 ghost use Rattle.image_file.specs.paths.Standing.{AreOf, IsMissing};
 
 use crate::paths::host::HostFiles;
@@ -13,6 +13,7 @@ use std::io;
 pub fn regular(found: io::Result<Metadata>) -> io::Result<Metadata>
     ensures regular { IfOk result (λ found. IsFile (file_type found)) }
     ensures unfound { IsErr found → IsErr result }
+    ensures same { IfOk result (λ it. found ≡ Ok it) }
 {
     let found = found?;
     if found.is_file() {
@@ -27,6 +28,7 @@ pub fn regular_at<R: HostFiles>(rt: &R, path: &str) -> io::Result<Metadata>
     requires { May R.rights rt.now Look path.now }
     ensures regular { IfOk result (λ found. IsFile (file_type found)) }
     ensures missing { IsMissing R.stands rt.now path.now → IsErr result }
+    ensures seen { IfOk result (R.traces.seen rt.now path.now) }
 {
     regular(rt.look_at(path))
 }
@@ -36,6 +38,7 @@ pub fn opened_to_read<R: HostFiles>(rt: &R, path: &str) -> io::Result<R::File>
     requires { MayRead R.rights rt.now path.now }
     ensures missing { IsMissing R.stands rt.now path.now → IsErr result }
     ensures bytes { IfOk result (λ file. AreOf R.stands rt.now path.now (R.File.Read.remaining file)) }
+    ensures opened { IfOk result (R.traces.opened rt.now ToRead path.now) }
 {
     regular_at(rt, path)?;
     rt.open_to_read(path)

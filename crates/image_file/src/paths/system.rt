@@ -51,7 +51,8 @@ pub trait SystemFiles {
     /// `HostFiles::look_at`.
     fn look_at(&self, path: &str) -> io::Result<Metadata>
         requires { May rights self.now Look path.now }
-        ensures { IsMissing stands self.now path.now → IsErr result };
+        ensures missing { IsMissing stands self.now path.now → IsErr result }
+        ensures seen { IfOk result (traces.seen self.now path.now) };
 
     /// `HostFiles::is_named`.
     fn is_named(&self, path: &str) -> io::Result<bool>

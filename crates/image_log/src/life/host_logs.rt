@@ -1,7 +1,7 @@
 //! The calls of a host on the folders in which images stand with their logs.
-ghost use Rattle.std.specs.Prelude.{◌≡◌, ◌*◌, ◌↔◌, ◌≤◌, ◌<◌, [], IfOk, IsTrue, List, Ok, OnErr, OnOk, Some, length, slice_index_or, string_bytes, true, ℕ, ⊤};
+ghost use Rattle.std.specs.Prelude.{◌≡◌, ◌*◌, ◌↔◌, ◌≤◌, ◌<◌, [], IfOk, IfSome, IsTrue, List, Ok, OnErr, OnOk, Some, length, slice_index_or, string_bytes, true, ℕ, ⊤};
 ghost use Rattle.image_file.specs.Remains.{IsBroughtWhole, IsEndedBehind, IsPutOver, Remains, unknown};
-ghost use Rattle.image_file.specs.paths.Rights.{Make};
+ghost use Rattle.image_file.specs.paths.Rights.{Make, Read as ToRead, Write as ToWrite};
 ghost use Rattle.image_log.specs.Blocks.{block_at};
 ghost use Rattle.image_log.specs.Files.{FileHistory, Lengthens, Only, SyncsBytes, WritesBytes};
 ghost use Rattle.image_log.specs.Readers.{IsOpened, Reads};
@@ -73,7 +73,9 @@ pub trait HostLogs: HostFiles {
     fn read_log<'a>(folder: &mut HostFolder<'a, Self>) -> io::Result<Option<ReadLog<'a, Self>>>
         ensures log { IfOk result (λ log. (s : Folder) → (folders _ _ _).held folder.old ≡ Some s
             → IsOpened log_bytes log s.log) }
-        ensures acts { Acts (folders _ _ _) folder.old folder.new (λ s. s) Same result };
+        ensures acts { Acts (folders _ _ _) folder.old folder.new (λ s. s) Same result }
+        ensures opened { IfOk result (λ log. IfSome log (λ log. Self.traces.opened folder.old.rt.now ToRead
+            (string_bytes folder.old.names.now.log) log.log.file)) };
 
     /// Closes the log that was read.
     fn leave_log(folder: &mut HostFolder<'_, Self>, log: &ReadLog<'_, Self>)
@@ -83,7 +85,8 @@ pub trait HostLogs: HostFiles {
     fn open_log(folder: &mut HostFolder<'_, Self>) -> io::Result<Self::File>
         ensures file { IfOk result (LogOf (folders _ _ _) logs folder.old) }
         ensures lent { IfOk result (λ file. logs.moment file ≡ (folders _ _ _).lent folder.new) }
-        ensures acts { Acts (folders _ _ _) folder.old folder.new (λ s. s) Same result };
+        ensures acts { Acts (folders _ _ _) folder.old folder.new (λ s. s) Same result }
+        ensures opened { IfOk result (Self.traces.opened folder.old.rt.now ToWrite (string_bytes folder.old.names.now.log)) };
 
     /// What was done to the log's file, which is about to be closed, was done to the folder's log.
     fn return_log(folder: &mut HostFolder<'_, Self>, file: &mut Self::File) -> io::Result<()>

@@ -5,8 +5,9 @@ ghost use Rattle.image_log.specs.life.HostLogs.{untagged_folders};
 ghost use Rattle.image_log.specs.life.LogRights.{MayKeepLogOf, MayReadLogOf, log_of};
 ghost use Rattle.image_log.specs.life.Mixes.{IsTorn};
 ghost use Rattle.image_log.specs.life.Tags.{HasTag, IsTagged, IsTaggedIfRoom, untagged};
+ghost use Rattle.image_file.specs.paths.Rights.{Read as ToRead};
 ghost use Rattle.image_file.specs.paths.Standing.{IsMissing};
-ghost use Rattle.std.specs.Prelude.{◌≡◌, [], IfOk, IsNone, List, OnOk, Some, false, length, slice_index_or, string_bytes, true, ℕ};
+ghost use Rattle.std.specs.Prelude.{◌≡◌, [], IfOk, IfSome, IsNone, List, OnOk, Some, false, length, slice_index_or, string_bytes, true, ℕ};
 
 use crate::life::checks::Checks;
 use crate::life::host_folder::HostFolder;
@@ -45,7 +46,8 @@ pub struct ImageFolder<'a, R: HostFiles> {
 /// The log's file, open to be read. None if there is no log.
 pub(crate) fn log_to_read<R: HostFiles>(rt: &R, names: &LogNames) -> io::Result<Option<R::File>>
     requires { MayReadLogOf R.rights rt.now (string_bytes names.now.image) }
-    ensures { IsMissing R.stands rt.now (log_of (string_bytes names.now.image)) → IfOk result IsNone }
+    ensures none { IsMissing R.stands rt.now (log_of (string_bytes names.now.image)) → IfOk result IsNone }
+    ensures opened { IfOk result (λ log. IfSome log (R.traces.opened rt.now ToRead (log_of (string_bytes names.now.image)))) }
 {
     match opened_to_read(rt, names.log()) {
         Ok(file) => Ok(Some(file)),

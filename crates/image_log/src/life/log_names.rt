@@ -1,8 +1,10 @@
 //! The names of an image, of its log, and of a log in the making.
-ghost use Rattle.std.specs.Prelude.{◌≡◌, ◌++◌, IfOk, IsErr, IsNone, OnOk, string_bytes, true};
+ghost use Rattle.std.specs.Prelude.{◌≡◌, ◌++◌, IfOk, IfSome, IsErr, IsNone, OnOk, string_bytes, true};
 ghost use Rattle.image_log.specs.life.LogRights.{MayForget, MayReadLogOf, log_of, making_of};
 ghost use Rattle.image_file.specs.paths.Rights.{Look, May, Remove};
+ghost use Rattle.image_file.specs.paths.Names.{IsSeenAs};
 ghost use Rattle.image_file.specs.paths.Standing.{IsMissing};
+ghost use Rattle.image_log.specs.life.Names.{IsLogForgotten, IsMakingSeen};
 
 use crate::life::image_folder::log_to_read;
 use crate::life::log_heads::{begins_as_log, head_of};
@@ -70,7 +72,8 @@ impl LogNames {
 /// An error if a path doesn't lead to this file, or that has another length.
 pub(crate) fn see_file<R: HostFiles>(rt: &R, path: &str, file: Identity) -> io::Result<()>
     requires { May R.rights rt.now Look path.now }
-    ensures { IsMissing R.stands rt.now path.now → IsErr result }
+    ensures missing { IsMissing R.stands rt.now path.now → IsErr result }
+    ensures seen { OnOk result (IsSeenAs R.traces rt.now path.now file) }
 {
     if leads_to(rt, path, file) {
         return Ok(());
@@ -91,6 +94,7 @@ fn see_none<R: HostFiles>(rt: &R, path: &str) -> io::Result<()>
 /// An error if a path doesn't lead to this log, or if that is none and the path leads to a file.
 pub(crate) fn see_log<R: HostFiles>(rt: &R, path: &str, log: Option<Identity>) -> io::Result<()>
     requires { May R.rights rt.now Look path.now }
+    ensures { OnOk result (IfSome log (IsSeenAs R.traces rt.now path.now)) }
 {
     match log {
         Some(log) => see_file(rt, path, log),
@@ -101,6 +105,7 @@ pub(crate) fn see_log<R: HostFiles>(rt: &R, path: &str, log: Option<Identity>) -
 /// Takes a file's name away. Whether it had one.
 fn remove_if_there<R: HostFiles>(rt: &R, path: &str) -> io::Result<bool>
     requires { May R.rights rt.now Remove path.now }
+    ensures { IfOk result (λ there. there ≡ true → R.traces.removed rt.now path.now) }
 {
     match rt.remove(path) {
         Ok(()) => Ok(true),
@@ -113,6 +118,7 @@ fn remove_if_there<R: HostFiles>(rt: &R, path: &str) -> io::Result<bool>
 /// in it.
 fn is_making<R: HostFiles>(rt: &R, path: &str) -> io::Result<bool>
     requires { May R.rights rt.now Look path.now }
+    ensures { IfOk result (λ making. making ≡ true → IsMakingSeen R.traces rt.now path.now) }
 {
     match rt.look_at(path) {
         Ok(found) => Ok(found.is_file() && (found.len() == 0 || found.len() == LOG_BYTES as u64)),
@@ -126,6 +132,8 @@ fn is_making<R: HostFiles>(rt: &R, path: &str) -> io::Result<bool>
 pub fn forget_making<R: HostFiles>(rt: &R, names: &LogNames) -> io::Result<bool>
     requires look { May R.rights rt.now Look (making_of (string_bytes names.now.image)) }
     requires remove { May R.rights rt.now Remove (making_of (string_bytes names.now.image)) }
+    ensures { IfOk result (λ removed. removed ≡ true → IsMakingSeen R.traces rt.now (making_of (string_bytes names.now.image))
+        × R.traces.removed rt.now (making_of (string_bytes names.now.image))) }
 {
     if !is_making(rt, names.making())? {
         return Ok(false);
@@ -163,6 +171,8 @@ pub fn find_log<R: HostFiles>(rt: &R, names: &LogNames) -> io::Result<Option<Ide
 /// be there, or not.
 pub fn forget_log<R: HostFiles>(rt: &R, names: &LogNames, log: Option<Identity>) -> io::Result<()>
     requires { MayForget R.rights rt.now (string_bytes names.now.image) }
+    ensures { OnOk result (IfSome log (IsLogForgotten R.traces rt.now (string_bytes names.now.image))
+        × R.traces.synced rt.now (string_bytes names.now.image)) }
 {
     forget_making(rt, names)?;
     see_log(rt, names.log(), log)?;

@@ -1,5 +1,6 @@
 //! The tag in an image's file.
-ghost use Rattle.std.specs.Prelude.{◌<◌};
+ghost use Rattle.std.specs.Prelude.{◌<◌, ◌*◌, IfOk};
+ghost use Rattle.image_log.specs.life.FileReads.{AreReadAt};
 
 use crate::life::tags::{TAG_START, TAGGED, take_tag};
 use image_file::EndedFile;
@@ -8,6 +9,7 @@ use std::io::{self, Read, Seek, SeekFrom};
 /// Reads the sector with this index.
 pub(crate) fn read_sector<F: Read + Seek>(file: &mut F, index: usize) -> io::Result<[u8; 256]>
     requires { index < 683 }
+    ensures { IfOk result (AreReadAt F.Read.remaining F.Seek.stream_position F.Seek.stream_bytes file.old file.new (256 * index)) }
 {
     let mut sector = [0; 256];
     file.seek(SeekFrom::Start(256 * index as u64))?;
