@@ -12,7 +12,7 @@ fn first_zero(bytes: &[u8]) -> Option<usize>
     bytes.iter().position(|&byte| byte == 0)
 }
 
-/// Whether the file begins with a line, whose link leads to the byte behind its end.
+/// Whether the file begins with a line, whose link leads to the byte after its end.
 fn begins_with_line(file: &[u8]) -> bool
     ensures { result ≡ specs.begins_with_line file.now }
 {
@@ -27,7 +27,7 @@ fn begins_with_line(file: &[u8]) -> bool
     link == load + 5 + end
 }
 
-/// Whether the file is a program in BASIC: it has its end, or else it begins with a line, and a part of it may be lost.
+/// Whether the file is a program in BASIC: it has its end, or it begins with a line, and a part of it may be lost.
 pub(crate) fn is_program(file: &[u8]) -> bool
     ensures { result ≡ specs.is_program file.now }
 {
