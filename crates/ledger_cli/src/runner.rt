@@ -1,8 +1,11 @@
 //! The whole program, over a runtime.
-ghost use Rattle.std.specs.Prelude.{◌≡◌, ◌≢◌, ◌⊎◌, Err, if◌then◌else◌};
+ghost use Rattle.std.specs.Prelude.{◌≡◌, ◌≢◌, ◌⊎◌, ◌↔◌, Err, IfErr, IsTrue, false, if◌then◌else◌, true};
 ghost use Rattle.command_faults.specs.declared.faults.CommandFault.TheVariants.{File};
 ghost use Rattle.command_faults.specs.declared.faults.CommandFault.TheVariants as faults;
 ghost use Rattle.ledger_jobs.specs.Jobs.{IsFit};
+ghost use Rattle.ledger_cli.specs.Runner.{status_of, waits};
+ghost use Rattle.line_text.specs.Handed.{AppendsPart};
+ghost use Rattle.opened_files.specs.Ends.{refusal_line};
 ghost use Rattle.ledger_cli.specs.declared.runner.Audience.TheVariants.{Person, Program, Waiting};
 
 use crate::dashes::{read_dashes, writes_dash};
@@ -29,11 +32,12 @@ use std::{env, thread};
 /// The exit status of words that are refused.
 const WORDS: u8 = 2;
 
-/// How often a job that shows a shop is tried before the last time while another program has the image.
-const TRIES: u32 = 20;
+/// How often a job that waits is tried before the last time while another program has the image.
+const TRIES: u32 = 200;
 
-/// How many milliseconds it waits after each of these tries.
-const PAUSE: u64 = 50;
+/// How many milliseconds it waits after each of these tries: less than a reader has the image, so that readers that follow each
+/// other leave it a moment.
+const PAUSE: u64 = 5;
 
 /// How many bytes of output are gathered before they are written.
 const OUTPUT_ROOM: usize = 32768;
@@ -173,13 +177,28 @@ where
     }
 }
 
-/// Whether a job shows a shop that another program has alone, as a service does for a moment while it starts.
-fn is_kept_out(job: &Job<'_>, ended: Result<Option<Fault>, CommandFault>) -> bool {
+/// Whether a job waits for an image that another program has. One that shows a shop waits for a service, which has the image alone
+/// for a moment while it starts. One that writes a shop over a log waits for readers, each of which has the image while it reads.
+/// Such a job opens the image first: until then it has read no input, and printed nothing.
+fn waits_for_image(job: &Job<'_>) -> bool
+    ensures { result ≡ waits job.now }
+{
     match job {
         Job::Look {
             what: Look::Show(_) | Look::AsIs(DiskLook::Show(_)),
             ..
-        } => matches!(ended, Err(CommandFault::InUse)),
+        } => true,
+        Job::Serve { .. } | Job::PlayLogged { .. } => true,
+        _ => false,
+    }
+}
+
+/// Whether a job that waits ended since another program has the image.
+fn is_kept_out(job: &Job<'_>, ended: Result<Option<Fault>, CommandFault>) -> bool
+    ensures { IsTrue result ↔ ((waits job.now ≡ true) × (ended ≡ Err faults.InUse)) }
+{
+    match ended {
+        Err(CommandFault::InUse) => waits_for_image(job),
         _ => false,
     }
 }
@@ -198,12 +217,27 @@ fn is_looked_through(job: &Job<'_>) -> bool {
 }
 
 /// Whether a job failed because nobody reads its output any more.
-fn is_unread(ended: Result<Option<Fault>, CommandFault>, cause: Option<Failure<'_>>) -> bool {
+fn is_unread(ended: Result<Option<Fault>, CommandFault>, cause: Option<Failure<'_>>) -> bool
+    ensures { result ≡ true → ended ≡ Err faults.File }
+{
     let Some(Failure { subject, error, .. }) = cause else {
         return false;
     };
     let is_closed = subject == Subject::Output && error.kind() == ErrorKind::BrokenPipe;
     is_closed && matches!(ended, Err(CommandFault::File))
+}
+
+/// Reports how a job ended, and returns the exit status. Nothing is reported of one whose output nobody reads any more.
+fn report_end<E: Write>(ended: Result<Option<Fault>, CommandFault>, unread: bool, err: &mut E) -> u8
+    ensures status { result ≡ status_of unread ended }
+    ensures quiet { unread ≡ true → err.new ≡ err.old }
+    ensures told { unread ≡ false → IfErr ended (λ refusal. AppendsPart (E.contents err.old) (E.contents err.new)
+        (refusal_line refusal)) }
+{
+    if unread {
+        return CommandFault::File.status();
+    }
+    end(ended, err).status
 }
 
 /// Does a job over an output that is gathered, and returns the exit status. If the job isn't done, a person reads more
@@ -229,17 +263,15 @@ where
     if !is_last && is_kept_out(job, ended) {
         return None;
     }
-    if is_looked_through(job) && is_unread(ended, failures.cause()) {
-        return Some(CommandFault::File.status());
-    }
-    let status = end(ended, err).status;
-    if told != Audience::Program {
+    let unread = is_looked_through(job) && is_unread(ended, failures.cause());
+    let status = report_end(ended, unread, err);
+    if told != Audience::Program && !unread {
         explain_end(rt, job, ended, failures.cause(), err);
     }
     Some(status)
 }
 
-/// Does a job, and returns the exit status. One that shows a shop waits a second for a service that is starting.
+/// Does a job, and returns the exit status. One that waits for its image does so for a second.
 fn obey_job<F, R, E>(rt: &R, job: &Job<'_>, told: Audience, err: &mut E) -> u8
 where
     F: EndedFile + Read + Locks + OpenFile + Drop,

@@ -1,0 +1,18 @@
+-- How the end of a job becomes what the program ends with. Our own.
+use Rattle.std.specs.Prelude.{◌≡◌, Bool, Err, false, if◌then◌else◌, true, ℕ}
+use Rattle.command_faults.specs.declared.faults.CommandFault.TheVariants as faults
+use Rattle.image_looks.specs.declared.kinds.Look.TheVariants as looks
+use Rattle.ledger_jobs.specs.declared.jobs.Job.{Job}
+use Rattle.ledger_jobs.specs.declared.jobs.Job.TheVariants as jobs
+use Rattle.opened_files.specs.Ends.{JobEnd, end_status}
+
+-- whether a job waits for an image that another program has: one that shows a shop, and one that writes it over a log
+abbrev pub waits : Job → Bool
+waits (jobs.Look image (looks.Show loss)) = true
+waits (jobs.Serve image loss) = true
+waits (jobs.PlayLogged image script loss) = true
+waits _ = false
+
+-- the exit status of a job that ended so; one whose output nobody reads any more ends as with a file that failed
+abbrev pub status_of : (unread : Bool) → JobEnd → ℕ
+status_of unread end = if unread then 3 else end_status end
