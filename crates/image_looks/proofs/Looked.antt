@@ -1,15 +1,16 @@
 -- How a look ended, from what its command says of what it printed.
 use Rattle.std.proofs.Common.{◌≡◌, ◌≢◌, ℕ, List, None, Option, Result, Ok, Err, Some, inl, inr, refl, subst, sym}
-use Rattle.std.specs.Prelude.{IfErr, IfOk, IsErr, OnErr, OnOk}
+use Rattle.std.specs.Prelude.{IfErr, IfOk, IsErr, OnErr, OnOk, ⊤}
 use Rattle.d64_image.specs.declared.place.Place.{Place}
 use Rattle.disk_layout.specs.declared.faults.Fault.{Fault}
 use Rattle.command_faults.specs.declared.faults.CommandFault.{CommandFault}
 use Rattle.command_faults.specs.declared.faults.CommandFault.TheVariants as faults
 use Rattle.opened_files.specs.Ends.{JobEnd, as_run, IsPrintEnd, IsQuietPrint}
 use Rattle.opened_files.specs.HostFiles.{IsUnbegun, RunEnds}
-use Rattle.image_looks.specs.Looks.{IsTakingEnd, WhyNoRecords, taken_end}
+use Rattle.image_looks.specs.Looks.{IsTakingEnd, WhyNoBytes, WhyNoRecords, taken_end}
 use Rattle.file_rescues.specs.declared.finding.Candidates.{Candidates}
 use Rattle.file_rescues.specs.declared.finding.Candidates.TheVariants.{All, Closed}
+use Rattle.file_rescues.specs.declared.forms.FileForm.{FileForm}
 use Rattle.file_rescues.specs.declared.forms.RecordForm.{RecordForm}
 
 module _ {W : Type 0} (old new : W) where
@@ -44,6 +45,19 @@ pub no-cut-records : {W : Type 0} (contents : W → Option (List ℕ)) (form : R
     → WhyNoRecords contents form candidates image name old new (faults.Short p) → ⊥
 no-cut-records contents form Closed image name old new p why = why.0
 no-cut-records contents form All image name old new p why = why.0
+
+-- the fault says that a file is cut short
+abbrev SaysShort : CommandFault → Type 0
+SaysShort (faults.Short p) = ⊤
+SaysShort _ = ⊥
+
+-- nor are the bytes that aren't all printed, or aren't those of a program
+pub no-cut-bytes : {W : Type 0} (contents : W → Option (List ℕ)) (form : FileForm) (candidates : Candidates)
+    (image name : List ℕ) (old new : W) (p : Place)
+    → WhyNoBytes contents form candidates image name old new (faults.Short p) → ⊥
+no-cut-bytes contents form candidates image name old new p (inl other, part) =
+    subst (λ (why : CommandFault). SaysShort why) other.0 tt
+no-cut-bytes contents form candidates image name old new p (inr never, part) = never
 
 -- three clauses of what was done are one
 pub if-all : {T E : Type 0} (P Q R : T → Type 0) (ended : Result T E) → IfOk ended P → IfOk ended Q → IfOk ended R

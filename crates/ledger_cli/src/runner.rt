@@ -1,11 +1,9 @@
 //! The whole program, over a runtime.
-ghost use Rattle.std.specs.Prelude.{◌≡◌, ◌≢◌, ◌⊎◌, ◌↔◌, Err, IfErr, IsTrue, false, if◌then◌else◌, true};
+ghost use Rattle.std.specs.Prelude.{◌≡◌, ◌≢◌, ◌⊎◌, ◌↔◌, Err, IsTrue, if◌then◌else◌, true};
 ghost use Rattle.command_faults.specs.declared.faults.CommandFault.TheVariants.{File};
 ghost use Rattle.command_faults.specs.declared.faults.CommandFault.TheVariants as faults;
 ghost use Rattle.ledger_jobs.specs.Jobs.{IsFit};
 ghost use Rattle.ledger_cli.specs.Runner.{status_of, waits};
-ghost use Rattle.line_text.specs.Handed.{AppendsPart};
-ghost use Rattle.opened_files.specs.Ends.{refusal_line};
 ghost use Rattle.ledger_cli.specs.declared.runner.Audience.TheVariants.{Person, Program, Waiting};
 
 use crate::dashes::{read_dashes, writes_dash};
@@ -184,10 +182,7 @@ fn waits_for_image(job: &Job<'_>) -> bool
     ensures { result ≡ waits job.now }
 {
     match job {
-        Job::Look {
-            what: Look::Show(_) | Look::AsIs(DiskLook::Show(_)),
-            ..
-        } => true,
+        Job::Look { what, .. } => matches!(what, Look::Show(_) | Look::AsIs(DiskLook::Show(_))),
         Job::Serve { .. } | Job::PlayLogged { .. } => true,
         _ => false,
     }
@@ -231,8 +226,6 @@ fn is_unread(ended: Result<Option<Fault>, CommandFault>, cause: Option<Failure<'
 fn report_end<E: Write>(ended: Result<Option<Fault>, CommandFault>, unread: bool, err: &mut E) -> u8
     ensures status { result ≡ status_of unread ended }
     ensures quiet { unread ≡ true → err.new ≡ err.old }
-    ensures told { unread ≡ false → IfErr ended (λ refusal. AppendsPart (E.contents err.old) (E.contents err.new)
-        (refusal_line refusal)) }
 {
     if unread {
         return CommandFault::File.status();

@@ -1,7 +1,7 @@
--- What a job's first file may be read for a person.
+-- What files of a job may be read for a person.
 use Rattle.std.specs.Prelude.{None, Option, Some, IfSome, option_map}
 use Rattle.image_file.specs.paths.Rights.{Rights}
-use Rattle.ledger_jobs.specs.JobRights.{MayExplain, first_file}
+use Rattle.ledger_jobs.specs.JobRights.{MayExplain, MayReadAgain, first_file, text_file}
 use Rattle.opened_files.specs.Rights.{MayReadImage}
 use Rattle.ledger_jobs.specs.declared.jobs.Job.{Job}
 use Rattle.ledger_jobs.specs.declared.jobs.Job.TheVariants as jobs
@@ -32,3 +32,24 @@ read-first rights host (jobs.Compare before after) may = may.0
 read-first rights host (jobs.Sheet images) may = may.0
 read-first rights host (jobs.Describe form images) may = may.0
 read-first rights host (jobs.Several what images) may = may.0
+
+-- and the text that it reads
+pub read-text : {H : Type 0} (rights : Rights H) (host : H) (job : Job) → MayExplain rights host job
+    → IfSome (text_file job) (MayReadAgain rights host)
+read-text rights host (jobs.Format image tills) may = may.1
+read-text rights host (jobs.FormatNew image tills) may = may.1
+read-text rights host (jobs.New image name id) may = may.1
+read-text rights host (jobs.Look image what) may = may.1
+read-text rights host (jobs.Change image effect edit) may = may.1
+read-text rights host (jobs.Play image script loss) may = may.1
+read-text rights host (jobs.PlayLogged image script loss) may = may.1
+read-text rights host (jobs.Dry script) may = may.1
+read-text rights host (jobs.Serve image loss) may = may.1
+read-text rights host (jobs.Copy image copy) may = may.1
+read-text rights host (jobs.Salvage log copy) may = may.1
+read-text rights host (jobs.Extract choice image folder) may = may.1
+read-text rights host (jobs.Trim image) may = may.1
+read-text rights host (jobs.Compare before after) may = tt
+read-text rights host (jobs.Sheet images) may = may.1
+read-text rights host (jobs.Describe form images) may = may.1
+read-text rights host (jobs.Several what images) may = may.1

@@ -1,9 +1,10 @@
 pub mod Brought
-pub mod Written
 pub mod Ends
-pub mod SnapshotRights
-pub mod SnapshotPremises
 pub mod KnownFolders
 pub mod KnownImages
 pub mod KnownServices
+pub mod NamesApart
 pub mod OneFile
+pub mod SnapshotPremises
+pub mod SnapshotRights
+pub mod Written

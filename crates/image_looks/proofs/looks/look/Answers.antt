@@ -8,7 +8,7 @@ use Rattle.disk_reports.specs.Outcomes.{IsDescribeFault}
 use Rattle.file_rescues.specs.Printed.{AreBytesTaken}
 use Rattle.image_looks.specs.Reports.{IsChecked}
 use Rattle.image_looks.specs.Looks.{AreRecordsTaken, IsTakingEnd, WhyNoBytes, WhyNoRecords}
-use Rattle.image_looks.proofs.Looked.{if-all, if-both, no-cut-records, printed, quietly-printed, taken}
+use Rattle.image_looks.proofs.Looked.{if-all, if-both, no-cut-bytes, no-cut-records, printed, quietly-printed, taken}
 use Rattle.image_looks.proofs.looks.look.Goals as goal
 
 pub returns-in-List : goal.returns-in-List
@@ -85,5 +85,6 @@ returns-in-Bytes g c =
     (taken c.args.out.now done.new.out
     (AreBytesTaken g.W.Write.contents at.form at.candidates c.args.image.now c.as_bytes-in-Bytes.result.now)
     (WhyNoBytes g.W.Write.contents at.form at.candidates c.args.image.now c.as_bytes-in-Bytes.result.now)
-    (λ p why. why.0) done.result c.taken_end-in-Bytes.result c.taken_end-in-Bytes.ensures
+    (no-cut-bytes g.W.Write.contents at.form at.candidates c.args.image.now c.as_bytes-in-Bytes.result.now c.args.out.now done.new.out)
+    done.result c.taken_end-in-Bytes.result c.taken_end-in-Bytes.ensures
     done.ensures.ok (if-both _ _ done.result done.ensures.err done.ensures.part)))
