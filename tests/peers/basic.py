@@ -6,7 +6,7 @@
 In each round a disk gets a program of lines that can be typed: keywords, numbers, names, strings of any bytes, DATA and REM.
 `petcat -w2` makes the very program of its listing. In every other one strings have characters of ASCII alone: there `petcat -2`
 prints the same lines, but for the spaces before a number. Each keyword is in one program. A beginning of
-each program is listed too, and reported as SHORT. Not part of the gate."""
+each program is listed too, and reported as SHORT, or as NO PROGRAM if its first line is cut. Not part of the gate."""
 
 import random
 import subprocess
@@ -116,8 +116,10 @@ def main(given):
             load = rng.choice([0x0801, 0x1C01, 0x0401, 0x1201])
             data = program_of(rows, load)
             tried.compare(data, load, turn % 2 == 0)
-            status, text, told = tried.listed(data[: rng.randrange(len(data) - 1)])
-            want(status == 1 and told.startswith("SHORT"), f"a beginning ends with {status}, {told}")
+            beginning = data[: rng.randrange(len(data) - 1)]
+            status, text, told = tried.listed(beginning)
+            word = "SHORT" if 0 in beginning[6:] else "NO PROGRAM"
+            want(status == 1 and told.startswith(word), f"a beginning ends with {status}, {told}, and not with {word}")
             lines += len(rows)
     print(f"{rounds} programs of {lines} lines, and one of {len(words)} keywords, are the same to petcat, both ways")
     return rounds + 1
