@@ -4,6 +4,7 @@ ghost use Rattle.command_faults.specs.Faults.{IsLoadFault};
 ghost use Rattle.disk_changes.specs.Remedies.{
   EndsBy,
   HasNoneCut,
+  IsFreedBy,
   IsLackOfMemory,
   IsRefusedBy,
   IsRemedy,
@@ -92,17 +93,34 @@ fn change_by(way: Way) -> Change<'static>
     }
 }
 
+/// Why something is refused, which stands. The error is `NoMemory`: it wasn't found out.
+fn known_refusal(fault: CommandFault) -> Result<CommandFault, CommandFault>
+    ensures ok { IfOk result (λ why. (why ≡ fault) × ¬ (IsLackOfMemory why)) }
+    ensures err { IfErr result IsLackOfMemory }
+{
+    if fault == CommandFault::NoMemory {
+        return Err(CommandFault::NoMemory);
+    }
+    Ok(fault)
+}
+
 /// Tries a repair in memory: how many sectors it leaves, or why it is refused. Nothing is written.
 ///
 /// The error is `NoMemory`: there was no memory to try it, so that nothing is known of it.
-fn try_repair(alloc: Global, image: &[u8], way: Way) -> Result<Result<u16, CommandFault>, CommandFault>
+fn try_repair(
+    alloc: Global,
+    image: &[u8],
+    way: Way,
+) -> Result<Result<u16, CommandFault>, CommandFault>
     ensures ok { IfOk result (λ tried. IfOk tried (EndsBy image.now way) × IfErr tried (IsRefusedBy image.now way)) }
     ensures err { IfErr result IsLackOfMemory }
 {
     match change(alloc, &change_by(way), image) {
         Ok(made) => Ok(Ok(made.left)),
-        Err(CommandFault::NoMemory) => Err(CommandFault::NoMemory),
-        Err(fault) => Ok(Err(fault)),
+        Err(fault) => {
+            let why = known_refusal(fault)?;
+            Ok(Err(why))
+        }
     }
 }
 
@@ -116,8 +134,10 @@ fn is_uncut(alloc: Global, image: &[u8]) -> Result<bool, CommandFault>
 {
     match taken_disk(alloc, image, Loss::Refused) {
         Ok(_) => Ok(true),
-        Err(CommandFault::NoMemory) => Err(CommandFault::NoMemory),
-        Err(_) => Ok(false),
+        Err(fault) => {
+            known_refusal(fault)?;
+            Ok(false)
+        }
     }
 }
 
@@ -127,8 +147,22 @@ fn is_whole(alloc: Global, image: &[u8]) -> Result<bool, CommandFault>
     ensures err { IfErr result (IsLoadFault image.now) }
 {
     let mut disk = load(alloc, image)?;
-    match check(&mut disk) {
-        Ok(_) => is_uncut(alloc, image),
+    let Ok(_) = check(&mut disk) else {
+        return Ok(false);
+    };
+    let uncut = is_uncut(alloc, image)?;
+    Ok(uncut)
+}
+
+/// Whether `repair --free` can be made.
+///
+/// The error is `NoMemory`.
+fn can_free(alloc: Global, image: &[u8]) -> Result<bool, CommandFault>
+    ensures ok { IfOk result (IsFreedBy image.now) }
+    ensures err { IfErr result IsLackOfMemory }
+{
+    match try_repair(alloc, image, Way::Freeing)? {
+        Ok(_) => Ok(true),
         Err(_) => Ok(false),
     }
 }
@@ -148,11 +182,13 @@ fn plain_way(alloc: Global, image: &[u8], left: u16) -> Result<Remedy, CommandFa
     }
     match check_usable(alloc, image) {
         Ok(()) => {
-            let freed = try_repair(alloc, image, Way::Freeing)?.is_ok();
+            let freed = can_free(alloc, image)?;
             Ok(Remedy::Strays { left, freed })
         }
-        Err(CommandFault::NoMemory) => Err(CommandFault::NoMemory),
-        Err(_) => Ok(repair),
+        Err(fault) => {
+            known_refusal(fault)?;
+            Ok(repair)
+        }
     }
 }
 

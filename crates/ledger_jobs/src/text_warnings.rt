@@ -9,7 +9,8 @@ use opened_files::{STANDARD_INPUT, size_of};
 use std::io::Write;
 
 /// What is said of records with small letters.
-const SMALL: &str = "small letters were stored as they were typed, and a C64 shows graphics for them; capitals are its letters";
+const SMALL: &str =
+    "small letters were stored as they were typed, and a C64 shows graphics for them; capitals are its letters";
 
 /// The bytes of a text that is a regular file. None of any other: what a pipe gave once it doesn't give again.
 fn bytes_again<R: HostFiles + AllocGlobal>(rt: &R, path: &str) -> Option<Vec<u8>>
