@@ -24,6 +24,11 @@ make_plain() {
 # source is newer. PROGRAM names a program of `ledger` that is timed as it is, for example the released one.
 prepare() {
     make_plain
+    find_proved "$1"
+}
+
+# find_proved CRATE: the same without the plain program
+find_proved() {
     if [ "$1" = ledger ] && [ -n "$PROGRAM" ]; then
         proved="$PROGRAM"
         return
