@@ -21,7 +21,7 @@ prints the directory of its first 35 tracks.
 Exit status:
   0  the directory was printed
   1  the image is refused (IMAGE SIZE, LAYOUT, LOG)
-  3  FILE, NO MEMORY, IN USE
+  3  FILE, NOT READY, NO MEMORY, IN USE
 
 Example: ledger list old.d64",
     values: &[IMAGES, TEXT, MIXED, AS_IS],
@@ -88,7 +88,7 @@ track 35, BEYOND 17/4 \"MENU\". Then the status isn't 0.
 Exit status:
   0  OK
   1  a fault, ERROR, BEYOND, IMAGE SIZE, LOG
-  3  FILE, NO MEMORY, IN USE
+  3  FILE, NOT READY, NO MEMORY, IN USE
 
 Example: ledger check ./*.[dD]64",
     values: &[IMAGES, JSON, CSV, ALL, AS_IS],
@@ -113,7 +113,7 @@ each has a row of a table. --json goes before --csv.
 Exit status:
   0  OK
   1  a fault, IMAGE SIZE, LOG
-  3  FILE, NO MEMORY, IN USE
+  3  FILE, NOT READY, NO MEMORY, IN USE
 
 Example: ledger plan ./*.[dD]64",
     values: &[IMAGES, JSON, CSV],
@@ -136,8 +136,8 @@ that is refused. The exit status is then the highest of all.
 
 Exit status:
   0  the disk is clean
-  1  a fault, ERROR, BEYOND, or the image is refused
-  3  FILE, NO MEMORY, IN USE
+  1  a fault, ERROR, BEYOND; or the image is refused (IMAGE SIZE, LAYOUT, LOG)
+  3  FILE, NOT READY, NO MEMORY, IN USE
 
 Example: ledger map old.d64",
     values: &[IMAGES],
@@ -183,10 +183,11 @@ The page of one image has the lines ERROR and BEYOND of map below the drawing.
 
 Exit status:
   0  the disk is clean
-  1  a fault, ERROR or BEYOND on the page, or the image is refused
+  1  a fault, ERROR or BEYOND on the page; or the image is refused (IMAGE SIZE,
+     LAYOUT, LOG)
   2  IMAGES: several without --sheet, more than 400, not two with --compare, or
      two of --svg, --sheet and --compare
-  3  FILE, NO MEMORY, IN USE
+  3  FILE, NOT READY, NO MEMORY, IN USE
 
 Example: ledger picture --sheet ./*.d64 > all.html",
     values: &[IMAGES, SVG, SHEET, COMPARE],
@@ -204,7 +205,7 @@ wrong. To free sectors that no file owns, use repair --free.
 Exit status:
   0  the numbers of free sectors were printed
   1  the image is refused (IMAGE SIZE, LOG)
-  3  FILE, NO MEMORY, IN USE
+  3  FILE, NOT READY, NO MEMORY, IN USE
 
 Example: ledger free old.d64",
     values: &[IMAGE],
@@ -232,7 +233,7 @@ Exit status:
   0  the sector was printed
   1  the image is refused (IMAGE SIZE, LOG)
   2  SECTOR: the disk has no such sector
-  3  FILE, NO MEMORY, IN USE
+  3  FILE, NOT READY, NO MEMORY, IN USE
 
 Example: ledger sector old.d64 18/0",
     values: &[IMAGE, PLACE],

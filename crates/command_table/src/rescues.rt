@@ -34,7 +34,7 @@ Exit status:
   1  LAYOUT and a fault, or SHORT (the file has lost its end): what can be read
      was printed; or NO FILE, IMAGE SIZE, LOG: nothing was
   2  NAME, POSITIONS, FLAGS
-  3  FILE, NO MEMORY, IN USE
+  3  FILE, NOT READY, NO MEMORY, IN USE
 
 Example: ledger records old.d64 ADDRESS > address.csv",
     values: &[IMAGE, NAME, TEXT, MIXED, FIELDS, POSITIONS, UNCLOSED],
@@ -55,7 +55,7 @@ Exit status:
   1  LAYOUT and a fault, or SHORT (the file has lost its end): what can be read
      was printed; or NO FILE, IMAGE SIZE, LOG: nothing was
   2  NAME
-  3  FILE, NO MEMORY, IN USE
+  3  FILE, NOT READY, NO MEMORY, IN USE
 
 Example: ledger bytes old.d64 'ADD\\c1' > add.prg",
     values: &[IMAGE, NAME, TEXT, MIXED, UNCLOSED],
@@ -79,7 +79,7 @@ Exit status:
      file is none): what can be read was printed; or NO FILE, IMAGE SIZE, LOG:
      nothing was
   2  NAME
-  3  FILE, NO MEMORY, IN USE
+  3  FILE, NOT READY, NO MEMORY, IN USE
 
 Example: ledger basic old.d64 MENU > menu.bas",
     values: &[IMAGE, NAME, UNCLOSED],
@@ -128,7 +128,8 @@ Exit status:
   0  all files are whole
   1  a file or the directory isn't (LAYOUT and the first fault, SHORT); or
      IMAGE SIZE, LOG, FILE EXISTS: nothing was done
-  3  FILE, NO MEMORY, IN USE
+  2  PATH
+  3  FILE, NOT READY, NO MEMORY, IN USE
 
 Example: ledger extract old.d64 old",
     values: &[IMAGE, FOLDER, DELETED, SCAN],
@@ -169,7 +170,8 @@ Exit status:
   0  the disk is clean
   1  KEPT; or the disk is refused (LAYOUT, SHORT, GEOS, FORMAT, IMAGE SIZE, LOG,
      LOG AWAY, TWO NAMES) and untouched
-  3  FILE, NO MEMORY, IN USE, DEVICE
+  2  PATH
+  3  FILE, NOT READY, NO MEMORY, IN USE, DEVICE
 
 Example: ledger repair --dry-run old.d64",
     values: &[IMAGE, ACCEPT_LOSS, FREE_SECTORS, DRY_RUN, SIDES],
@@ -188,8 +190,9 @@ the sector whose link leads there, and the file's name.
 
 Exit status:
   0  all of the image is there
-  1  such a line was printed, or the image is refused (IMAGE SIZE, LOG)
-  3  FILE, NO MEMORY, IN USE
+  1  ERROR or BEYOND was printed, or the image is refused (IMAGE SIZE, LAYOUT,
+     LOG)
+  3  FILE, NOT READY, NO MEMORY, IN USE
 
 Example: ledger trim old40.d64 > old.d64",
     values: &[IMAGE],

@@ -33,7 +33,7 @@ Exit status:
   0  the image was made
   1  FILE EXISTS, with --new: IMAGE or its log exists; TWO NAMES, without it:
      nothing was done
-  2  TILLS: not 1 to 64
+  2  TILLS: not 1 to 64; PATH
   3  FILE (the file, its folder or the output failed), NO MEMORY, IN USE
 
 Example: ledger format --new shop.d64 --tills 4",
@@ -51,8 +51,10 @@ image of 40 or 42 tracks, or with error bytes, too.
 
 Exit status:
   0  the shop was printed
-  1  the image isn't a shop, or LOG, LOG AWAY
-  3  FILE, NO MEMORY, IN USE
+  1  the image isn't a shop (NO STOCK, NO REQUESTS, BAD CARD n,
+     BAD REQUEST CARD n, TWO INTENTS), or a file or the directory is damaged
+     (LAYOUT and a fault); or IMAGE SIZE, LOG, LOG AWAY
+  3  FILE, NOT READY, NO MEMORY, IN USE
 
 Example: ledger show shop.d64",
     values: &[IMAGE, ACCEPT_AWAY, AS_IS],
@@ -86,8 +88,11 @@ end. Without it a power loss can lose answered requests, or leave a wrong shop.
 
 Exit status:
   0  all lines were played
-  1  the script (SCRIPT LINE n) or the image is refused (TWO NAMES, too):
-     nothing was done
+  1  nothing was done: SCRIPT LINE n; or the image isn't a shop (NO STOCK,
+     NO REQUESTS, BAD CARD n, BAD REQUEST CARD n, TWO INTENTS), or a file or the
+     directory is damaged (LAYOUT and a fault); or IMAGE SIZE, LOG, LOG AWAY,
+     TWO NAMES
+  2  PATH
   3  FILE, NOT READY, NO MEMORY, IN USE; or DEVICE: check a copy on another
      disk, and go on there
 
@@ -123,8 +128,11 @@ there.
 
 Exit status:
   0  the input ended
-  1  the image isn't a shop, a file of the disk has lost its end (SHORT), LOG,
-     LOG AWAY, TWO NAMES: nothing was done
+  1  nothing was done: the image isn't a shop (NO STOCK, NO REQUESTS,
+     BAD CARD n, BAD REQUEST CARD n, TWO INTENTS), or a file or the directory is
+     damaged (LAYOUT and a fault), or a file has lost its end (SHORT); or
+     IMAGE SIZE, LOG, LOG AWAY, TWO NAMES
+  2  PATH
   3  FILE, NOT READY (input that doesn't wait), NO MEMORY, IN USE, DEVICE (also
      if IMAGE no longer names the file that is served)
 
@@ -160,7 +168,8 @@ log began with among them) and LEFT (how many blocks it left out after them).
 Exit status:
   0  the image was copied
   1  IMAGE SIZE, LOG, or FILE EXISTS (NEW, or its log): nothing was done
-  3  FILE, NO MEMORY, IN USE
+  2  PATH
+  3  FILE, NOT READY, NO MEMORY, IN USE
 
 Examples: ledger copy shop.d64 backup.d64
           ledger copy --log shop.d64-log rescued.d64",
