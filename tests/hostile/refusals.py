@@ -29,7 +29,7 @@ SECTORS = [21] * 17 + [19] * 7 + [18] * 6 + [17] * 5
 BLOCK = bytes(256)
 LINES = b"1,1,S,1,5\n"
 # what fails in a run, as tests/rows/faults.py has it
-CALLS = ("log-sync 1", "sync 1", "folder-sync 1", "folder-sync 2", "output-takes 0")
+CALLS = ("log-sync 1", "log-sync 4", "sync 1", "folder-sync 1", "folder-sync 2")
 # what is typed for an image, a file, a relative file and a name that isn't there
 WORDS = {
     "list": ["{i}", "--as-is {i}"],
@@ -79,9 +79,8 @@ REFUSED = [
         "unlock {i} \\", "delete {i} \\", "undelete {i} \\ --type seq")),
     *((words, "PATH") for words in ("extract {i} -", "copy {i} -")),
 ]
-# commands that take no `-` for an image
-CHANGING = ("repair", "new", "make", "store", "put", "rename", "title", "lock", "unlock", "delete", "undelete", "sort", "format", "play",
-            "serve")
+# commands of a shop, those that refuse its files, and one that needs the lost block
+OF_SHOPS = ("show", "records", "play", "serve", "rename", "lock", "unlock", "delete", "copy-file")
 
 
 def put(data, place, text):
@@ -122,6 +121,12 @@ def disks(program, folder):
     yield "deleted, and a file of this name", put(put(deleted, "18/1+165", b"GONE" + 12 * b"\xa0"), "18/1+69", b"GONE")
     yield "deleted, on a disk of GEOS", put(put(deleted, "18/1+165", b"GONE" + 12 * b"\xa0"), "18/0+173", b"GEOS format V1.0")
     yield "deleted, of another format", put(put(deleted, "18/1+165", b"GONE" + 12 * b"\xa0"), "18/0+2", b"B")
+    made_full = made(program, folder, "new", "--name", "FULL", "--id", "01")
+    for line in ("make CARDS --length 96", "put MENU text --type prg", "put LETTER big --type seq"):
+        command, name, *more = line.split()
+        more = [folder / it if (folder / it).exists() else it for it in more]
+        subprocess.run([program, command, made_full, name, *more], check=True, stdout=subprocess.DEVNULL)
+    yield "full", made_full.read_bytes()
     yield "locked", put(sound, "18/1+66", b"\xc2")
     yield "shop that lost a block", put(shop, "17/0+0", BLOCK)
     yield "shop with a locked STOCK", put(shop, "18/1+2", b"\xc4")
@@ -142,8 +147,8 @@ class Case:
         """The status of the run, and the lines that it prints and reports."""
         with tempfile.TemporaryDirectory(dir=room) as name:
             folder = Path(name)
-            for file, text in files.items():
-                (folder / file).write_bytes(text)
+            for file in {*self.words, "script"} & files.keys():
+                (folder / file).write_bytes(files[file])
             image = folder / "a.d64"
             if self.kind == "folder":
                 image.mkdir()
@@ -175,6 +180,8 @@ class Case:
 def typed(line, image, data):
     """The words of a line for this image; the files are those that a keeper's disk or a shop has."""
     is_shop = b"STOCK LEDGER" in data
+    if b"CARDS\xa0" in data and not is_shop:
+        return line.format(i=image, f="LETTER", r="CARDS", n="NOTHING").split()
     names = {"f": "STOCK" if is_shop else "LETTER", "r": "STOCK" if is_shop else "ADDRESS", "n": "NOTHING"}
     return line.format(i=image, **names).split()
 
@@ -184,17 +191,20 @@ def cases(program, folder):
     images = list(disks(program, folder))
     for what, data in images:
         for command, lines in WORDS.items():
-            for line in lines:
+            for line in lines if command in OF_SHOPS or not what.startswith("shop") else ():
                 yield Case([command, *typed(line, "a.d64", data)], data, what)
     sound = dict(images)["disk"]
     for kind in ("nothing", "folder", "log", "link", "in use", "full"):
-        for data in (sound, dict(images)["shop"]):
-            for command, lines in WORDS.items():
-                for line in lines:
-                    yield Case([command, *typed(line, "a.d64", data)], data, kind, kind)
+        for command, lines in WORDS.items():
+            data = dict(images)["shop"] if command in ("show", "play", "serve") else sound
+            for line in lines:
+                yield Case([command, *typed(line, "a.d64", data)], data, kind, kind)
     for command, lines in WORDS.items():
         for line in lines:
             yield Case([command, *typed(line, "-", sound)], sound, "- that isn't ready", "unready")
+            if line.endswith(" -") or " - " in line or command == "serve":
+                data = dict(images)["shop" if command in ("play", "serve") else "disk"]
+                yield Case([command, *typed(line, "a.d64", data)], data, "an input that isn't ready", "unready")
     for line, _ in REFUSED:
         yield Case(typed(line, "a.d64", sound), sound, "wrong arguments")
     for call in CALLS:
@@ -207,9 +217,10 @@ def cases(program, folder):
 def word_of(stems, case, status, printed, told):
     """The word with which a run ended; nothing if it ended well, or with faults that it printed."""
     lines = told or [re.sub(r"^.*?: ", "", line) for line in printed] if case.words[0] == "plan" else told or printed
+    beside = {"FEWER"} if told else {"FEWER", "SHORT"}  # printed after what was looked for
     for line in lines:
-        found = re.match(rf"({'|'.join(map(re.escape, stems))})(?=$| \d| [A-Z]+ \d|;)", line)
-        if found and found[1] != "FEWER":
+        found = re.match(rf"(?:<pre>)?({'|'.join(map(re.escape, stems))})(?=$| \d| [A-Z]+ \d|;)", line)
+        if found and found[1] not in beside:
             return found[1]
     return None if not status or not told else " ".join(told)[:60]
 
@@ -233,13 +244,13 @@ def main(given):
     with tempfile.TemporaryDirectory() as name:
         room = Path(name)
         blank = made(given.program, room, "new", "--name", "TO", "--id", "01").read_bytes()
-        for file, size in (("MENU", 300), ("BIG", 120000)):
+        for file, size in (("MENU", 300), ("BIG", 120000), ("text", 300), ("big", 254 * 660)):
             (room / file).write_bytes(size * b"A")
         subprocess.run([given.program, "make", made(given.program, room, "new", "--name", "TO", "--id", "01"), "REQUESTS", "--length", "127"],
                        check=True, stdout=subprocess.DEVNULL)
         to = (room / "made.d64").read_bytes()
         (room / "made.d64").write_bytes(blank)
-        files = {"script": LINES, "resets": b"@x\n", "text": b"HELLO\n", "records": b"1,A\n", "many": b"20000,A\n", "big": 120000 * b"A",
+        files = {"script": LINES, "resets": b"@x\n", "text": b"HELLO\n", "records": b"1,A\n", "many": b"1500,A\n", "big": 120000 * b"A",
                  "second.d64": blank, "to.d64": to}
         files["from.d64"] = from_disk(given.program, room)
         runs = list(cases(given.program, room))
