@@ -1,7 +1,7 @@
 //! The subcommands that change the files of a disk: the words of each, and what help says of it, at most 80 columns wide.
 use crate::subcommands::Subcommand;
 use crate::values::{
-    ACCEPT_AWAY, ACCEPT_LOSS, Count, DRY_RUN, FIELDS, IMAGE, NAME, POSITIONS, Value,
+    ACCEPT_AWAY, ACCEPT_LOSS, Count, DRY_RUN, FIELDS, IMAGE, NAME, NEW_IMAGE, POSITIONS, Value,
 };
 
 /// The subcommands that make disks and files, in the order in which help lists them.
@@ -38,7 +38,7 @@ Exit status:
   3  FILE (the file, its folder or the output failed), NO MEMORY
 
 Example: ledger new work.d64 --name WORK --id 01",
-    values: &[IMAGE, DISK_NAME, DISK_ID],
+    values: &[NEW_IMAGE, DISK_NAME, DISK_ID],
 };
 
 /// The length of the records of a new file.

@@ -1,6 +1,6 @@
 //! The subcommands that look at disks: the words of each, and what help says of it, at most 80 columns wide.
 use crate::subcommands::Subcommand;
-use crate::values::{AS_IS, Count, IMAGE, IMAGES, MIXED, TEXT, Value};
+use crate::values::{ANY_IMAGE, ANY_IMAGES, AS_IS, Count, IMAGES, MIXED, TEXT, Value};
 
 /// The subcommands that look at disks, in the order in which help lists them.
 pub(crate) const LOOKS: &[Subcommand] = &[LIST, CHECK, PLAN, MAP, PICTURE, FREE, SECTOR];
@@ -67,7 +67,7 @@ It prints OK, or a fault and its sector, for example LOOP 17/0:
   UNCLOSED    no drive closed a file whose entry is in this sector
   BADTYPE     a closed entry in this sector has a type that doesn't exist
   BADLENGTH   a relative file's entry in this sector has record length 0 or 255
-\"man ledger-1541\" says what to do about each.
+\"ledger help LOOP\" says what to do about it.
 If a file is cut short, SHORT and its last sector follow with --all, in `short`
 with --json or --csv, with several images, on a terminal and with --explain.
 Otherwise, but not with several images alone, FEWER is reported in the same way
@@ -140,7 +140,7 @@ Exit status:
   3  FILE, NOT READY, NO MEMORY, IN USE
 
 Example: ledger map old.d64",
-    values: &[IMAGES],
+    values: &[ANY_IMAGES],
 };
 
 /// The flag for a poster.
@@ -190,7 +190,7 @@ Exit status:
   3  FILE, NOT READY, NO MEMORY, IN USE
 
 Example: ledger picture --sheet ./*.d64 > all.html",
-    values: &[IMAGES, SVG, SHEET, COMPARE],
+    values: &[ANY_IMAGES, SVG, SHEET, COMPARE],
 };
 
 /// `free IMAGE`
@@ -208,7 +208,7 @@ Exit status:
   3  FILE, NOT READY, NO MEMORY, IN USE
 
 Example: ledger free old.d64",
-    values: &[IMAGE],
+    values: &[ANY_IMAGE],
 };
 
 /// A sector of the disk.
@@ -236,5 +236,5 @@ Exit status:
   3  FILE, NOT READY, NO MEMORY, IN USE
 
 Example: ledger sector old.d64 18/0",
-    values: &[IMAGE, PLACE],
+    values: &[ANY_IMAGE, PLACE],
 };

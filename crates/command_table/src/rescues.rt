@@ -1,7 +1,7 @@
 //! The subcommands that rescue files and disks: the words of each, and what help says of it, at most 80 columns wide.
 use crate::subcommands::Subcommand;
 use crate::values::{
-    ACCEPT_LOSS, Count, DRY_RUN, FIELDS, IMAGE, MIXED, NAME, POSITIONS, TEXT, Value,
+    ACCEPT_LOSS, ANY_IMAGE, Count, DRY_RUN, FIELDS, IMAGE, MIXED, NAME, POSITIONS, TEXT, Value,
 };
 
 /// The subcommands that rescue files and disks, in the order in which help lists them.
@@ -37,7 +37,7 @@ Exit status:
   3  FILE, NOT READY, NO MEMORY, IN USE
 
 Example: ledger records old.d64 ADDRESS > address.csv",
-    values: &[IMAGE, NAME, TEXT, MIXED, FIELDS, POSITIONS, UNCLOSED],
+    values: &[ANY_IMAGE, NAME, TEXT, MIXED, FIELDS, POSITIONS, UNCLOSED],
 };
 
 /// `bytes IMAGE NAME [--text] [--mixed] [--unclosed]`
@@ -58,7 +58,7 @@ Exit status:
   3  FILE, NOT READY, NO MEMORY, IN USE
 
 Example: ledger bytes old.d64 'ADD\\c1' > add.prg",
-    values: &[IMAGE, NAME, TEXT, MIXED, UNCLOSED],
+    values: &[ANY_IMAGE, NAME, TEXT, MIXED, UNCLOSED],
 };
 
 /// `basic IMAGE NAME [--unclosed]`
@@ -82,7 +82,7 @@ Exit status:
   3  FILE, NOT READY, NO MEMORY, IN USE
 
 Example: ledger basic old.d64 MENU > menu.bas",
-    values: &[IMAGE, NAME, UNCLOSED],
+    values: &[ANY_IMAGE, NAME, UNCLOSED],
 };
 
 /// The folder that files are taken out to.
@@ -132,7 +132,7 @@ Exit status:
   3  FILE, NOT READY, NO MEMORY, IN USE
 
 Example: ledger extract old.d64 old",
-    values: &[IMAGE, FOLDER, DELETED, SCAN],
+    values: &[ANY_IMAGE, FOLDER, DELETED, SCAN],
 };
 
 /// The flag that frees sectors that no file owns.
@@ -195,5 +195,5 @@ Exit status:
   3  FILE, NOT READY, NO MEMORY, IN USE
 
 Example: ledger trim old40.d64 > old.d64",
-    values: &[IMAGE],
+    values: &[ANY_IMAGE],
 };
