@@ -113,9 +113,11 @@ def renamed(text, name):
 def for_users(file, text, name):
     """What the package has of a file."""
     if file.name == "QUICK_START.md":
-        text = replaced(r"(?m)^install .* /usr/bin/ledger\n", "", text)
+        text = replaced(r"(?m)^\./ledger --version\ninstall .* /usr/bin/ledger\n", "", text)
+        text = replaced(re.escape(" (`./ledger --version` puts the released program into `releases/out`.)"), "", text)
+        text = replaced(r"(?m)^With the package write .*\n", f"Write `{name}` for `ledger`.\n", text)
         place = f"Install the package first, and do this in its folder `/usr/share/doc/{name}`."
-        text = replaced(r"Do it at the top of the repository; .*", place, text)
+        text = replaced(re.escape("Do it at the top of the repository."), place, text)
     if str(file) == "shop/README.md":
         text = replaced("with `ledger` in `/usr/bin`", f"with `{name}` in `/usr/bin`", text)
     if str(file) == "README.md":
