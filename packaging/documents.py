@@ -113,7 +113,8 @@ def renamed(text, name):
 def for_users(file, text, name):
     """What the package has of a file."""
     if file.name == "QUICK_START.md":
-        text = replaced(r"(?m)^install .* /usr/bin/ledger\n", "", text)
+        text = replaced(r"(?m)^\./ledger --version\ninstall .* /usr/bin/ledger\n", "", text)
+        text = replaced(re.escape(" (`./ledger --version` puts the released program into `releases/out`.)"), "", text)
         place = f"Install the package first. Then type all commands as root in its folder `/usr/share/doc/{name}`, and write `{name}` for `ledger`."
         text = replaced(r"Type all commands as root, at the top of a clone .*", place, text)
     if str(file) == "shop/README.md":
