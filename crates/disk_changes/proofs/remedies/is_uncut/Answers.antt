@@ -15,8 +15,8 @@ returns-clause-ok c =
       | in-Ok w ↦ subst P (sym w.result-is)
           (λ t p short. ⊎_elim (λ same. cc) (λ uncut. uncut p short) w.in-Ok.ensures.ok.0.1, λ none. refl)
       | in-Err+in_ok-known_refusal-in-Err w ↦ subst P (sym w.result-is) (
-          λ t. absurd (false≢true t),
-          λ none. absurd (one-cut c.args.image.now w.in-Err.fault c.requires w.in-Err.ensures.err
-              (λ lack. w.in_ok-known_refusal-in-Err.ensures.ok.1 (w.in_ok-known_refusal-in-Err.ensures.ok.0 ∙ lack)) none),
+        λ t. absurd (false≢true t),
+        λ none. absurd (one-cut c.args.image.now w.in-Err.fault c.requires w.in-Err.ensures.err
+            (λ lack. w.in_ok-known_refusal-in-Err.ensures.ok.1 (w.in_ok-known_refusal-in-Err.ensures.ok.0 ∙ lack)) none),
       )
     ]
