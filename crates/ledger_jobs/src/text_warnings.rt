@@ -13,7 +13,7 @@ const SMALL: &str =
     "small letters were stored as they were typed, and a C64 shows graphics for them; capitals are its letters";
 
 /// The bytes of a text that is a regular file. None of any other: what a pipe gave once it doesn't give again.
-fn bytes_again<R: HostFiles + AllocGlobal>(rt: &R, path: &str) -> Option<Vec<u8>>
+fn text_bytes<R: HostFiles + AllocGlobal>(rt: &R, path: &str) -> Option<Vec<u8>>
     requires { MayReadAgain R.rights rt.now path.now }
 {
     if path == STANDARD_INPUT {
@@ -37,7 +37,7 @@ pub(crate) fn takes_no_file<R: HostFiles + AllocGlobal>(rt: &R, job: &Job<'_>) -
     let Some(path) = text_again(rt, job) else {
         return false;
     };
-    match bytes_again(rt, path) {
+    match text_bytes(rt, path) {
         Some(bytes) => has_no_file(bytes.as_slice()),
         None => false,
     }
@@ -79,7 +79,7 @@ where
     let Some(path) = text_again(rt, job) else {
         return;
     };
-    let Some(bytes) = bytes_again(rt, path) else {
+    let Some(bytes) = text_bytes(rt, path) else {
         return;
     };
     match edit {

@@ -11,8 +11,8 @@ returns-clause-run g c =
     let what = c.args.what.now in
     let image = c.args.image.now in
     let old = c.in_ok-folder.folder in
-    let new = c.change_image.new.folder in
+    let new = c.change_image-ended.new.folder in
     told-weaker g.W.Write.contents (IsMade (untagged_folders g.R.HostLogs.folders _ _ _) what image old new) (λ made. IsChanged what image made × ⊤)
     (IsLeft (untagged_folders g.R.HostLogs.folders _ _ _) what image old new) (IsRefused what image)
-    (KeepsImage (untagged_folders g.R.HostLogs.folders _ _ _) image old new) ⊤ c.args.out.now c.change_image.new.out
-    (λ made is. (is.0, tt)) (λ why is. is.0) (λ kept. tt) c.change_image.result c.change_image.ensures.run
+    (KeepsImage (untagged_folders g.R.HostLogs.folders _ _ _) image old new) ⊤ c.args.out.now c.change_image-ended.new.out
+    (λ made is. (is.0, tt)) (λ why is. is.0) (λ kept. tt) c.change_image-ended.result c.change_image-ended.ensures.run
