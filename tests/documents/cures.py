@@ -91,9 +91,14 @@ def is_word(said, stem):
     return re.fullmatch(rf"{re.escape(stem)}( \d.*)?", said) or stem == "LAYOUT" and said.startswith("LAYOUT ")
 
 
+def stem_of(word):
+    """A word of the table without the sector or the number after it."""
+    return re.sub(r"( t/s| n)+$", "", word)
+
+
 def fault_of_form(word, lines):
     """What a play lacks, by its lines; nothing if it has all."""
-    stem = re.sub(r"( t/s| n)+$", "", word["word"])
+    stem = stem_of(word["word"])
     refused = [does for does, status, said in map(parts, lines) if status == word["status"] and is_word(said, stem)]
     if not refused:
         return f"no line ends with {word['word']}"
@@ -129,7 +134,7 @@ def main(given):
     if os.getuid() == 0:  # a folder that may not be written is so for root, too
         ctypes.CDLL(None).prctl(DROP_OF_BOUNDS, RIGHT_TO_ANY_FILE)
     words = tomllib.loads(WORDS.read_text(encoding="utf-8"))["word"]
-    plays = [(word, play) for word in words for play in word["plays"].strip().split("\n\n") if given.word in (None, word["word"])]
+    plays = [(word, play) for word in words for play in word["plays"].strip().split("\n\n") if given.word in (None, word["word"], stem_of(word["word"]))]
     with ThreadPoolExecutor(os.cpu_count()) as several:
         faults = list(several.map(lambda it: fault_of(given.program, *it), plays))
     for (word, _), fault in zip(plays, faults):
