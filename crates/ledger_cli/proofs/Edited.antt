@@ -28,4 +28,4 @@ module _ {F W : Type 0} (position : F → Option ℕ) (bytes contents : F → Op
     job-weaker Written (Some file) after old new end (left, same, (ended, ends, is)) =
         (left, same, (ended, ends, written file left old new ended is))
     job-weaker Printed file after old new end (same, (ended, ends, is)) =
-        (same, (ended, ends, (told-weaker told Is Then Refuses Why' old new f g ended is.0, is.1)))
+        (same, (ended, ends, (told-weaker told Is Then Refuses Why' ⊥ ⊥ old new f g (λ kept. kept) ended is.0, is.1)))

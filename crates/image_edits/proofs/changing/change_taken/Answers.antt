@@ -2,6 +2,7 @@
 use Rattle.std.proofs.Common.{◌∙◌, Err, ap, inl, inr, refl}
 use Rattle.std.proofs.lemmas.Result.{err_from_is_err_and}
 use Rattle.std.specs.IoError.{error_kind}
+use Rattle.std.specs.Prelude.{⊤}
 use Rattle.image_edits.proofs.ChangedOver.{uncalled}
 use Rattle.disk_changes.specs.Changes.{IsRefused}
 use Rattle.folder_changes.proofs.Changed.{told-weaker}
@@ -20,7 +21,7 @@ returns g c =
     inl (
       c.in_ok-ended.ended,
       c.change_end.ensures,
-      told-weaker g.W.Write.contents _ _ (IsRefused what image) (IsRefused what image) c.args.out.now c.change_at.new.out
-          (λ made is. (is.0, (_, c.in_ok-names.ensures.leads, is.1))) (λ why is. is) c.in_ok-ended.ended
+      told-weaker g.W.Write.contents _ _ (IsRefused what image) (IsRefused what image) ⊤ ⊤ c.args.out.now c.change_at.new.out
+          (λ made is. (is.0, (_, c.in_ok-names.ensures.leads, is.1))) (λ why is. is) (λ kept. kept) c.in_ok-ended.ended
           c.in_ok-ended.ensures.run,
     )

@@ -41,9 +41,9 @@ returns g c =
         c.change_end.ensures,
         (
           told-weaker g.W.Write.contents (IsChanged c.change-what.result image) (IsEdited c.args.edit.now c.as_slice.result.now image)
-              (IsRefused c.change-what.result image) (IsUnedited c.args.edit.now c.as_slice.result.now image) c.args.out.now
+              (IsRefused c.change-what.result image) (IsUnedited c.args.edit.now c.as_slice.result.now image) ⊥ ⊥ c.args.out.now
               c.show_change.new.out (λ made is. (c.change-what.result, c.change-what.ensures.asks, is))
-              (λ why is. (c.change-what.result, c.change-what.ensures.asks, is)) c.show_change.result c.show_change.ensures.0,
+              (λ why is. (c.change-what.result, c.change-what.ensures.asks, is)) (λ kept. kept) c.show_change.result c.show_change.ensures.0,
           c.show_change.ensures.1,
         ),
       ),

@@ -1,6 +1,6 @@
 -- The change is of the bytes that the host says.
 use Rattle.std.proofs.Common.{◌∙◌, Err, List, ap, inl, subst, sym, ℕ}
-use Rattle.std.specs.Prelude.{take}
+use Rattle.std.specs.Prelude.{take, ⊤}
 use Rattle.std.proofs.lemmas.Result.{err_from_is_err_and}
 use Rattle.image_edits.proofs.ChangedOver.{away-as, run-weaker}
 use Rattle.folder_changes.proofs.Changed.{told-weaker}
@@ -46,7 +46,7 @@ returns g c =
         run.0,
         run.1,
         told-weaker g.W.Write.contents (λ made. IsChanged what image made × At made) (λ made. IsEdited edit text image made × At made)
-            (IsRefused what image) (IsUnedited edit text image) old new (λ made is. ((what, c.change-what.ensures.asks, is.0), is.1))
-            (λ why is. (what, c.change-what.ensures.asks, is)) run.0 run.2,
+            (IsRefused what image) (IsUnedited edit text image) ⊤ ⊤ old new (λ made is. ((what, c.change-what.ensures.asks, is.0), is.1))
+            (λ why is. (what, c.change-what.ensures.asks, is)) (λ kept. kept) run.0 run.2,
       ),
     )) c.change_taken.ensures)
