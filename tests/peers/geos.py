@@ -10,13 +10,12 @@ records, some of which are empty or missing. Of each disk:
   record, and leaves out those after it. Of a file of one chain of one block it writes all 254 bytes of that;
 - cbmconvert writes the same bytes for each file, except that it puts zeros for the places in the entry, for the bytes after a
   record's end, and `PRG` in the signature;
-- after one to three bytes of a third of the disks are changed in the entries, the record blocks and the links, the files and the index are those
-  of a reader in Python (tests/hostile/extract.py), and each run takes less than 24 MB.
+- after up to three changes of a third of the disks, in the entries, the record blocks and the links, the files and the index are those of a
+  reader in Python (tests/hostile/extract.py).
 
 Not part of the gate."""
 
 import random
-import resource
 import subprocess
 import sys
 import tempfile
@@ -31,7 +30,6 @@ from drawn import DIRECTORY, MAP, PLACES, SIZE, start
 from trial import at, check, conduct, need
 
 taken_out = SourceFileLoader("taken_out", str(TESTS / "hostile" / "extract.py")).load_module()
-MOST_MEMORY = 24 << 20
 
 
 class Drawn:
@@ -117,10 +115,6 @@ def without_places(image, slot):
             if blocks and end <= len(data):
                 data[end - 255 + last:end] = bytes(255 - last)
     return bytes(data)
-
-
-def limit():
-    resource.setrlimit(resource.RLIMIT_AS, (MOST_MEMORY, MOST_MEMORY))
 
 
 def compare(program, folder, image, number):
