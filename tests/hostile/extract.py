@@ -30,6 +30,7 @@ from pathlib import Path
 sys.dont_write_bytecode = True
 sys.path.insert(0, str(Path(__file__).resolve().parents[1] / "lib"))
 import disks
+import geos
 from disks import FAULTS, Image
 from drawn import DIRECTORY, INDEX, MAP, PLACES, SIZE, name_text, sign, start
 from trial import conduct, need
@@ -128,13 +129,11 @@ class Wanted:
             for place, slot, blocks in self.deleted(image, every, {MAP, *sectors, *(block for reach in chains for block in reach[0])}):
                 slots.append((place, slot))
                 chains.append(blocks)
-        owned = {}
-        for place in [MAP, *sectors, *(block for blocks, _, _ in chains for block in blocks)]:
-            owned[place] = owned.get(place, 0) + 1
+        owned = self.owners(sectors, chains)
         self.files, self.faults, rows, self.named = {}, [fault] if fault else [], [], []
         for number, ((place, slot), (blocks, last, ended)) in enumerate(zip(slots, chains), 1):
             shared = next((block for block in blocks if owned[block] > 1), None)
-            data = self.data(image, blocks, last)
+            data = geos.cvt(image, slot) if geos.is_geos(slot) else self.data(image, blocks, last)
             art = is_art(slot)
             rows.append(self.row(number, slot, 0, 0, "", None, "") if art else
                         self.row(number, slot, len(blocks), len(data), ended, shared, hashlib.sha256(data).hexdigest()))
@@ -147,8 +146,26 @@ class Wanted:
             told = ended or (f"OWNEDTWICE {shared[0]}/{shared[1]}" if shared else "")
             told = told or ("" if slot[2] >= 128 or slot[2] == 0 else f"UNCLOSED {place[0]}/{place[1]}")
             self.faults += [told] if told and not art else []
-            self.named.append((slot[5:21].rstrip(b"\xa0"), slot, data, fault or told))
         self.rows = rows
+        self.name(image, sectors, slots, fault)
+
+    def name(self, image, sectors, slots, fault):
+        """What `bytes` prints of each entry: its own chain, of a file of GEOS too."""
+        chains = [self.plain(image, place, slot) for place, slot in slots]
+        owned = self.owners(sectors, chains)
+        for (place, slot), (blocks, last, ended) in zip(slots, chains):
+            shared = next((block for block in blocks if owned[block] > 1), None)
+            told = ended or (f"OWNEDTWICE {shared[0]}/{shared[1]}" if shared else "")
+            told = told or ("" if slot[2] >= 128 or slot[2] == 0 else f"UNCLOSED {place[0]}/{place[1]}")
+            self.named.append((slot[5:21].rstrip(b"\xa0"), slot, self.data(image, blocks, last), fault or told))
+
+    @staticmethod
+    def owners(sectors, chains):
+        """How many have each sector."""
+        owned = {}
+        for place in [MAP, *sectors, *(block for blocks, _, _ in chains for block in blocks)]:
+            owned[place] = owned.get(place, 0) + 1
+        return owned
 
     def names(self, is_asked, most):
         """The first names of entries that are asked for."""
@@ -161,14 +178,22 @@ class Wanted:
     @classmethod
     def deleted(cls, image, every, owned):
         """The deleted slots, and what can be reached of them, of which no block is among these."""
-        for place, slot in every:
+        for place, slot in every:  # none is one of GEOS, since its type is 0
             if slot[2] == 0 and slot[5:21].rstrip(b"\xa0") and tuple(slot[3:5]) in INDEX:
                 reach = cls.reach(image, place, slot)
                 if not owned & set(reach[0]):
                     yield place, slot, reach
 
+    @classmethod
+    def reach(cls, image, place, slot):
+        """The blocks of an entry's file, the last index, and what ends them; of one of GEOS all its blocks."""
+        if not geos.is_geos(slot):
+            return cls.plain(image, place, slot)
+        blocks, _, last, ended = geos.reach(image, slot)
+        return blocks, last, ended
+
     @staticmethod
-    def reach(image, place, slot):
+    def plain(image, place, slot):
         if slot[3] == 0 and slot[2] not in (0x84, 0xC4):
             return [], 0, ""
         first = tuple(slot[3:5])
@@ -190,7 +215,7 @@ class Wanted:
     def row(number, slot, blocks, count, ended, shared, digest):
         name, kind = slot[5:21].rstrip(b"\xa0"), slot[2]
         low = kind % 16
-        ending = "." + KINDS[low].lower() if low < 5 else ".bin"
+        ending = ".cvt" if geos.is_geos(slot) else "." + KINDS[low].lower() if low < 5 else ".bin"
         return [str(number), file_name(number, name, ending), name_text(name), "".join(map(shown, name)),
                 KINDS[low] if low < 5 else "???", "yes" if kind >= 128 else "no", "yes" if kind >> 6 & 1 else "no",
                 str(slot[30] + 256 * slot[31]), str(blocks), str(slot[23]) if low == 4 else "", str(count), ended,
@@ -316,6 +341,9 @@ def random_disks(seed, count):
         image = bytearray(draw.randbytes(SIZE))
         if number >= count:
             image[start(DIRECTORY):start(DIRECTORY) + 2] = b"\0\xff"
+            for it in range(start(DIRECTORY), start(DIRECTORY) + 256, 32):  # as files of GEOS, whose entry, blocks and records are random
+                image[it + 2:it + 5] = bytes((draw.choice((0x81, 0x82, 0x83, 0xC3)), *draw.choice(PLACES)))
+                image[it + 21:it + 25] = bytes((*draw.choice(PLACES), draw.randint(0, 1), draw.randint(1, 15)))
         if number >= count + count // 10:
             for place in PLACES:
                 image[start(place):start(place) + 2] = bytes(draw.choice(PLACES)) if draw.random() < .99 else b"\0\x80"

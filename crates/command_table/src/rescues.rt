@@ -116,13 +116,14 @@ const EXTRACT: Subcommand = Subcommand {
     more: "\
 It makes FOLDER, and in it a file for each entry of the directory, for example
 01-LETTER 02.prg, but none of directory art: DEL entries of 0 blocks at 18/0 or
-without a block. A relative file also has its records as lines (.csv). It takes
-what can be read of a damaged file, and index.csv says what was found. It prints
-EXTRACTED if all files are whole, and then FEWER and a sector if a PRG, SEQ or
-USR that ends there has fewer blocks than its entry says. With --deleted it also
-takes deleted files whose blocks no other file has (.del), after all others.
-With --scan it also reads those other sectors of track 18 that look like sectors
-of a directory.
+without a block. A relative file also has its records as lines (.csv). A file of
+GEOS becomes one file in the form CVT (.cvt), which Convert and c1541 read. It
+takes what can be read of a damaged file, and index.csv says what was found. It
+prints EXTRACTED if all files are whole, and then FEWER and a sector if a PRG,
+SEQ or USR that ends there has fewer blocks than its entry says. With --deleted
+it also takes deleted files whose blocks no other file has (.del), after all
+others. With --scan it also reads those other sectors of track 18 that look like
+sectors of a directory.
 
 Exit status:
   0  all files are whole

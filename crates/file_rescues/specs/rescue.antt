@@ -2,8 +2,10 @@
 pub mod Art
 pub mod Deleted
 pub mod Folders
+pub mod Geos
 pub mod Index
 pub mod Memory
+pub mod Named
 pub mod Rescues
 pub mod Scanned
 pub mod Sharing

@@ -1,5 +1,6 @@
 -- What can be rescued of the files of a disk, written to a folder that is new.
 pub mod Counts
+pub mod Cvt
 pub mod Extracted
 pub mod Inside
 pub mod Made

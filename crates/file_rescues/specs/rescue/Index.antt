@@ -9,12 +9,12 @@ use Rattle.disk_layout.specs.Directory.{type_byte}
 use Rattle.disk_layout.specs.Layout.{count_field, record_length}
 use Rattle.disk_layout.specs.Texts.{fault_text, place_text}
 use Rattle.disk_layout.specs.declared.faults.Fault.{Fault}
-use Rattle.line_text.specs.petscii.FileNames.{ending_of, file_name_of}
 use Rattle.line_text.specs.declared.petscii.characters.CharacterSet.TheVariants.{Graphics}
 use Rattle.line_text.specs.petscii.Quoted.{quoted}
 use Rattle.damaged_files.specs.reached.Names.{name_of}
 use Rattle.damaged_files.specs.reached.Types.{type_name}
 use Rattle.file_rescues.specs.rescue.Art.{is_art}
+use Rattle.file_rescues.specs.rescue.Named.{first_name}
 use Rattle.file_rescues.specs.declared.rescue.rows.Row.{Row}
 
 -- the first line: what stands in each column
@@ -51,7 +51,7 @@ hash_text (Some hash) = flat_map hex hash
 -- the name of the file; none of directory art. Each byte of it is its own text
 unfoldable pub file_text : Row → List ℕ
 file_text r =
-    if is_art r.slot then [] else text_of (file_name_of r.number (name_of r.slot) (ending_of (type_byte r.slot)))
+    if is_art r.slot then [] else text_of (first_name r.number r.slot)
 
 -- whose the row is: the entry's number, the file's name, the entry's name as it is typed, and as a C64 shows it
 unfoldable pub naming_text : Row → List ℕ

@@ -18,14 +18,18 @@ use Rattle.file_rescues.specs.Found.{records_length, unclosed}
 use Rattle.file_rescues.specs.Records.{records_of, records_text}
 use Rattle.command_faults.specs.declared.faults.CommandFault.{CommandFault}
 use Rattle.command_faults.specs.declared.faults.CommandFault.TheVariants as faults
-use Rattle.line_text.specs.petscii.FileNames.{ending_of, file_name_of}
-use Rattle.line_text.specs.declared.petscii.file_names.Ending.{Ending}
+use Rattle.geos_files.specs.Entries.{geos_entry}
+use Rattle.geos_files.specs.Reached.{IsGeosReach}
+use Rattle.geos_files.specs.declared.entries.GeosEntry.{GeosEntry}
+use Rattle.line_text.specs.petscii.FileNames.{file_name_of}
 use Rattle.line_text.specs.declared.petscii.file_names.Ending.TheVariants.{Records}
 use Rattle.damaged_files.specs.reached.Directories.{IsReadSoFar}
 use Rattle.file_rescues.specs.rescue.Art.{is_art}
 use Rattle.file_rescues.specs.rescue.Deleted.{deleted_slots}
 use Rattle.file_rescues.specs.rescue.Folders.{AddsFiles, AddsPart, NewFile, new_file}
+use Rattle.file_rescues.specs.rescue.Geos.{cvt_bytes}
 use Rattle.file_rescues.specs.rescue.Index.{heading, row_text}
+use Rattle.file_rescues.specs.rescue.Named.{first_name}
 use Rattle.damaged_files.specs.reached.Names.{name_of}
 use Rattle.file_rescues.specs.rescue.Scanned.{with_scanned}
 use Rattle.file_rescues.specs.rescue.Sharing.{owned}
@@ -33,10 +37,16 @@ use Rattle.file_rescues.specs.declared.rescue.choices.Choice.{Choice}
 use Rattle.file_rescues.specs.declared.rescue.rescuing.Rescued.{Rescued}
 use Rattle.file_rescues.specs.declared.rescue.rows.Row.{Row}
 
+-- what can be reached of an entry's file: of one of GEOS its info block, and the blocks of its records
+abbrev pub IsReachedBy : Option GeosEntry → Image → Rescued → Type 0
+IsReachedBy None img f = IsReached img f.slot f.blocks.items f.fault f.last × (f.pairs.items ≡ [])
+IsReachedBy (Some entry) img f = IsGeosReach img entry f.blocks.items f.pairs.items f.fault f.last
+
 -- these blocks can be reached of the entry's file, up to this fault
 pub record IsRescued (img : Image) (f : Rescued) : Type 0 where
-  pub reached : IsReached img f.slot f.blocks.items f.fault f.last
-  pub few : length f.blocks.items ≤ 720
+  pub reached : IsReachedBy (geos_entry f.slot) img f
+  pub few : length f.blocks.items ≤ 683
+  pub pairs : length f.pairs.items ≤ 254
 
 -- this can be reached of these entries, in their order
 pub record AreRescued (img : Image) (slots : List Slot) (files : List Rescued) : Type 0 where
@@ -71,23 +81,24 @@ pub record AreChosen (choice : Choice) (img : Image) (directory : List Place) (f
   pub entries : AreRescued img (used_slots img directory) used
   pub deleted : AreAdded choice.deleted img directory used found
 
--- the bytes of the file that can be reached
+-- the bytes of the file that can be reached; of one of GEOS those of its CVT
+abbrev pub bytes_by : Option GeosEntry → Image → Rescued → List ℕ
+bytes_by None img f = file_bytes img f.blocks.items f.last
+bytes_by (Some entry) img f = cvt_bytes img entry f
+
 abbrev pub bytes_in : Image → Rescued → List ℕ
-bytes_in img f = file_bytes img f.blocks.items f.last
+bytes_in img f = bytes_by (geos_entry f.slot) img f
 
--- the file of these bytes that is made of entry n, with the ending: 03-MEMBERS.rel
-abbrev pub entry_file : ℕ → Rescued → Ending → List ℕ → NewFile
-entry_file n f ending bytes = new_file (file_name_of n (name_of f.slot) ending) bytes
-
--- the one with the lines of its records, if they have a length: 03-MEMBERS.csv. The side sectors aren't needed for them
+-- the file with the lines of its records, if they have a length: 03-MEMBERS.csv. The side sectors aren't needed for them
 abbrev pub line_files : ℕ → Rescued → List ℕ → Option ℕ → List NewFile
 line_files n f bytes None = []
-line_files n f bytes (Some L) = entry_file n f Records (records_text (records_of L bytes)) ∷ []
+line_files n f bytes (Some L) =
+    new_file (file_name_of n (name_of f.slot) Records) (records_text (records_of L bytes)) ∷ []
 
 -- the files of entry n: one with its bytes, and one with its records
 unfoldable pub own_files : Image → ℕ → Rescued → List NewFile
 own_files img n f =
-    entry_file n f (ending_of (type_byte f.slot)) (bytes_in img f)
+    new_file (first_name n f.slot) (bytes_in img f)
     ∷ line_files n f (bytes_in img f) (records_length f.slot)
 
 -- all files that are made of entry n: none if it is directory art

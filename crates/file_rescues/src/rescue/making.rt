@@ -2,9 +2,13 @@
 ghost use Rattle.std.specs.Prelude.{◌≡◌, ◌≤◌, IfErr, IfOk, OnOk, [], ◌∷◌, length};
 ghost use Rattle.d64_image.specs.Memory.{disk_image};
 ghost use Rattle.file_rescues.specs.rescue.Folders.{AddsFiles, AddsPart, StaysInside, new_file};
-ghost use Rattle.file_rescues.specs.rescue.Rescues.{IsMakeFault, IsRescued, bytes_in, entry_file, line_files, own_files};
+ghost use Rattle.file_rescues.specs.rescue.Rescues.{IsMakeFault, IsRescued, bytes_in, line_files, own_files};
+ghost use Rattle.file_rescues.specs.rescue.Named.{first_name};
 ghost use Rattle.file_rescues.specs.Found.{records_length};
 ghost use Rattle.file_rescues.specs.Records.{records_of, records_text};
+ghost use Rattle.damaged_files.specs.reached.Names.{name_of};
+ghost use Rattle.line_text.specs.petscii.FileNames.{file_name_of};
+ghost use Rattle.line_text.specs.declared.petscii.file_names.Ending.TheVariants as endings;
 ghost use Rattle.command_faults.specs.declared.faults.CommandFault.TheVariants as faults;
 
 use crate::chains::read_file;
@@ -12,10 +16,13 @@ use crate::finding::length_of_records;
 use crate::forms::RecordForm;
 use crate::piece_printing::print_pieces;
 use crate::rescue::folders::NewFolder;
+use crate::rescue::geos::cvt_bytes;
+use crate::rescue::naming::first_name;
 use crate::rescue::rescuing::Rescued;
 use command_faults::CommandFault;
 use d64_image::MemDisk;
 use damaged_files::entry_name;
+use geos_files::geos_entry;
 use line_text::{Ending, file_name};
 use std::alloc::Global;
 
@@ -37,31 +44,50 @@ pub(crate) fn make<F: NewFolder>(
     }
 }
 
-/// Makes the file that stands for entry `number`, with this ending. `File` if the folder failed, or `NoMemory`.
-fn make_entry<F: NewFolder>(
+/// Makes the file with the bytes of entry `number`. `File` if the folder failed, or `NoMemory`.
+fn make_first<F: NewFolder>(
     folder: &mut F,
     number: u8,
     file: &Rescued,
-    ending: Ending,
     bytes: &[u8],
 ) -> Result<(), CommandFault>
     ensures ok { OnOk result (AddsFiles (F.files folder.old) (F.files folder.new)
-        (entry_file number file.now ending bytes.now ∷ [])) }
+        (new_file (first_name number file.now.slot) bytes.now ∷ [])) }
     ensures err { IfErr result (λ fault. IsMakeFault fault
         × AddsPart (F.files folder.old) (F.files folder.new)
-        (entry_file number file.now ending bytes.now ∷ [])) }
+        (new_file (first_name number file.now.slot) bytes.now ∷ [])) }
 {
-    let name = file_name(number, entry_name(&file.slot), ending);
+    let name = first_name(number, &file.slot);
     make(folder, name.as_slice(), bytes)
 }
 
-/// The bytes of a file that can be reached. `NoMemory` if there was none for them.
+/// Makes the file with the lines of the records of entry `number`. `File` if the folder failed, or `NoMemory`.
+fn make_lines<F: NewFolder>(
+    folder: &mut F,
+    number: u8,
+    file: &Rescued,
+    bytes: &[u8],
+) -> Result<(), CommandFault>
+    ensures ok { OnOk result (AddsFiles (F.files folder.old) (F.files folder.new)
+        (new_file (file_name_of number (name_of file.now.slot) endings.Records) bytes.now ∷ [])) }
+    ensures err { IfErr result (λ fault. IsMakeFault fault
+        × AddsPart (F.files folder.old) (F.files folder.new)
+        (new_file (file_name_of number (name_of file.now.slot) endings.Records) bytes.now ∷ [])) }
+{
+    let name = file_name(number, entry_name(&file.slot), Ending::Records);
+    make(folder, name.as_slice(), bytes)
+}
+
+/// The bytes of a file that can be reached; of one of GEOS those of its CVT. `NoMemory` if there was none for them.
 fn bytes_of(alloc: Global, disk: &MemDisk, file: &Rescued) -> Result<Vec<u8>, CommandFault>
     requires { length file.now.blocks.items ≤ 720 }
     ensures ok { IfOk result (λ bytes. bytes.items ≡ bytes_in (disk_image disk.now) file.now) }
     ensures err { IfErr result (λ fault. fault ≡ faults.NoMemory) }
 {
-    read_file(alloc, disk, file.blocks.as_slice(), file.last)
+    match geos_entry(&file.slot) {
+        Some(entry) => cvt_bytes(alloc, disk, &entry, file),
+        None => read_file(alloc, disk, file.blocks.as_slice(), file.last),
+    }
 }
 
 /// The lines of the records of `size` bytes among these bytes. `NoMemory` if there was none for them.
@@ -99,7 +125,7 @@ fn make_records<F: NewFolder>(
         return Ok(());
     };
     let lines = record_lines(alloc, bytes, length)?;
-    make_entry(folder, number, file, Ending::Records, lines.as_slice())
+    make_lines(folder, number, file, lines.as_slice())
 }
 
 /// Makes the files that stand for entry `number`, and returns its bytes that can be reached: those of the first file. `File`
@@ -118,8 +144,7 @@ pub(crate) fn make_files<F: NewFolder>(
         × AddsPart (F.files folder.old) (F.files folder.new) (own_files (disk_image disk.now) number file.now)) }
 {
     let bytes = bytes_of(alloc, disk, file)?;
-    let ending = Ending::of_type(file.slot.bytes[2]);
-    make_entry(folder, number, file, ending, bytes.as_slice())?;
+    make_first(folder, number, file, bytes.as_slice())?;
     make_records(alloc, folder, number, file, bytes.as_slice())?;
     Ok(bytes)
 }

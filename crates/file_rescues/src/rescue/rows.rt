@@ -7,10 +7,11 @@ ghost use Rattle.file_rescues.specs.rescue.Rescues.{fault_of};
 
 use crate::rescue::art::is_art;
 use crate::rescue::hashes::Hash;
+use crate::rescue::naming::first_name;
 use d64_image::Place;
 use damaged_files::{entry_name, type_name};
 use disk_layout::{EntryView, Fault, Slot};
-use line_text::{CharacterSet, Ending, Quoted, Text, file_name};
+use line_text::{CharacterSet, Quoted, Text};
 use std::fmt::{self, Display, Formatter};
 
 /// What the index says of a file.
@@ -135,8 +136,7 @@ impl Display for NameOfFile {
         if is_art(&row.slot) {
             return Ok(());
         }
-        let name = entry_name(&row.slot);
-        let file = file_name(row.number, name, Ending::of_type(row.slot.bytes[2]));
+        let file = first_name(row.number, &row.slot);
         write!(f, "{}", Text(file.as_slice()))
     }
 }

@@ -1,11 +1,11 @@
 -- The names of the files that are made lie in the folder, and differ.
-use Rattle.std.proofs.Common.{◌≡◌, ◌≢◌, ◌<◌, ◌≤◌, ◌+◌, ◌%◌, ◌++◌, ◌∷◌, ◌⊎◌, inl, inr, ℕ, Bool, true, false, List, [], Option, Some, None, ap, append_assoc, arith, get_or, length, map, refl, subst, sym, ◌∙◌}
+use Rattle.std.proofs.Common.{◌≡◌, ◌≢◌, ◌<◌, ◌≤◌, ◌+◌, ◌%◌, ◌++◌, ◌∷◌, ◌⊎◌, inl, inr, ℕ, Bool, true, false, List, [], Option, Some, None, ap, append_assoc, arith, get_or, length, length-append, map, refl, subst, sym, ◌∙◌}
 use Rattle.std.specs.Prelude.{Contains, IsTrue, codes, if◌then◌else◌, nat_eq}
 use Rattle.std.specs.List.{AllByRecursion}
 use Rattle.std.proofs.lemmas.Bool.{false≢true}
 use Rattle.std.proofs.lemmas.Bool.Decides.{Decides-eqb}
-use Rattle.std.proofs.lemmas.List.{map-append}
-use Rattle.std.proofs.lemmas.List.Elements.{Contains-append_cases}
+use Rattle.std.proofs.lemmas.List.{get_or-append-add, map-append}
+use Rattle.std.proofs.lemmas.List.Elements.{Contains-append_cases, Contains-append_left}
 use Rattle.d64_image.specs.Images.{Image}
 use Rattle.d64_image.specs.declared.place.Place.{Place}
 use Rattle.disk_layout.proofs.lemmas.lists.Once.{Contains-cases, Contains-nil, EachOnce-join}
@@ -17,11 +17,14 @@ use Rattle.line_text.specs.petscii.FileNames.{IsSafeName, ending_of, ending_text
 use Rattle.line_text.specs.declared.petscii.file_names.Ending.{Ending}
 use Rattle.line_text.specs.declared.petscii.file_names.Ending.TheVariants.{Del, Seq, Prg, Usr, Rel, Other, Records}
 use Rattle.damaged_files.proofs.lemmas.reached.Lengths.{name-short}
-use Rattle.file_rescues.specs.rescue.Folders.{NewFile, StaysInside}
+use Rattle.file_rescues.specs.rescue.Folders.{NewFile, StaysInside, new_file}
 use Rattle.damaged_files.specs.reached.Names.{name_of}
 use Rattle.file_rescues.specs.Found.{records_length}
+use Rattle.geos_files.specs.Entries.{geos_entry}
+use Rattle.geos_files.specs.declared.entries.GeosEntry.{GeosEntry}
 use Rattle.file_rescues.specs.rescue.Art.{is_art}
-use Rattle.file_rescues.specs.rescue.Rescues.{all_files, bytes_in, entry_file, files_from, files_of, index_of_files, line_files, own_files}
+use Rattle.file_rescues.specs.rescue.Named.{cvt_name, first_name, name_by}
+use Rattle.file_rescues.specs.rescue.Rescues.{all_files, bytes_in, files_from, files_of, index_of_files, line_files, own_files}
 use Rattle.file_rescues.specs.declared.rescue.rescuing.Rescued.{Rescued}
 
 abbrev name : NewFile → List ℕ
@@ -56,6 +59,27 @@ safe-inside xs safe = record {
 pub name-inside : (n : ℕ) (s : Slot) (e : Ending) → n < 256 → StaysInside (file_name_of n (name_of s) e)
 name-inside n s e low = safe-inside _ (is-safe n (name_of s) e low (name-short s))
 
+-- a name that has another end of the same length
+swapped : (xs es fs : List ℕ) → StaysInside (xs ++ es) → length fs ≡ length es → 2 < length fs → ¬ (Contains fs 47)
+    → ¬ (Contains fs 0) → StaysInside (xs ++ fs)
+swapped xs es fs old same long no-slash no-null =
+    let a = length-append xs es in
+    let b = length-append xs fs in
+    record {
+      some = omega (arith, b, long);
+      short = omega (arith, old.short, a, b, same);
+      no_separator = λ has. elim (Contains-append_cases xs fs 47 has) [
+        | inl left ↦ old.no_separator (Contains-append_left xs es 47 left)
+        | inr right ↦ no-slash right
+      ];
+      no_zero = λ has. elim (Contains-append_cases xs fs 0 has) [
+        | inl left ↦ old.no_zero (Contains-append_left xs es 0 left)
+        | inr right ↦ no-null right
+      ];
+      not_here = longer (xs ++ fs) (codes ".") (omega (arith, b, long));
+      not_above = longer (xs ++ fs) (codes "..") (omega (arith, b, long));
+    }
+
 -- a text none of whose bytes is this one
 abbrev AreOther : ℕ → List ℕ → Type 0
 AreOther b xs = AllByRecursion (λ x. nat_eq x b ≡ false) xs
@@ -86,6 +110,35 @@ index-inside = record {
   not_above = longer (codes "index.csv") (codes "..") (omega arith);
 }
 
+-- the name of a CVT
+abbrev front : ℕ → List ℕ → List ℕ
+front n a = number_text n ++ 45 ∷ map file_byte a
+
+ended : (n : ℕ) (a es : List ℕ) → number_text n ++ 45 ∷ (map file_byte a ++ es) ≡ front n a ++ es
+ended n a es = sym (append_assoc (number_text n) (45 ∷ map file_byte a) es)
+
+cvt-other-47 : AreOther 47 (codes ".cvt")
+cvt-other-47 = (refl, (refl, (refl, (refl, tt))))
+
+cvt-other-0 : AreOther 0 (codes ".cvt")
+cvt-other-0 = (refl, (refl, (refl, (refl, tt))))
+
+cvt-inside : (n : ℕ) (s : Slot) → n < 256 → StaysInside (cvt_name n (name_of s))
+unfolding cvt_name file_name_of
+cvt-inside n s low =
+    subst StaysInside (sym (ended n (name_of s) (codes ".cvt")))
+    (swapped (front n (name_of s)) (codes ".prg") (codes ".cvt")
+    (subst StaysInside (ended n (name_of s) (codes ".prg")) (name-inside n s Prg low)) refl (omega arith)
+    (other 47 (codes ".cvt") cvt-other-47) (other 0 (codes ".cvt") cvt-other-0))
+
+pub first-inside : (n : ℕ) (s : Slot) → n < 256 → StaysInside (first_name n s)
+unfolding first_name
+first-inside n s low = by-entry (geos_entry s)
+  where
+    by-entry : (o : Option GeosEntry) → StaysInside (name_by o n s)
+    by-entry None = name-inside n s (ending_of (type_byte s)) low
+    by-entry (Some entry) = cvt-inside n s low
+
 inside-append : (xs ys : List NewFile) → AllByRecursion IsInside xs → AllByRecursion IsInside ys
     → AllByRecursion IsInside (xs ++ ys)
 inside-append [] ys left right = right
@@ -105,7 +158,7 @@ unless-inside false fs all = all
 own-inside : (img : Image) (n : ℕ) (f : Rescued) → n < 256 → AllByRecursion IsInside (own_files img n f)
 unfolding own_files
 own-inside img n f low = (
-  name-inside n f.slot (ending_of (type_byte f.slot)) low,
+  first-inside n f.slot low,
   lines-inside n f (bytes_in img f) (records_length f.slot) low,
 )
 
@@ -122,13 +175,29 @@ pub all-inside : (img : Image) (directory : List Place) (files : List Rescued) �
 all-inside img directory files few = inside-append (files_from img 1 files) (index_of_files img directory files ∷ [])
     (from-inside img 1 files (omega (arith, few))) (index-inside, tt)
 
+-- a name that begins with this number
+abbrev IsNumbered : ℕ → List ℕ → Type 0
+IsNumbered n x = (tail : List ℕ) × (x ≡ number_text n ++ 45 ∷ tail)
+
 -- the name of a file of an entry with this number or a greater one
 abbrev IsFrom : ℕ → List ℕ → Type 0
-IsFrom n xs = (k : ℕ) × (a : List ℕ) × (e : Ending) × (n ≤ k) × (k < 256) × (xs ≡ file_name_of k a e)
+IsFrom n x = (k : ℕ) × (n ≤ k) × (k < 256) × IsNumbered k x
 
-numbers : (m n : ℕ) (a b : List ℕ) (s t : Ending) → m < 256 → n < 256 → file_name_of m a s ≡ file_name_of n b t → m ≡ n
+name-numbered : (n : ℕ) (a : List ℕ) (e : Ending) → IsNumbered n (file_name_of n a e)
 unfolding file_name_of
-numbers m n a b s t low high same = numbers-same m n _ _ low high same
+name-numbered n a e = (map file_byte a ++ ending_text e, refl)
+
+cvt-numbered : (n : ℕ) (a : List ℕ) → IsNumbered n (cvt_name n a)
+unfolding cvt_name
+cvt-numbered n a = (map file_byte a ++ codes ".cvt", refl)
+
+first-numbered : (n : ℕ) (s : Slot) → IsNumbered n (first_name n s)
+unfolding first_name
+first-numbered n s = by-entry (geos_entry s)
+  where
+    by-entry : (o : Option GeosEntry) → IsNumbered n (name_by o n s)
+    by-entry None = name-numbered n (name_of s) (ending_of (type_byte s))
+    by-entry (Some entry) = cvt-numbered n (name_of s)
 
 endings : (m n : ℕ) (a b : List ℕ) (s t : Ending) → file_name_of m a s ≡ file_name_of n b t → s ≡ t
 unfolding file_name_of
@@ -137,10 +206,9 @@ endings m n a b s t same =
     (append_assoc (number_text m) (45 ∷ map file_byte a) (ending_text s) ∙ same
     ∙ sym (append_assoc (number_text n) (45 ∷ map file_byte b) (ending_text t)))
 
-not-index : (n : ℕ) (a : List ℕ) (s : Ending) → file_name_of n a s ≢ codes "index.csv"
-unfolding file_name_of
-not-index n a s same =
-    let digit = second-digit n (45 ∷ (map file_byte a ++ ending_text s)) in
+not-index : (n : ℕ) (tail : List ℕ) → number_text n ++ 45 ∷ tail ≢ codes "index.csv"
+not-index n tail same =
+    let digit = second-digit n (45 ∷ tail) in
     let second = ap (λ (l : List ℕ). get_or l 1 0) same in
     omega (arith, digit, second)
 
@@ -157,29 +225,47 @@ by-kind false false false false false e = cc
 no-records : (t : ℕ) → ending_of t ≢ Records
 no-records t = by-kind (nat_eq (t % 16) 0) (nat_eq (t % 16) 1) (nat_eq (t % 16) 2) (nat_eq (t % 16) 3) (nat_eq (t % 16) 4)
 
+-- the third letter of the ending is another
+cvt-apart : (n : ℕ) (a : List ℕ) → cvt_name n a ≢ file_name_of n a Records
+unfolding cvt_name file_name_of
+cvt-apart n a same =
+    let left = get_or-append-add (front n a) (codes ".cvt") 2 0 in
+    let right = get_or-append-add (front n a) (codes ".csv") 2 0 in
+    let both : front n a ++ codes ".cvt" ≡ front n a ++ codes ".csv" =
+    sym (ended n a (codes ".cvt")) ∙ same ∙ ended n a (codes ".csv") in
+    let letters : 118 ≡ 115 = sym left ∙ ap (λ (l : List ℕ). get_or l (length (front n a) + 2) 0) both ∙ right in
+    omega (arith, letters)
+
+first-apart : (n : ℕ) (s : Slot) → first_name n s ≢ file_name_of n (name_of s) Records
+unfolding first_name
+first-apart n s = by-entry (geos_entry s)
+  where
+    by-entry : (o : Option GeosEntry) → name_by o n s ≢ file_name_of n (name_of s) Records
+    by-entry None = λ is. no-records (type_byte s) (endings n n (name_of s) (name_of s) _ _ is)
+    by-entry (Some entry) = cvt-apart n (name_of s)
+
 -- the names of an entry's files differ
 own-once : (n : ℕ) (f : Rescued) (bytes : List ℕ) (body : List ℕ) (o : Option ℕ)
-    → EachOnce (map name (entry_file n f (ending_of (type_byte f.slot)) body ∷ line_files n f bytes o))
+    → EachOnce (map name (new_file (first_name n f.slot) body ∷ line_files n f bytes o))
 own-once n f bytes body None = (Contains-nil _, tt)
 own-once n f bytes body (Some L) = (
   λ has. elim (Contains-cases _ _ [] has) [
-    | inl is ↦ no-records (type_byte f.slot) (sym (endings n n (name_of f.slot) (name_of f.slot) _ _ is))
+    | inl is ↦ first-apart n f.slot (sym is)
     | inr none ↦ Contains-nil _ none
   ],
   (Contains-nil _, tt),
 )
 
 own-from : (n : ℕ) (f : Rescued) (bytes body : List ℕ) (o : Option ℕ) (x : List ℕ)
-    → Contains (map name (entry_file n f (ending_of (type_byte f.slot)) body ∷ line_files n f bytes o)) x
-    → (a : List ℕ) × (e : Ending) × (x ≡ file_name_of n a e)
+    → Contains (map name (new_file (first_name n f.slot) body ∷ line_files n f bytes o)) x → IsNumbered n x
 own-from n f bytes body None x has = elim (Contains-cases x _ [] has) [
-  | inl is ↦ (name_of f.slot, ending_of (type_byte f.slot), sym is)
+  | inl is ↦ subst (IsNumbered n) is (first-numbered n f.slot)
   | inr none ↦ absurd (Contains-nil x none)
 ]
 own-from n f bytes body (Some L) x has = elim (Contains-cases x _ (map name (line_files n f bytes (Some L))) has) [
-  | inl is ↦ (name_of f.slot, ending_of (type_byte f.slot), sym is)
+  | inl is ↦ subst (IsNumbered n) is (first-numbered n f.slot)
   | inr there ↦ elim (Contains-cases x _ [] there) [
-    | inl is ↦ (name_of f.slot, Records, sym is)
+    | inl is ↦ subst (IsNumbered n) is (name-numbered n (name_of f.slot) Records)
     | inr none ↦ absurd (Contains-nil x none)
   ]
 ]
@@ -194,12 +280,12 @@ files-once img n f = unless (is_art f.slot)
     unless false = own-once n f (bytes_in img f) (bytes_in img f) (records_length f.slot)
 
 made-from : (img : Image) (n : ℕ) (f : Rescued) (x : List ℕ) → Contains (map name (files_of img n f)) x
-    → (a : List ℕ) × (e : Ending) × (x ≡ file_name_of n a e)
+    → IsNumbered n x
 unfolding files_of own_files
 made-from img n f x = unless (is_art f.slot)
   where
     unless : (none : Bool) → Contains (map name (if none then [] else own_files img n f)) x
-        → (a : List ℕ) × (e : Ending) × (x ≡ file_name_of n a e)
+        → IsNumbered n x
     unless true has = absurd (Contains-nil x has)
     unless false has = own-from n f (bytes_in img f) (bytes_in img f) (records_length f.slot) x has
 
@@ -214,13 +300,12 @@ unfolding files_from
 from-names img n [] few x has = absurd (Contains-nil x has)
 from-names img n (f ∷ fs) few x has =
     elim (either (files_of img n f) (files_from img (n + 1) fs) x has) [
-      | inl here ↦ let own = made-from img n f x here in
-          (n, own.0, own.1, omega arith, omega (arith, few), own.2)
+      | inl here ↦ (n, omega arith, omega (arith, few), made-from img n f x here)
       | inr there ↦ later n (from-names img (n + 1) fs (omega (arith, few)) x there)
     ]
   where
     later : (m : ℕ) → IsFrom (m + 1) x → IsFrom m x
-    later m (k, a, e, low, high, is) = (k, a, e, omega (arith, low), high, is)
+    later m (k, low, high, is) = (k, omega (arith, low), high, is)
 
 from-once : (img : Image) (n : ℕ) (files : List Rescued) → n + length files ≤ 256
     → EachOnce (map name (files_from img n files))
@@ -238,9 +323,9 @@ from-once img n (f ∷ fs) few =
     low : n < 256
     low = omega (arith, few)
 
-    apart : (x : List ℕ) → (a : List ℕ) × (e : Ending) × (x ≡ file_name_of n a e) → IsFrom (n + 1) x → ⊥
-    apart x (a, e, is) (k, b, t, after, high, other) =
-        let same = numbers n k a b e t low high (sym is ∙ other) in omega (arith, after, same)
+    apart : (x : List ℕ) → IsNumbered n x → IsFrom (n + 1) x → ⊥
+    apart x (tail, is) (k, after, high, (more, other)) =
+        let same = numbers-same n k tail more low high (sym is ∙ other) in omega (arith, after, same)
 
 pub all-once : (img : Image) (directory : List Place) (files : List Rescued) → length files ≤ 144
     → EachOnce (map name (all_files img directory files))
@@ -254,4 +339,4 @@ all-once img directory files few =
     ]))
   where
     index-apart : (x : List ℕ) → IsFrom 1 x → codes "index.csv" ≡ x → ⊥
-    index-apart x (k, a, e, after, high, is) index = not-index k a e (sym is ∙ sym index)
+    index-apart x (k, after, high, (tail, is)) index = not-index k tail (sym is ∙ sym index)

@@ -4,18 +4,16 @@ use Rattle.std.specs.Option.{option_or}
 use Rattle.std.proofs.lemmas.List.{length-take-le, take-append-drop, take_more}
 use Rattle.d64_image.specs.Images.{Image}
 use Rattle.d64_image.specs.declared.place.Place.{Place}
-use Rattle.disk_layout.specs.Directory.{type_byte}
 use Rattle.disk_layout.specs.declared.faults.Fault.{Fault}
-use Rattle.line_text.specs.petscii.FileNames.{ending_of}
-use Rattle.line_text.specs.declared.petscii.file_names.Ending.{Ending}
 use Rattle.file_rescues.proofs.lemmas.rescue.Parts.{adds-both, adds-none, part-before, part-then}
 use Rattle.std.specs.Prelude.{codes, false, true}
 use Rattle.file_rescues.specs.rescue.Art.{is_art}
 use Rattle.file_rescues.specs.rescue.Folders.{AddsFiles, AddsPart, NewFile, new_file}
 use Rattle.file_rescues.specs.rescue.Index.{heading, row_text}
+use Rattle.file_rescues.specs.rescue.Named.{first_name}
 use Rattle.file_rescues.specs.rescue.Sharing.{owned}
 use Rattle.file_rescues.specs.Found.{records_length}
-use Rattle.file_rescues.specs.rescue.Rescues.{all_files, bytes_in, entry_file, fault_of, files_from, files_of, first_fault, index_of_files, line_files, own_files, row_of, rows_from}
+use Rattle.file_rescues.specs.rescue.Rescues.{all_files, bytes_in, fault_of, files_from, files_of, first_fault, index_of_files, line_files, own_files, row_of, rows_from}
 use Rattle.file_rescues.specs.declared.rescue.rescuing.Rescued.{Rescued}
 use Rattle.std.specs.declared.io.ErrorKind.{ErrorKind}
 use Rattle.std.specs.declared.io.ErrorKind.TheVariants as kinds
@@ -28,42 +26,32 @@ two-words kinds.OutOfMemory = inr refl
 two-words _ = inl refl
 
 -- the file with its bytes, as it is made
-data-file : (img : Image) (n : ℕ) (f : Rescued) (e : Ending) (bytes : List ℕ) → e ≡ ending_of (type_byte f.slot)
-    → bytes ≡ bytes_in img f
-    → entry_file n f e bytes ≡ entry_file n f (ending_of (type_byte f.slot)) (bytes_in img f)
-data-file img n f e bytes kind same =
-    ap (λ (k : Ending). entry_file n f k bytes) kind
-    ∙ ap (λ (bs : List ℕ). entry_file n f (ending_of (type_byte f.slot)) bs) same
+abbrev first_file : ℕ → Rescued → List ℕ → NewFile
+first_file n f bytes = new_file (first_name n f.slot) bytes
 
-pub data-part : (a b : Option (List NewFile)) (img : Image) (n : ℕ) (f : Rescued) (e : Ending) (bytes : List ℕ)
-    → e ≡ ending_of (type_byte f.slot) → bytes ≡ bytes_in img f → AddsPart a b (entry_file n f e bytes ∷ [])
-    → AddsPart a b (own_files img n f)
+pub data-part : (a b : Option (List NewFile)) (img : Image) (n : ℕ) (f : Rescued) (bytes : List ℕ)
+    → bytes ≡ bytes_in img f → AddsPart a b (first_file n f bytes ∷ []) → AddsPart a b (own_files img n f)
 unfolding own_files
-data-part a b img n f e bytes kind same part =
-    part-before a b (entry_file n f (ending_of (type_byte f.slot)) (bytes_in img f) ∷ [])
-    (line_files n f (bytes_in img f) (records_length f.slot))
-    (subst (λ (x : NewFile). AddsPart a b (x ∷ [])) (data-file img n f e bytes kind same) part)
+data-part a b img n f bytes same part =
+    part-before a b (first_file n f (bytes_in img f) ∷ []) (line_files n f (bytes_in img f) (records_length f.slot))
+    (subst (λ (bs : List ℕ). AddsPart a b (first_file n f bs ∷ [])) same part)
 
-pub lines-part : (a b c : Option (List NewFile)) (img : Image) (n : ℕ) (f : Rescued) (e : Ending) (bytes more : List ℕ)
-    → e ≡ ending_of (type_byte f.slot) → bytes ≡ bytes_in img f → more ≡ bytes_in img f
-    → AddsFiles a b (entry_file n f e bytes ∷ []) → AddsPart b c (line_files n f more (records_length f.slot))
-    → AddsPart a c (own_files img n f)
+pub lines-part : (a b c : Option (List NewFile)) (img : Image) (n : ℕ) (f : Rescued) (bytes more : List ℕ)
+    → bytes ≡ bytes_in img f → more ≡ bytes_in img f → AddsFiles a b (first_file n f bytes ∷ [])
+    → AddsPart b c (line_files n f more (records_length f.slot)) → AddsPart a c (own_files img n f)
 unfolding own_files
-lines-part a b c img n f e bytes more kind same again made part =
-    part-then a b c (entry_file n f (ending_of (type_byte f.slot)) (bytes_in img f) ∷ [])
-    (line_files n f (bytes_in img f) (records_length f.slot))
-    (subst (λ (x : NewFile). AddsFiles a b (x ∷ [])) (data-file img n f e bytes kind same) made)
+lines-part a b c img n f bytes more same again made part =
+    part-then a b c (first_file n f (bytes_in img f) ∷ []) (line_files n f (bytes_in img f) (records_length f.slot))
+    (subst (λ (bs : List ℕ). AddsFiles a b (first_file n f bs ∷ [])) same made)
     (subst (λ (bs : List ℕ). AddsPart b c (line_files n f bs (records_length f.slot))) again part)
 
-pub both-made : (a b c : Option (List NewFile)) (img : Image) (n : ℕ) (f : Rescued) (e : Ending) (bytes more : List ℕ)
-    → e ≡ ending_of (type_byte f.slot) → bytes ≡ bytes_in img f → more ≡ bytes_in img f
-    → AddsFiles a b (entry_file n f e bytes ∷ []) → AddsFiles b c (line_files n f more (records_length f.slot))
-    → AddsFiles a c (own_files img n f)
+pub both-made : (a b c : Option (List NewFile)) (img : Image) (n : ℕ) (f : Rescued) (bytes more : List ℕ)
+    → bytes ≡ bytes_in img f → more ≡ bytes_in img f → AddsFiles a b (first_file n f bytes ∷ [])
+    → AddsFiles b c (line_files n f more (records_length f.slot)) → AddsFiles a c (own_files img n f)
 unfolding own_files
-both-made a b c img n f e bytes more kind same again made last =
-    adds-both a b c (entry_file n f (ending_of (type_byte f.slot)) (bytes_in img f) ∷ [])
-    (line_files n f (bytes_in img f) (records_length f.slot))
-    (subst (λ (x : NewFile). AddsFiles a b (x ∷ [])) (data-file img n f e bytes kind same) made)
+both-made a b c img n f bytes more same again made last =
+    adds-both a b c (first_file n f (bytes_in img f) ∷ []) (line_files n f (bytes_in img f) (records_length f.slot))
+    (subst (λ (bs : List ℕ). AddsFiles a b (first_file n f bs ∷ [])) same made)
     (subst (λ (bs : List ℕ). AddsFiles b c (line_files n f bs (records_length f.slot))) again last)
 
 -- directory art has no file

@@ -14,5 +14,5 @@ returns-then-is_art-clause-writes g c = λ plain done. rw (sym c.is_art.ensures 
 pub returns-clause-writes : goal.returns-clause-writes
 unfolding file_text
 returns-clause-writes g c = λ plain done. has_written_of_eq _ _ _ _ _
-    (rw (sym c.is_art.ensures ∙ c.if-is_art.false, c.as_slice.ensures.value, c.file_name-file.ensures, c.entry_name-name.ensures.name, c.of_type.ensures) refl)
+    (rw (sym c.is_art.ensures ∙ c.if-is_art.false, c.as_slice.ensures.value, c.first_name-file.ensures) refl)
     (c.write.ensures.writes plain done)

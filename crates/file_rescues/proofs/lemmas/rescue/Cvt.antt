@@ -1,0 +1,146 @@
+-- Files of GEOS: what was reached of them, and how long their CVT is.
+use Rattle.std.proofs.Common.{◌≡◌, ◌≤◌, ◌+◌, ◌-◌, ◌*◌, ◌∷◌, ◌++◌, ℕ, Bool, true, false, List, [], Option, None, Some, ap, append_assoc, arith, drop, inl, inr, length, length-append, map, max, refl, subst, sym, take, ◌∙◌}
+use Rattle.std.specs.Prelude.{Err, IsOk, Ok, OnOk, Result, codes, replicate, slice_range}
+use Rattle.std.proofs.Math.Seq.{take-append_seam}
+use Rattle.std.proofs.lemmas.List.{length-drop, length-replicate, length-take}
+use Rattle.d64_image.specs.Images.{Image, IsImage, sector}
+use Rattle.d64_image.specs.declared.place.Place.{Place}
+use Rattle.damaged_files.specs.reached.Reached.{IsReached}
+use Rattle.disk_layout.proofs.lemmas.lists.Count.{places-few}
+use Rattle.disk_layout.proofs.lemmas.records.Joined.{length-joined}
+use Rattle.disk_layout.specs.Records.{joined}
+use Rattle.disk_layout.specs.declared.faults.Fault.{Fault}
+use Rattle.disk_layout.specs.declared.slot.Slot.{Slot}
+use Rattle.geos_files.specs.Cvt.{signature}
+use Rattle.geos_files.specs.Entries.{geos_entry}
+use Rattle.geos_files.specs.Reached.{IsGeosReach}
+use Rattle.geos_files.specs.declared.entries.GeosEntry.{GeosEntry}
+use Rattle.line_text.specs.petscii.FileNames.{file_byte, file_name_of, number_text}
+use Rattle.line_text.specs.declared.petscii.file_names.Ending.TheVariants.{Prg}
+use Rattle.file_rescues.proofs.Pieced.{short-file}
+use Rattle.file_rescues.specs.Bytes.{file_bytes}
+use Rattle.file_rescues.specs.rescue.Geos.{cvt_bytes, leading}
+use Rattle.file_rescues.specs.rescue.Named.{cvt_name}
+use Rattle.file_rescues.specs.rescue.Rescues.{IsReachedBy, IsRescued, bytes_by, bytes_in}
+use Rattle.file_rescues.specs.declared.rescue.rescuing.Rescued.{Rescued}
+
+-- what can be reached of an entry's file isn't more than the disk
+reached-few : (img : Image) (s : Slot) (ps : List Place) (fault : Option Fault) (u : ℕ) → IsReached img s ps fault u
+    → length ps ≤ 683
+reached-few img s ps fault u (inl none) = omega (arith, ap length none.1)
+reached-few img s ps fault u (inr (inl bad)) = omega (arith, ap length bad.2)
+reached-few img s ps fault u (inr (inr walk)) = places-few ps walk.2.once
+
+-- the slot with what was reached
+pub geos-rescued : (img : Image) (s : Slot) (entry : GeosEntry) (f : Rescued) (ps : List Place) (bs : List ℕ)
+    (fault : Option Fault) (u : ℕ) → geos_entry s ≡ Some entry → f.slot ≡ s → f.blocks.items ≡ ps → f.pairs.items ≡ bs
+    → f.fault ≡ fault → f.last ≡ u → IsGeosReach img entry ps bs fault u → length ps ≤ 683 → length bs ≤ 254
+    → IsRescued img f
+geos-rescued img s entry f ps bs fault u geos slot blocks pairs faults end reach few short =
+    let here : IsGeosReach img entry f.blocks.items f.pairs.items f.fault f.last =
+    rw (blocks, pairs, faults, end) reach in
+    record {
+      reached = subst (λ (t : Slot). IsReachedBy (geos_entry t) img f) (sym slot)
+          (subst (λ (o : Option GeosEntry). IsReachedBy o img f) (sym geos) here);
+      few = omega (arith, ap length blocks, few);
+      pairs = omega (arith, ap length pairs, short);
+    }
+
+pub chain-rescued : (img : Image) (s : Slot) (f : Rescued) (ps : List Place) (fault : Option Fault) (u : ℕ)
+    → geos_entry s ≡ None → f.slot ≡ s → f.blocks.items ≡ ps → f.pairs.items ≡ [] → f.fault ≡ fault → f.last ≡ u
+    → IsReached img s ps fault u → IsRescued img f
+chain-rescued img s f ps fault u geos slot blocks pairs faults end reach =
+    let here : IsReached img f.slot f.blocks.items f.fault f.last = rw (slot, blocks, faults, end) reach in
+    record {
+      reached = subst (λ (t : Slot). IsReachedBy (geos_entry t) img f) (sym slot)
+          (subst (λ (o : Option GeosEntry). IsReachedBy o img f) (sym geos) (here, pairs));
+      few = omega (arith, ap length blocks, reached-few img s ps fault u reach);
+      pairs = omega (arith, ap length pairs);
+    }
+
+-- the bytes of blocks are at most 254 each
+file-long : (img : Image) (blocks : List Place) (u : ℕ) → IsImage img
+    → length (file_bytes img blocks u) ≤ 254 * length blocks
+unfolding file_bytes
+file-long img blocks u whole =
+    let long = length-joined img blocks whole in
+    let part = length-take (254 * (length blocks - 1) + max u 1 - 1) (joined img blocks) in
+    omega (arith, long, part)
+
+signature-long : (b : Bool) → length (signature b) ≡ 28
+signature-long true = refl
+signature-long false = refl
+
+-- a CVT is no longer than the disk and three blocks
+cvt-short : (img : Image) (entry : GeosEntry) (f : Rescued) → IsImage img → length f.blocks.items ≤ 683
+    → length f.pairs.items ≤ 254 → length (cvt_bytes img entry f) ≤ 182880
+unfolding cvt_bytes
+cvt-short img entry f whole few pairs =
+    let head = slice_range f.slot.bytes 2 32 in
+    let sign = signature entry.has_records in
+    let zeros : List ℕ = replicate 196 0 in
+    let info = slice_range (sector img entry.info) 2 256 in
+    let content = drop (leading entry.has_records) f.blocks.items in
+    let bytes = file_bytes img content f.last in
+    let a = length-append head (sign ++ (zeros ++ (info ++ (f.pairs.items ++ bytes)))) in
+    let b = length-append sign (zeros ++ (info ++ (f.pairs.items ++ bytes))) in
+    let c = length-append zeros (info ++ (f.pairs.items ++ bytes)) in
+    let d = length-append info (f.pairs.items ++ bytes) in
+    let e = length-append f.pairs.items bytes in
+    let head-long = length-take 30 (drop 2 f.slot.bytes) in
+    let info-long = length-take 254 (drop 2 (sector img entry.info)) in
+    let zeros-long = length-replicate {A = ℕ} 196 0 in
+    let sign-long = signature-long entry.has_records in
+    let content-long = length-drop (leading entry.has_records) f.blocks.items in
+    let bytes-long = file-long img content f.last whole in
+    omega (arith, a, b, c, d, e, head-long, info-long, zeros-long, sign-long, content-long, bytes-long, few, pairs)
+
+pub short-bytes : (img : Image) (f : Rescued) → IsImage img → length f.blocks.items ≤ 683 → length f.pairs.items ≤ 254
+    → length (bytes_in img f) ≤ 182880
+short-bytes img f whole few pairs = by-entry (geos_entry f.slot)
+  where
+    by-entry : (o : Option GeosEntry) → length (bytes_by o img f) ≤ 182880
+    by-entry None = short-file img f.blocks.items f.last whole (omega (arith, few))
+    by-entry (Some entry) = cvt-short img entry f whole few pairs
+
+-- a text of six parts, each of which came to those before
+pub joined-six : (none one two three four five six a b c d e f : List ℕ) → none ≡ [] → one ≡ none ++ a → two ≡ one ++ b
+    → three ≡ two ++ c → four ≡ three ++ d → five ≡ four ++ e → six ≡ five ++ f
+    → six ≡ a ++ (b ++ (c ++ (d ++ (e ++ f))))
+joined-six none one two three four five six a b c d e f empty p q r s t u =
+    u ∙ ap (λ (l : List ℕ). l ++ f)
+    (t ∙ ap (λ (l : List ℕ). l ++ e)
+    (s ∙ ap (λ (l : List ℕ). l ++ d)
+    (r ∙ ap (λ (l : List ℕ). l ++ c) (q ∙ ap (λ (l : List ℕ). l ++ b) (p ∙ ap (λ (l : List ℕ). l ++ a) empty)))))
+    ∙ append_assoc (a ++ b ++ c ++ d) e f ∙ append_assoc (a ++ b ++ c) d (e ++ f)
+    ∙ append_assoc (a ++ b) c (d ++ (e ++ f)) ∙ append_assoc a b (c ++ (d ++ (e ++ f)))
+
+-- what holds if there is a value, where there is one
+pub holds : {T E P : Type 0} (r : Result T E) → IsOk r → OnOk r P → P
+holds (Ok x) is p = p
+holds (Err e) is p = cc
+
+-- the name of a CVT, made of another
+pub prg-long : (n : ℕ) (a : List ℕ) → 4 ≤ length (file_name_of n a Prg)
+unfolding file_name_of
+prg-long n a =
+    let x = length-append (number_text n) (45 ∷ (map file_byte a ++ codes ".prg")) in
+    let y = length-append (map file_byte a) (codes ".prg") in
+    omega (arith, x, y)
+
+pub cvt-named : (n k : ℕ) (a items cut all : List ℕ) → items ≡ file_name_of n a Prg → k ≡ length items - 3
+    → cut ≡ take k items → all ≡ cut ++ codes "cvt" → all ≡ cvt_name n a
+unfolding cvt_name file_name_of
+cvt-named n k a items cut all is end short more =
+    let front : List ℕ = number_text n ++ 45 ∷ (map file_byte a ++ codes ".") in
+    let whole : items ≡ front ++ codes "prg" =
+    is ∙ ap (λ (l : List ℕ). number_text n ++ 45 ∷ l) (sym (append_assoc (map file_byte a) (codes ".") (codes "prg")))
+    ∙ sym (append_assoc (number_text n) (45 ∷ (map file_byte a ++ codes ".")) (codes "prg")) in
+    let long = ap length whole ∙ length-append front (codes "prg") in
+    let at : k ≡ length front = omega (arith, end, long) in
+    let cut-is : cut ≡ front =
+    short ∙ ap (λ (i : ℕ). take i items) at ∙ ap (λ (l : List ℕ). take (length front) l) whole
+    ∙ take-append_seam front (codes "prg") in
+    more ∙ ap (λ (l : List ℕ). l ++ codes "cvt") cut-is
+    ∙ append_assoc (number_text n) (45 ∷ (map file_byte a ++ codes ".")) (codes "cvt")
+    ∙ ap (λ (l : List ℕ). number_text n ++ 45 ∷ l) (append_assoc (map file_byte a) (codes ".") (codes "cvt"))

@@ -1,0 +1,3 @@
+-- The lemmas.
+pub mod Naming
+pub mod Parts

@@ -1,0 +1,4 @@
+pub mod Cvt
+pub mod Entries
+pub mod Marked
+pub mod Reached
