@@ -4,8 +4,9 @@
 Each command is run on images, logs and files of all kinds that are refused: of another size, damaged, cut short, of GEOS, of another
 format, with a log of another image or without its log, with two names, of a shop or none, used by another program; with arguments that
 are none; with an input that doesn't wait, an output that is full and calls that fail. Each run has to end with a word that the table
-gives to the command, at that status, and with that flag. A word of the table that no run ends with is one, too, unless the table lists
-it under `unseen`, with the reason. NO MEMORY isn't tried here: hostile/refused_memory does that."""
+gives to the command, at that status, and with that flag. Some run has to end with each word of the table, unless the table lists
+the word under `unseen`, with the reason. NO MEMORY isn't tried here: hostile/refused_memory does that. A flag that the second line names
+has to be one that its command takes."""
 
 import fcntl
 import os
@@ -79,6 +80,10 @@ REFUSED = [
         "unlock {i} \\", "delete {i} \\", "undelete {i} \\ --type seq")),
     *((words, "PATH") for words in ("extract {i} -", "copy {i} -")),
 ]
+# commands that print more than a word with --explain
+TALKING = ("list", "check", "plan", "map", "picture", "dry")
+# a second line that names a flag which its command doesn't take: it is that of a change (`subject_of` of ledger_jobs)
+KNOWN = {("extract", "--accept-loss")}
 # commands of a shop, those that refuse its files, and one that needs the lost block
 OF_SHOPS = ("show", "records", "play", "serve", "rename", "lock", "unlock", "delete", "copy-file")
 
@@ -169,7 +174,8 @@ class Case:
                     lock = image.open("rb")
                     fcntl.flock(lock, fcntl.LOCK_EX)
                 first = [program, "ledger"] if call else [program]
-                done = subprocess.run([*call, *first, *self.words], cwd=folder, timeout=60, **how)
+                explain = [] if self.words[0] in TALKING else ["--explain"]
+                done = subprocess.run([*call, *first, *self.words, *explain], cwd=folder, timeout=60, **how)
                 if self.kind == "unready":
                     os.close(ours), os.close(theirs)
                 if self.kind == "in use":
@@ -216,6 +222,7 @@ def cases(program, folder):
 
 def word_of(stems, case, status, printed, told):
     """The word with which a run ended; nothing if it ended well, or with faults that it printed."""
+    told = [line for line in told if not line.startswith("ledger: ")]
     lines = told or [re.sub(r"^.*?: ", "", line) for line in printed] if case.words[0] == "plan" else told or printed
     beside = {"FEWER"} if told else {"FEWER", "SHORT"}  # printed after what was looked for
     for line in lines:
@@ -237,10 +244,37 @@ def faults_of(command, name, flags, word, status):
             yield f"{name} with {flag} ends with {word}"
 
 
+def flags_of(program):
+    """The flags that each command takes, by what its help prints."""
+
+    def printed(*words):
+        return subprocess.run([program, *words], capture_output=True, text=True, timeout=60).stdout
+
+    commands = re.findall(r"(?m)^  ([a-z][a-z-]+)  ", printed("--help"))
+    return {it: set(re.findall(r"(?m)^  +(?:-\w, )?(--[a-z-]+)", printed(it, "--help"))) for it in commands}
+
+
+def refused_flags(name, hint, flags):
+    """The flags that a second line names for a command which doesn't take them: in code for that of the code, otherwise for the one
+    that was run, or for one that the same part of the sentence names."""
+    for part in hint.split(";"):
+        for code in re.findall(r"`([^`]*)`", part):
+            first = code.removeprefix("ledger ").partition(" ")[0]
+            command = first if first in flags else name
+            for flag in re.findall(r"(?<![\w-])--[a-z-]+", code):
+                if flag not in flags[command]:
+                    yield f"the second line of {name} names {command} {flag}, which is no flag there"
+        bare = re.sub(r"`[^`]*`", "", part)
+        named = [name, *(it for it in re.findall(r"[a-z-]+", bare) if it in flags)]
+        for flag in re.findall(r"(?<![\w-])--[a-z-]+", bare):
+            if not any(flag in flags[it] for it in named) and (name, flag) not in KNOWN:
+                yield f"the second line of {name} names {flag}, which is no flag there"
+
+
 def main(given):
     table = tomllib.loads((TOP / "docs/words.toml").read_text(encoding="utf-8"))
     stems = sorted((re.sub(r"( t/s| n)+$", "", it["word"]) for it in table["word"] if not it.get("fault")), key=len, reverse=True)
-    seen, wrong = {}, {}
+    seen, wrong, taken = {}, {}, flags_of(given.program)
     with tempfile.TemporaryDirectory() as name:
         room = Path(name)
         blank = made(given.program, room, "new", "--name", "TO", "--id", "01").read_bytes()
@@ -261,7 +295,8 @@ def main(given):
         word = word_of(stems, case, status, printed, told)
         if status and word:
             seen.setdefault(name, set()).add(word)
-            for fault in faults_of(table["commands"][name], name, flags, word, status):
+            said = [it for it in told if it.startswith("ledger: ")]
+            for fault in (*faults_of(table["commands"][name], name, flags, word, status), *refused_flags(name, " ".join(said), taken)):
                 wrong.setdefault(fault, f"{' '.join(case.words)} ({case.what})")
     for name, command in table["commands"].items():
         there = {it for status in "123" for it in command.get(status, [])} - {"NO MEMORY"}
