@@ -82,8 +82,6 @@ REFUSED = [
 ]
 # commands that print more than a word with --explain
 TALKING = ("list", "check", "plan", "map", "picture", "dry")
-# a second line that names a flag which its command doesn't take: it is that of a change (`subject_of` of ledger_jobs)
-KNOWN = {("extract", "--accept-loss")}
 # commands of a shop, those that refuse its files, and one that needs the lost block
 OF_SHOPS = ("show", "records", "play", "serve", "rename", "lock", "unlock", "delete", "copy-file")
 
@@ -267,7 +265,7 @@ def refused_flags(name, hint, flags):
         bare = re.sub(r"`[^`]*`", "", part)
         named = [name, *(it for it in re.findall(r"[a-z-]+", bare) if it in flags)]
         for flag in re.findall(r"(?<![\w-])--[a-z-]+", bare):
-            if not any(flag in flags[it] for it in named) and (name, flag) not in KNOWN:
+            if not any(flag in flags[it] for it in named):
                 yield f"the second line of {name} names {flag}, which is no flag there"
 
 

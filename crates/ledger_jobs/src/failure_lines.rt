@@ -20,8 +20,7 @@ const LIMITED: &str = "; raise it, and go on";
 
 const GONE: &str = "its name doesn't lead to the file that was opened, or that has another length";
 
-const LOGGED: &str =
-    "; all replies are in its log, which goes with it (\"man ledger-1541\", DEVICE)";
+const LOGGED: &str = "; all replies are in its log, which goes with it (`ledger help DEVICE`)";
 
 const UNWAITED: &str = "; it is set not to wait (O_NONBLOCK): hand over one that waits";
 

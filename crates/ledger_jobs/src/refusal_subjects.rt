@@ -94,6 +94,10 @@ pub(crate) const CUT_CHANGE: &str =
 pub(crate) const CUT_LOOK: &str =
     "the file ends there, too early: a sector of it was lost; `bytes` and `extract` take out what is left";
 
+/// What is said if a file that was taken out ends so.
+const CUT_OUT: &str =
+    "a file ends there, too early: a sector of it was lost; what is left of it was taken out";
+
 pub(crate) const NO_PROGRAM: &str =
     "the file isn't a program in BASIC: it has no end of one, and doesn't begin with a line of one; `bytes` prints it";
 
@@ -176,6 +180,7 @@ pub(crate) fn subject_of(job: &Job<'_>, refusal: CommandFault) -> Advice {
     match (job, refusal) {
         (Job::Salvage { .. }, CommandFault::Log) => Advice::Image(NO_BASE),
         (Job::Look { .. }, CommandFault::Short(_)) => Advice::Image(CUT_LOOK),
+        (Job::Extract { .. }, CommandFault::Short(_)) => Advice::Image(CUT_OUT),
         (
             Job::Change {
                 image,
