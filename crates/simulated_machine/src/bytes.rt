@@ -1,18 +1,32 @@
 //! Bytes of files.
-ghost use Rattle.std.specs.Prelude.{◌≡◌, ◌≤◌, length};
+ghost use Rattle.std.specs.Prelude.{◌≡◌, ◌≤◌, OnOk, length};
 
 use std::alloc::Global;
 use std::io::{self, ErrorKind};
 
+/// Many zeros.
+static ZEROS: [u8; 4096] = [0; 4096];
+
+/// Ends bytes after so many; zeros fill what was missing.
+pub(crate) fn end(held: &mut Vec<u8>, count: usize) -> io::Result<()>
+    ensures { OnOk result (length held.new.items ≡ count) }
+{
+    let lacking = count.saturating_sub(held.len());
+    for _ in 0..lacking / 4096 {
+        held.extend_from_slice(&ZEROS)?;
+    }
+    Ok(held.resize(count, 0)?)
+}
+
 /// Puts bytes over those from there on; zeros fill what was missing before them.
 pub(crate) fn put(held: &mut Vec<u8>, at: usize, bytes: &[u8]) -> io::Result<()> {
-    let Some(end) = at.checked_add(bytes.len()) else {
+    let Some(upto) = at.checked_add(bytes.len()) else {
         return Err(ErrorKind::FileTooLarge.into());
     };
-    if held.len() < end {
-        held.resize(end, 0)?;
+    if held.len() < upto {
+        end(held, upto)?;
     }
-    held[at..end].copy_from_slice(bytes);
+    held[at..upto].copy_from_slice(bytes);
     Ok(())
 }
 
@@ -29,7 +43,7 @@ pub(crate) fn take(held: &[u8], at: usize, buf: &mut [u8]) -> usize
 
 /// A copy of bytes.
 pub(crate) fn copied(alloc: Global, bytes: &[u8]) -> io::Result<Vec<u8>> {
-    Ok(bytes.to_vec(alloc)?)
+    Ok(Vec::from_slice(alloc, bytes)?)
 }
 
 /// A text of its own.

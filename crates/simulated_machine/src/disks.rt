@@ -4,7 +4,7 @@ ghost use Rattle.std.specs.Prelude.{◌≡◌, ◌≤◌, length};
 use crate::bytes::copied;
 use crate::files::Inode;
 use crate::names::{
-    Name, NameChange, added, bring, file_at, is_named, position, restart, set_now,
+    Name, NameChange, added, bring, file_at, is_named, path_of, position, restart, set_now,
 };
 use crate::plans::Lock;
 use crate::power::{leave_file, leave_names};
@@ -51,6 +51,11 @@ impl Disk {
             Some(file) => Ok(file),
             None => Err(missing()),
         }
+    }
+
+    /// The first path at which a file stands.
+    pub(crate) fn path_of(&self, number: usize) -> &str {
+        path_of(self.names.as_slice(), number)
     }
 
     /// How many bytes a file holds.

@@ -1,7 +1,7 @@
 //! A file, and what of it is on the disk.
 ghost use Rattle.std.specs.Prelude.{◌≡◌, ◌≤◌, length};
 
-use crate::bytes::{copied, put, take};
+use crate::bytes::{copied, end, put, take};
 use crate::plans::Lock;
 use std::alloc::Global;
 use std::io;
@@ -26,7 +26,7 @@ pub(crate) struct Inode {
 /// Makes a change.
 pub(crate) fn make(held: &mut Vec<u8>, change: &Change) -> io::Result<()> {
     if change.ends {
-        return Ok(held.resize(change.at, 0)?);
+        return end(held, change.at);
     }
     put(held, change.at, change.bytes.as_slice())
 }

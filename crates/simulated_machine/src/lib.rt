@@ -3,6 +3,7 @@
 //! or power goes. It promises nothing: it is for tests.
 #![tactic(auto)]
 
+mod acts;
 mod bytes;
 mod disks;
 mod files;
@@ -15,6 +16,7 @@ mod plans;
 mod power;
 mod random;
 
+pub use acts::{ACTS, Act, Acts, names_of};
 pub use hosts::Host;
 pub use inputs::GivenInput;
 pub use machines::Machine;

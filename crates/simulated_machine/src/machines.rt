@@ -1,6 +1,7 @@
 //! A machine: its files, its streams, and what happens to the calls of a run.
 ghost use Rattle.std.specs.Prelude.{◌≤◌, IfOk, length};
 
+use crate::acts::{Act, Acts};
 use crate::bytes::{copied, front, rest, take};
 use crate::disks::{Disk, FOLDER};
 use crate::plans::{Counted, Lock, Plan, Strike};
@@ -35,6 +36,7 @@ pub struct Machine {
     input: Cell<Vec<u8>>,
     output: Cell<Vec<u8>>,
     words: Cell<&'static [&'static str]>,
+    acts: Cell<Acts>,
 }
 
 /// The error of a call that fails.
@@ -112,7 +114,27 @@ impl Machine {
             input: Cell::new(Vec::new(alloc)),
             output: Cell::new(Vec::new(alloc)),
             words: Cell::new(&[]),
+            acts: Cell::new(Acts::ALL),
         }
+    }
+
+    /// From now on one call isn't made, though the program sees no error: the number of its kind, and 16 times that of the kind of
+    /// the call before it. So a simulation is tried itself: it has to find that.
+    pub fn leave_out(&self, number: usize) {
+        self.acts.set(Acts::without(number));
+    }
+
+    /// Which calls were made after which other ones.
+    pub fn acts(&self) -> Acts {
+        self.acts.get()
+    }
+
+    /// A call comes that changes something. Whether it is made.
+    fn comes(&self, act: Act) -> bool {
+        let mut acts = self.acts.get();
+        let is_made = acts.come(act);
+        self.acts.set(acts);
+        is_made
     }
 
     /// The files, which are put back.
@@ -133,6 +155,7 @@ impl Machine {
         self.words.set(words);
         self.input.set(input);
         self.output.set(Vec::new(self.alloc));
+        let _ = self.comes(Act::Begin);
         let mut run = Run::new(plan, lines, seed);
         run.naps = self.run.get().naps;
         self.run.set(run);
@@ -176,6 +199,11 @@ impl Machine {
         let left = disk.lose_power(random);
         self.disk.set(disk);
         left
+    }
+
+    /// Whether a file is at a path.
+    pub fn has_file(&self, path: &str) -> bool {
+        self.find(path).is_ok()
     }
 
     /// What the file at a path holds. An error if there is none.
@@ -270,6 +298,51 @@ impl Machine {
     }
 }
 
+/// Which kind of file stands at a path.
+#[derive(Clone, Copy)]
+enum Role {
+    Folder,
+    Image,
+    Log,
+    Making,
+    Other,
+}
+
+/// The kind of the file that stands at a path.
+fn role_of(path: &str) -> Role {
+    if path.ends_with("-log.new") {
+        return Role::Making;
+    }
+    if path.ends_with("-log") {
+        return Role::Log;
+    }
+    if path == "shop.d64" { Role::Image } else { Role::Other }
+}
+
+/// Which sync it is of a file of this kind.
+fn sync_of(role: Role) -> Act {
+    match role {
+        Role::Folder => Act::SyncFolder,
+        Role::Image => Act::SyncImage,
+        Role::Log => Act::SyncLog,
+        Role::Making => Act::SyncMaking,
+        Role::Other => Act::SyncOther,
+    }
+}
+
+/// Which write it is of so many bytes to a file of this kind.
+fn write_of(role: Role, count: usize) -> Act {
+    if count == 1 {
+        return Act::WriteByte;
+    }
+    match role {
+        Role::Image => Act::WriteImage,
+        Role::Log => Act::WriteLog,
+        Role::Making => Act::WriteMaking,
+        Role::Folder | Role::Other => Act::WriteOther,
+    }
+}
+
 /// Puts a file with these bytes at a path, in the place of one that is there, and syncs all.
 fn put_file(disk: &mut Disk, path: &str, bytes: &[u8]) -> io::Result<()> {
     if disk.find(path).is_ok() {
@@ -291,6 +364,17 @@ impl Machine {
         let found = disk.find(path);
         self.disk.set(disk);
         found
+    }
+
+    /// Which kind of file it is.
+    fn role(&self, number: usize) -> Role {
+        if number == FOLDER {
+            return Role::Folder;
+        }
+        let disk = self.disk();
+        let role = role_of(disk.path_of(number));
+        self.disk.set(disk);
+        role
     }
 
     /// How many bytes a file holds.
@@ -349,6 +433,9 @@ impl Machine {
     /// The same of a call that is counted.
     pub(crate) fn write(&self, number: usize, at: u64, bytes: &[u8]) -> io::Result<()> {
         let at = at as usize;
+        if !self.comes(write_of(self.role(number), bytes.len())) {
+            return Ok(());
+        }
         match self.next(false) {
             Strike::Passes => self.put(number, at, bytes),
             Strike::IsShort => self.put_twice(number, at, bytes),
@@ -387,6 +474,9 @@ impl Machine {
 
     /// Gives a file a length.
     pub(crate) fn end(&self, number: usize, length: u64) -> io::Result<()> {
+        if !self.comes(Act::End) {
+            return Ok(());
+        }
         let (does, passes) = self.step(false);
         let mut disk = self.disk();
         let ended = if does { disk.end(number, length as usize) } else { Ok(()) };
@@ -396,6 +486,9 @@ impl Machine {
 
     /// Syncs a file, or the folder.
     pub(crate) fn sync(&self, number: usize) -> io::Result<()> {
+        if !self.comes(sync_of(self.role(number))) {
+            return Ok(());
+        }
         let (does, passes) = self.step(true);
         let mut disk = self.disk();
         let synced = if does { disk.sync(number) } else { Ok(()) };
@@ -405,6 +498,7 @@ impl Machine {
 
     /// Makes a file without bytes at a path, at which there is none.
     pub(crate) fn make(&self, path: &str) -> io::Result<usize> {
+        let _ = self.comes(Act::Make);
         let (does, passes) = self.step(true);
         let mut disk = self.disk();
         let made = if does { disk.make(path) } else { Ok(0) };
@@ -414,6 +508,9 @@ impl Machine {
 
     /// Gives the file at a path another name besides, at which there is none.
     pub(crate) fn link(&self, from: &str, to: &str) -> io::Result<()> {
+        if !self.comes(Act::Link) {
+            return Ok(());
+        }
         let (does, passes) = self.step(true);
         let mut disk = self.disk();
         let linked = if does { disk.link(from, to) } else { Ok(()) };
@@ -423,6 +520,9 @@ impl Machine {
 
     /// Takes the name of a file away.
     pub(crate) fn remove(&self, path: &str) -> io::Result<()> {
+        if !self.comes(Act::Remove) {
+            return Ok(());
+        }
         let (does, passes) = self.step(true);
         let mut disk = self.disk();
         let removed = if does { disk.remove(path) } else { Ok(()) };
@@ -432,6 +532,9 @@ impl Machine {
 
     /// Gives the file at a path another name, in the place of the file that had it.
     pub(crate) fn rename(&self, from: &str, to: &str) -> io::Result<()> {
+        if !self.comes(Act::Rename) {
+            return Ok(());
+        }
         let (does, passes) = self.step(true);
         let mut disk = self.disk();
         let renamed = if does { disk.rename(from, to) } else { Ok(()) };

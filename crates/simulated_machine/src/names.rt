@@ -109,3 +109,13 @@ pub(crate) fn is_named(names: &[Name], waiting: &[NameChange], file: usize) -> b
     }
     false
 }
+
+/// The first path at which a file stands; empty if it has no name.
+pub(crate) fn path_of(names: &[Name], file: usize) -> &str {
+    for name in names {
+        if name.now == Some(file) {
+            return name.path.as_str();
+        }
+    }
+    ""
+}

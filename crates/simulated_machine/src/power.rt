@@ -1,5 +1,5 @@
 //! What a loss of power leaves.
-use crate::bytes::{front, put, rest};
+use crate::bytes::{end, front, put, rest};
 use crate::files::{Change, Inode, make};
 use crate::names::{Name, NameChange, bring};
 use crate::random::Random;
@@ -49,9 +49,9 @@ fn mix(held: &mut [u8], bytes: &[u8], random: &mut Random) {
 }
 
 /// Ensures that a file has bytes up to there.
-fn reach(held: &mut Vec<u8>, end: usize) -> io::Result<()> {
-    if held.len() < end {
-        held.resize(end, 0)?;
+fn reach(held: &mut Vec<u8>, upto: usize) -> io::Result<()> {
+    if held.len() < upto {
+        return end(held, upto);
     }
     Ok(())
 }

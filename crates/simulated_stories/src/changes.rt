@@ -4,7 +4,7 @@ use crate::judging::see_failure;
 use crate::runs::{Ended, Program, draw_plan, run};
 use crate::stops::{Stop, see};
 use crate::stories::Story;
-use crate::words::{CHANGES, COPY, COPYING, FORMAT, IMAGE, PATHS, SCRIPT, SHOW, Words, change_of};
+use crate::words::{CHANGES, COPY, COPYING, FORMAT, PATHS, SCRIPT, SHOW, Words, change_of};
 use simulated_machine::{Counted, Machine, Plan};
 use simulated_shop::Shop;
 
@@ -105,7 +105,7 @@ impl<P: Program> Story<'_, P> {
 
     /// Makes the shop anew, now and then.
     pub(crate) fn format(&mut self) -> Result<(), Stop> {
-        if self.machine.bytes_of(IMAGE).is_ok() && self.change_by(&FORMAT)? {
+        if self.change_by(&FORMAT)? {
             self.shop = Shop::new(4);
         }
         self.see_shop(&SHOW, "after format the shop isn't the old or an empty one")

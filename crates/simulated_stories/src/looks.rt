@@ -30,11 +30,11 @@ impl<P: Program> Story<'_, P> {
 
     /// A copy that is there is whole.
     fn see_copy(&mut self) -> Result<(), Stop> {
-        if self.machine.bytes_of(COPY).is_ok() {
+        if self.machine.has_file(COPY) {
             self.see_shop(&SHOW_COPY, "a copy has another shop")?;
             self.machine.remove_file(COPY)?;
         }
-        if self.machine.bytes_of(COPY_MAKING).is_ok() {
+        if self.machine.has_file(COPY_MAKING) {
             self.machine.remove_file(COPY_MAKING)?;
         }
         Ok(())

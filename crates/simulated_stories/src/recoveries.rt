@@ -65,7 +65,7 @@ impl<P: Program> Story<'_, P> {
 
     /// Whether a log has its name.
     pub(crate) fn has_log(&self) -> bool {
-        self.machine.bytes_of(LOG).is_ok()
+        self.machine.has_file(LOG)
     }
 
     /// Without its log the image has a shop with all that was answered, or it says that its log is away.

@@ -4,7 +4,7 @@ use crate::judging::shop_shown;
 use crate::runs::{Ended, Program, count_strike, note, run};
 use crate::stops::{Stop, see};
 use crate::words::{NEW, Words};
-use simulated_machine::{Machine, Plan, Random};
+use simulated_machine::{Acts, Machine, Plan, Random};
 use simulated_shop::{Line, Shop};
 use std::alloc::Global;
 
@@ -46,6 +46,16 @@ impl<'p, P: Program> Story<'p, P> {
     /// How many events of each kind were played.
     pub fn counts(&self) -> Counts {
         self.counts
+    }
+
+    /// One call isn't made on this machine (`Machine::leave_out`).
+    pub fn leave_out(&self, number: usize) {
+        self.machine.leave_out(number);
+    }
+
+    /// Which calls were made after which other ones.
+    pub fn acts(&self) -> Acts {
+        self.machine.acts()
     }
 
     /// What was run since this was last asked, a line each.

@@ -15,6 +15,9 @@ pub(crate) struct Asked {
     pub(crate) hours: u64,
     /// Whether each run is printed.
     pub(crate) shows: bool,
+    /// Which call isn't made, if one isn't; and whether the numbers of calls are printed.
+    pub(crate) without: Option<usize>,
+    pub(crate) lists: bool,
 }
 
 /// What is asked for if there are no words.
@@ -23,6 +26,8 @@ const USUAL: Asked = Asked {
     seeds: SEEDS,
     hours: 0,
     shows: false,
+    without: None,
+    lists: false,
 };
 
 /// Takes a word, and the number after it. None if there is no such word, or no number.
@@ -32,6 +37,11 @@ fn take_word(asked: &mut Asked, word: &str, number: Option<u64>) -> Option<bool>
             asked.shows = true;
             return Some(false);
         }
+        "--acts" => {
+            asked.lists = true;
+            return Some(false);
+        }
+        "--without" => asked.without = Some(number? as usize),
         "--seed" => {
             asked.seed = number?;
             asked.seeds = 1;

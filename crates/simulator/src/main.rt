@@ -1,10 +1,12 @@
-//! Plays the whole program over a machine in memory, by seeds: `simulator [--seed N] [--seeds N] [--hours H] [--steps]`.
+//! Plays the whole program over a machine in memory, by seeds: `simulator [--seed N] [--seeds N] [--hours H] [--steps]`. To try the
+//! simulator itself, `--acts` prints the numbers of the calls that were made, and `--without NUMBER` leaves out one of them.
 #![tactic(auto)]
 
 mod asked;
 mod tried;
 
 use asked::{Asked, read_words};
+use simulated_machine::{Acts, names_of};
 use simulated_stories::{Counts, EVENTS, Stop, Story};
 use std::io;
 use std::process::ExitCode;
@@ -51,11 +53,22 @@ fn print_end(rt: &HostRuntime, seed: u64, step: u64, stop: Stop) -> io::Result<(
     println!(rt; "again, step by step: simulator --seed {seed} --steps")
 }
 
+/// What was played.
+#[derive(Clone, Copy)]
+struct Played {
+    counts: Counts,
+    acts: Acts,
+}
+
 /// Plays the story of a seed. Whether the program did nothing wrong.
-fn play_seed(rt: &HostRuntime, seed: u64, shows: bool, counts: &mut Counts) -> io::Result<bool> {
+fn play_seed(rt: &HostRuntime, seed: u64, asked: &Asked, all: &mut Played) -> io::Result<bool> {
     let mut story = Story::new(rt.alloc(), &Ledger, seed);
-    let ended = play_steps(rt, &mut story, seed, shows)?;
-    counts.add_all(&story.counts());
+    if let Some(number) = asked.without {
+        story.leave_out(number);
+    }
+    let ended = play_steps(rt, &mut story, seed, asked.shows)?;
+    all.counts.add_all(&story.counts());
+    all.acts.add_all(&story.acts());
     match ended {
         Some((step, stop)) => {
             print_end(rt, seed, step, stop)?;
@@ -77,7 +90,7 @@ fn is_over(rt: &HostRuntime, begun: Option<Instant>, hours: u64) -> bool {
 }
 
 /// Plays the stories that are asked for. Whether the program did nothing wrong.
-fn play_all(rt: &HostRuntime, asked: &Asked, counts: &mut Counts) -> io::Result<bool> {
+fn play_all(rt: &HostRuntime, asked: &Asked, all: &mut Played) -> io::Result<bool> {
     let begun = if asked.hours > 0 { Some(Instant::now(rt)?) } else { None };
     let seeds = if asked.hours > 0 { u64::MAX } else { asked.seeds };
     for number in 0..seeds {
@@ -85,7 +98,7 @@ fn play_all(rt: &HostRuntime, asked: &Asked, counts: &mut Counts) -> io::Result<
             return Ok(true);
         }
         let seed = asked.seed.wrapping_add(number);
-        if !play_seed(rt, seed, asked.shows, counts)? {
+        if !play_seed(rt, seed, asked, all)? {
             return Ok(false);
         }
     }
@@ -100,13 +113,30 @@ fn print_counts(rt: &HostRuntime, counts: &Counts) -> io::Result<()> {
     Ok(())
 }
 
+/// Prints the numbers of the calls that were made, each with that of its kind and of the one before it.
+fn print_acts(rt: &HostRuntime, acts: &Acts) -> io::Result<()> {
+    for number in 0..256 {
+        if acts.has_seen(number) {
+            let (act, before) = names_of(number);
+            println!(rt; "{number}: {act}, after: {before}")?;
+        }
+    }
+    Ok(())
+}
+
 fn main(rt: HostRuntime) -> io::Result<ExitCode> {
     let Some(asked) = read_words(&rt) else {
-        println!(rt; "simulator [--seed N] [--seeds N] [--hours H] [--steps]")?;
+        println!(rt; "simulator [--seed N] [--seeds N] [--hours H] [--steps] [--acts] [--without NUMBER]")?;
         return Ok(ExitCode::from(2));
     };
-    let mut counts = Counts::NONE;
-    let is_right = play_all(&rt, &asked, &mut counts)?;
-    print_counts(&rt, &counts)?;
+    let mut all = Played {
+        counts: Counts::NONE,
+        acts: Acts::ALL,
+    };
+    let is_right = play_all(&rt, &asked, &mut all)?;
+    print_counts(&rt, &all.counts)?;
+    if asked.lists {
+        print_acts(&rt, &all.acts)?;
+    }
     Ok(if is_right { ExitCode::SUCCESS } else { ExitCode::FAILURE })
 }
