@@ -316,7 +316,11 @@ fn role_of(path: &str) -> Role {
     if path.ends_with("-log") {
         return Role::Log;
     }
-    if path == "shop.d64" { Role::Image } else { Role::Other }
+    if path == "shop.d64" {
+        Role::Image
+    } else {
+        Role::Other
+    }
 }
 
 /// Which sync it is of a file of this kind.
@@ -479,7 +483,11 @@ impl Machine {
         }
         let (does, passes) = self.step(false);
         let mut disk = self.disk();
-        let ended = if does { disk.end(number, length as usize) } else { Ok(()) };
+        let ended = if does {
+            disk.end(number, length as usize)
+        } else {
+            Ok(())
+        };
         self.disk.set(disk);
         if passes { ended } else { Err(failed()) }
     }
@@ -512,6 +520,8 @@ impl Machine {
             return Ok(());
         }
         let (does, passes) = self.step(true);
+        // one that fails isn't done, since the program then takes the other name for somebody's file
+        let does = does && (passes || self.is_stopped());
         let mut disk = self.disk();
         let linked = if does { disk.link(from, to) } else { Ok(()) };
         self.disk.set(disk);
@@ -558,7 +568,11 @@ impl Machine {
         let input = self.input.replace(Vec::new(self.alloc));
         let left = rest(input.as_slice(), run.taken);
         let whole = lines_of(left, lines);
-        let most = if strike == Strike::IsShort { whole.div_ceil(2) } else { whole };
+        let most = if strike == Strike::IsShort {
+            whole.div_ceil(2)
+        } else {
+            whole
+        };
         let count = take(front(left, most), 0, buf);
         self.input.set(input);
         run.taken = run.taken.saturating_add(count);

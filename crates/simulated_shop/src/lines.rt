@@ -80,7 +80,11 @@ fn draw_odd_number(random: &mut Random, last: u32) -> u32 {
 pub fn draw_line(random: &mut Random, shop: &Shop) -> Line {
     let tills = u64::from(shop.tills()).saturating_add(1);
     let till = random.below(tills).saturating_add(1) as u32;
-    let till = if random.once_in(8) { till } else { till.min(shop.tills()) };
+    let till = if random.once_in(8) {
+        till
+    } else {
+        till.min(shop.tills())
+    };
     let (last, prior) = (shop.last_of(till), shop.prior_of(till));
     match random.below(20) {
         0 => Line::IsBad(BAD.get(random.index(BAD.len())).copied().unwrap_or("")),

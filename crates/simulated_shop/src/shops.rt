@@ -104,7 +104,11 @@ impl Shop {
             self.put(item, quantity);
             return Answer::Done(quantity);
         }
-        if item <= LAST_CARD { Answer::DiskFull } else { Answer::TooLarge }
+        if item <= LAST_CARD {
+            Answer::DiskFull
+        } else {
+            Answer::TooLarge
+        }
     }
 
     /// The answer to a request to receive or to issue.
@@ -120,7 +124,11 @@ impl Shop {
         if !is_received && quantity > on {
             return Answer::Short(on);
         }
-        let now = if is_received { on.saturating_add(quantity) } else { on.saturating_sub(quantity) };
+        let now = if is_received {
+            on.saturating_add(quantity)
+        } else {
+            on.saturating_sub(quantity)
+        };
         self.put(item, now);
         Answer::Done(now)
     }
@@ -184,6 +192,10 @@ impl Shop {
             return Reply::Stale;
         }
         let kept = if is_prior { till.prior } else { till.last };
-        if kept.request == *request { Reply::Answered(kept.answer) } else { Reply::Clash }
+        if kept.request == *request {
+            Reply::Answered(kept.answer)
+        } else {
+            Reply::Clash
+        }
     }
 }

@@ -7,7 +7,11 @@ use std::io::{self, Write};
 /// Writes a request as a till sends it.
 fn write_request(out: &mut Vec<u8>, it: &Request) -> io::Result<()> {
     let kind = it.kind as char;
-    write!(out, "{},{},{kind},{},{}", it.till, it.number, it.item, it.quantity)?;
+    write!(
+        out,
+        "{},{},{kind},{},{}",
+        it.till, it.number, it.item, it.quantity
+    )?;
     if it.kind == b'M' {
         write!(out, ",{}", it.to)?;
     }

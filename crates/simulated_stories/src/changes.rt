@@ -19,7 +19,12 @@ struct Made {
 }
 
 /// The words with which a change may be refused.
-static REFUSED: [&[u8]; 4] = [b"FILE EXISTS\n", b"NO FILE\n", b"SHOP FILE\n", b"DISK FULL\n"];
+static REFUSED: [&[u8]; 4] = [
+    b"FILE EXISTS\n",
+    b"NO FILE\n",
+    b"SHOP FILE\n",
+    b"DISK FULL\n",
+];
 
 /// A change that is refused has a reason.
 fn see_refusal(ended: &Ended) -> Result<(), Stop> {

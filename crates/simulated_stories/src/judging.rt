@@ -22,7 +22,10 @@ fn is_one_of(text: &[u8], words: &[&[u8]]) -> bool {
 
 /// A command that isn't done reports why: since a call failed.
 pub(crate) fn see_failure(ended: &Ended) -> Result<(), Stop> {
-    see(ended.is_struck, "a command isn't done, though no call failed")?;
+    see(
+        ended.is_struck,
+        "a command isn't done, though no call failed",
+    )?;
     see(ended.status == 3, "a call failed, and the status isn't 3")?;
     see(
         is_one_of(ended.err.as_slice(), &FAILED),
@@ -34,7 +37,7 @@ pub(crate) fn see_failure(ended: &Ended) -> Result<(), Stop> {
 fn first_line(text: &[u8]) -> &[u8] {
     for (at, byte) in text.iter().enumerate() {
         if *byte == b'\n' {
-            return &text[..=at];
+            return &text[..at.saturating_add(1).min(text.len())];
         }
     }
     text

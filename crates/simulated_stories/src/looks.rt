@@ -4,7 +4,7 @@ use crate::judging::{OK, after_top, see_failure, shop_shown};
 use crate::runs::{Ended, Program, draw_plan};
 use crate::stops::{Stop, see};
 use crate::stories::Story;
-use crate::words::{CHECK, COPY, COPYING, COPY_MAKING, IMAGE, SERVE, SHOW, SHOW_COPY, Words};
+use crate::words::{CHECK, COPY, COPY_MAKING, COPYING, IMAGE, SERVE, SHOW, SHOW_COPY, Words};
 use simulated_machine::{Lock, Plan};
 
 /// What `copy` prints.
@@ -80,17 +80,27 @@ impl<P: Program> Story<'_, P> {
     pub(crate) fn lock(&mut self) -> Result<(), Stop> {
         self.counts.add(Event::Lock, 1);
         let naps = self.random.below(5);
-        let lock = if self.random.once_in(2) { Lock::Alone } else { Lock::Shared };
+        let lock = if self.random.once_in(2) {
+            Lock::Alone
+        } else {
+            Lock::Shared
+        };
         let is_show = self.random.once_in(2);
         let words: Words = if is_show { &SHOW } else { &SERVE };
         let ended = self.run_locked(words, lock, naps)?;
         let is_let = naps > 0 || is_show && lock == Lock::Shared;
         if is_let {
-            see(ended.status == 0, "a command doesn't wait for another program")?;
+            see(
+                ended.status == 0,
+                "a command doesn't wait for another program",
+            )?;
         } else {
             let is_told = ended.status == 3 && ended.err.as_slice() == IN_USE;
             see(is_told, "the image of another program isn't IN USE")?;
-            see(after_top(ended.out.as_slice()).is_empty(), "something was printed of an image IN USE")?;
+            see(
+                after_top(ended.out.as_slice()).is_empty(),
+                "something was printed of an image IN USE",
+            )?;
         }
         self.see_shop(&SHOW, "a lock changed the shop")
     }

@@ -76,7 +76,10 @@ impl<P: Program> Story<'_, P> {
         let is_away = ended.status == 1 && ended.err.as_slice() == LOG_AWAY;
         if !is_away {
             let found = self.shown(&SHOW, shop, lines)?;
-            see(found.is_some(), "without its log the image has an older shop, and doesn't say so")?;
+            see(
+                found.is_some(),
+                "without its log the image has an older shop, and doesn't say so",
+            )?;
         }
         self.machine.move_file(AWAY, LOG)?;
         Ok(())

@@ -95,7 +95,12 @@ pub(crate) fn draw_plan(random: &mut Random, calls: u64, steps: u64) -> Plan {
 }
 
 /// Notes a run for a person who follows a story.
-pub(crate) fn note(notes: &mut Vec<u8>, words: Words, plan: &Plan, ended: &Ended) -> io::Result<()> {
+pub(crate) fn note(
+    notes: &mut Vec<u8>,
+    words: Words,
+    plan: &Plan,
+    ended: &Ended,
+) -> io::Result<()> {
     for word in words {
         write!(notes, "{word} ")?;
     }
@@ -112,7 +117,12 @@ pub(crate) fn note(notes: &mut Vec<u8>, words: Words, plan: &Plan, ended: &Ended
         };
         write!(notes, "({counted} {} {what}) ", plan.at)?;
     }
-    write!(notes, "-> {}, {} bytes printed; ", ended.status, ended.out.len())?;
+    write!(
+        notes,
+        "-> {}, {} bytes printed; ",
+        ended.status,
+        ended.out.len()
+    )?;
     notes.extend_from_slice(ended.err.as_slice())?;
     if ended.err.is_empty() {
         writeln!(notes)?;

@@ -70,11 +70,20 @@ impl<P: Program> Story<'_, P> {
     }
 
     /// Judges a run to which so many of these lines were handed. If it wasn't done, it is stopped, recovered, and the shop is found.
-    fn judge(&mut self, lines: &[Line], handed: usize, ended: &Ended, is_logged: bool) -> Result<(), Stop> {
+    fn judge(
+        &mut self,
+        lines: &[Line],
+        handed: usize,
+        ended: &Ended,
+        is_logged: bool,
+    ) -> Result<(), Stop> {
         let mut shop = self.shop;
         let answered = see_replies(self.alloc, &mut shop, lines, ended.out.as_slice())?;
         if ended.status == 0 && !ended.is_stopped {
-            see(answered == lines.len(), "a run is done, and a line has no reply")?;
+            see(
+                answered == lines.len(),
+                "a run is done, and a line has no reply",
+            )?;
             self.shop = shop;
             return Ok(());
         }
@@ -98,7 +107,13 @@ impl<P: Program> Story<'_, P> {
     }
 
     /// Runs a command over a script of these lines.
-    fn play_lines(&mut self, words: Words, lines: &[Line], plan: Plan, is_logged: bool) -> Result<(), Stop> {
+    fn play_lines(
+        &mut self,
+        words: Words,
+        lines: &[Line],
+        plan: Plan,
+        is_logged: bool,
+    ) -> Result<(), Stop> {
         let text = self.text_of(lines)?;
         self.machine.put_file(SCRIPT, text.as_slice())?;
         let input = self.machine.copy_of(b"")?;

@@ -25,5 +25,9 @@ impl From<AllocError> for Stop {
 
 /// An end with this reason, unless it is so.
 pub(crate) fn see(is_so: bool, reason: &'static str) -> Result<(), Stop> {
-    if is_so { Ok(()) } else { Err(Stop::Wrong(reason)) }
+    if is_so {
+        Ok(())
+    } else {
+        Err(Stop::Wrong(reason))
+    }
 }

@@ -88,7 +88,12 @@ impl<'p, P: Program> Story<'p, P> {
     }
 
     /// The shop that a command shows, if it is the model's or the one after some first ones of these lines.
-    pub(crate) fn shown(&mut self, words: Words, shop: &Shop, lines: &[Line]) -> Result<Option<Shop>, Stop> {
+    pub(crate) fn shown(
+        &mut self,
+        words: Words,
+        shop: &Shop,
+        lines: &[Line],
+    ) -> Result<Option<Shop>, Stop> {
         let ended = self.look(words)?;
         if ended.status != 0 {
             return Ok(None);

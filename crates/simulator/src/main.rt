@@ -32,7 +32,11 @@ fn play_steps(
         return Ok(Some((0, stop)));
     }
     for step in 1..=STEPS {
-        let played = if step == STEPS && seed % 4 == 0 { story.fill_log() } else { story.step() };
+        let played = if step == STEPS && seed % 4 == 0 {
+            story.fill_log()
+        } else {
+            story.step()
+        };
         if shows {
             println!(rt; "step {step}:")?;
             print_notes(rt, story)?;
@@ -48,7 +52,9 @@ fn play_steps(
 fn print_end(rt: &HostRuntime, seed: u64, step: u64, stop: Stop) -> io::Result<()> {
     match stop {
         Stop::Wrong(what) => println!(rt; "seed {seed}, step {step}: {what}")?,
-        Stop::NoMemory => println!(rt; "seed {seed}, step {step}: the machine has no memory, or no such file")?,
+        Stop::NoMemory => println!(rt;
+            "seed {seed}, step {step}: the machine has no memory, or no such file"
+        )?,
     }
     println!(rt; "again, step by step: simulator --seed {seed} --steps")
 }
@@ -91,8 +97,16 @@ fn is_over(rt: &HostRuntime, begun: Option<Instant>, hours: u64) -> bool {
 
 /// Plays the stories that are asked for. Whether the program did nothing wrong.
 fn play_all(rt: &HostRuntime, asked: &Asked, all: &mut Played) -> io::Result<bool> {
-    let begun = if asked.hours > 0 { Some(Instant::now(rt)?) } else { None };
-    let seeds = if asked.hours > 0 { u64::MAX } else { asked.seeds };
+    let begun = if asked.hours > 0 {
+        Some(Instant::now(rt)?)
+    } else {
+        None
+    };
+    let seeds = if asked.hours > 0 {
+        u64::MAX
+    } else {
+        asked.seeds
+    };
     for number in 0..seeds {
         if is_over(rt, begun, asked.hours) {
             return Ok(true);
@@ -126,7 +140,9 @@ fn print_acts(rt: &HostRuntime, acts: &Acts) -> io::Result<()> {
 
 fn main(rt: HostRuntime) -> io::Result<ExitCode> {
     let Some(asked) = read_words(&rt) else {
-        println!(rt; "simulator [--seed N] [--seeds N] [--hours H] [--steps] [--acts] [--without NUMBER]")?;
+        println!(rt;
+            "simulator [--seed N] [--seeds N] [--hours H] [--steps] [--acts] [--without NUMBER]"
+        )?;
         return Ok(ExitCode::from(2));
     };
     let mut all = Played {
@@ -138,5 +154,9 @@ fn main(rt: HostRuntime) -> io::Result<ExitCode> {
     if asked.lists {
         print_acts(&rt, &all.acts)?;
     }
-    Ok(if is_right { ExitCode::SUCCESS } else { ExitCode::FAILURE })
+    Ok(if is_right {
+        ExitCode::SUCCESS
+    } else {
+        ExitCode::FAILURE
+    })
 }
