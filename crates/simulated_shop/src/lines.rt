@@ -25,6 +25,11 @@ static BAD: [&str; 8] = [
 
 static KINDS: [u8; 8] = *b"RISMSISR";
 
+/// A number below this one.
+fn draw_number(random: &mut Random, limit: u32) -> u32 {
+    random.below(u64::from(limit)) as u32
+}
+
 /// An item: most have a card or may get one.
 fn draw_item(random: &mut Random) -> u32 {
     match random.below(40) {
@@ -71,15 +76,14 @@ fn draw_odd_number(random: &mut Random, last: u32) -> u32 {
         0 => last,
         1 => last.saturating_sub(1),
         2 => last.saturating_add(2),
-        _ => random.below(u64::from(last).saturating_add(5)) as u32,
+        _ => draw_number(random, last.saturating_add(5)),
     }
     .max(1)
 }
 
 /// A line for a shop that is so: most are a till's next request; some are sent again, have another number, or are none.
 pub fn draw_line(random: &mut Random, shop: &Shop) -> Line {
-    let tills = u64::from(shop.tills()).saturating_add(1);
-    let till = random.below(tills).saturating_add(1) as u32;
+    let till = draw_number(random, shop.tills().saturating_add(1)).saturating_add(1);
     let till = if random.once_in(8) {
         till
     } else {

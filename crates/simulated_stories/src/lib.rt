@@ -2,11 +2,13 @@
 //! people move files. After each event the files are compared with the model of the shop.
 #![tactic(auto)]
 
+mod asked;
 mod changes;
 mod counts;
 mod hands;
 mod judging;
 mod looks;
+mod plays;
 mod recoveries;
 mod runs;
 mod services;
@@ -15,6 +17,7 @@ mod stories;
 mod words;
 
 pub use counts::{Counts, EVENTS, Event};
+pub use plays::play_words;
 pub use runs::Program;
 pub use stops::Stop;
 pub use stories::Story;

@@ -59,7 +59,7 @@ pub(crate) fn count_strike(counts: &mut Counts, plan: &Plan, ended: &Ended) {
 
 /// A number up to that one, of which small ones are as likely as great ones.
 fn draw_call(random: &mut Random, most: u64) -> u64 {
-    let bits = random.below(64);
+    let bits = random.below(63);
     let limit = (u64::MAX >> bits).min(most);
     random.below(limit).saturating_add(1)
 }

@@ -1,5 +1,6 @@
 //! What the words ask for.
 use std::env;
+use std::rt::Env;
 
 /// How many stories are played if no word says it.
 const SEEDS: u64 = 40;
@@ -75,7 +76,7 @@ fn read_all(words: &[String]) -> Option<Asked> {
 }
 
 /// What the words of the command line ask for. None if they are no such words.
-pub(crate) fn read_words(rt: &HostRuntime) -> Option<Asked> {
+pub(crate) fn read_words<R: Env + AllocGlobal>(rt: &R) -> Option<Asked> {
     let words: Vec<String> = env::args(rt).ok()?.collect(rt.alloc()).ok()?;
     read_all(words.as_slice())
 }
