@@ -21,9 +21,18 @@ make_plain() {
 }
 
 # prepare CRATE: makes the plain program, and `proved` becomes the program of this crate, proved and built first where a
-# source is newer
+# source is newer. PROGRAM names a program of `ledger` that is timed as it is, for example the released one.
 prepare() {
     make_plain
+    find_proved "$1"
+}
+
+# find_proved CRATE: the same without the plain program
+find_proved() {
+    if [ "$1" = ledger ] && [ -n "$PROGRAM" ]; then
+        proved="$PROGRAM"
+        return
+    fi
     proved="$("$top/tools/program" "$1")" || stop "there is no program of $1"
 }
 

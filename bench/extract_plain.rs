@@ -10,8 +10,9 @@ mod plain;
 use plain::keeping::*;
 use plain::messages::{Out, ROOM};
 use plain::places::*;
+use plain::sha256::digest;
 
-const HEADING: &str = "number,file,name,text,type,closed,locked,blocks,found,length,bytes,fault,shared\n";
+const HEADING: &str = "number,file,name,text,type,closed,locked,blocks,found,length,bytes,fault,shared,sha256\n";
 const KINDS: [(&str, &str); 5] = [("DEL", "del"), ("SEQ", "seq"), ("PRG", "prg"), ("USR", "usr"), ("REL", "rel")];
 
 /// An entry of the directory, and the sectors that its links come to.
@@ -102,7 +103,8 @@ fn main() {
         let locked = if slot[2] & 64 == 0 { "no" } else { "yes" };
         let told = slot[30] as usize + 256 * slot[31] as usize;
         let (found, size) = (entry.blocks.len(), bytes.len());
-        index += &format!("{number},\"{file}\",\"{name}\",\"{name}\",{kind},{closed},{locked},{told},{found},{length},{size},,\n");
+        let sum: String = digest(&bytes).iter().map(|byte| format!("{byte:02x}")).collect();
+        index += &format!("{number},\"{file}\",\"{name}\",\"{name}\",{kind},{closed},{locked},{told},{found},{length},{size},,,{sum}\n");
     }
     made(folder, "index.csv").write_all(index.as_bytes()).expect("written");
     println!("EXTRACTED");

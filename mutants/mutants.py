@@ -12,6 +12,7 @@ A record with `row:` is tried on rows (seeing.py), each other one on clauses (tr
 `--missing` those are left out that are settled and not edited since, so that a run that was cut off goes on. The status is 1 where one
 isn't refused or seen, or something isn't as it should be."""
 
+import signal
 import sys
 from collections import Counter
 from dataclasses import replace
@@ -108,10 +109,9 @@ def check() -> int:
 def main(words: list[str]) -> int:
     try:
         match words:
-            case ["list", *rest]:
-                return list_them(rest)
-            case ["left", *rest]:
-                return list_them(rest, only_left=True)
+            case ["list" | "left" as word, *rest]:
+                signal.signal(signal.SIGPIPE, signal.SIG_DFL)  # `mutants.py list | head` ends without a word
+                return list_them(rest, only_left=word == "left")
             case ["try", *rest]:
                 return try_them(rest)
             case ["add", _, *_] as all_words:

@@ -113,11 +113,12 @@ def renamed(text, name):
 def for_users(file, text, name):
     """What the package has of a file."""
     if file.name == "QUICK_START.md":
-        text = replaced(r"(?m)^install .* /usr/bin/ledger\n", "", text)
-        place = f"Install the package first, and do this in its folder `/usr/share/doc/{name}`."
-        text = replaced(r"Do it at the top of the repository; .*", place, text)
+        text = replaced(r"(?m)^\./ledger --version\ninstall .* /usr/bin/ledger\n", "", text)
+        text = replaced(re.escape(" (`./ledger --version` puts the released program into `releases/out`.)"), "", text)
+        place = f"Install the package first. Then type all commands as root in its folder `/usr/share/doc/{name}`, and write `{name}` for `ledger`."
+        text = replaced(r"Type all commands as root, at the top of a clone .*", place, text)
     if str(file) == "shop/README.md":
-        text = replaced("with `ledger` in `/usr/bin`", f"with `{name}` in `/usr/bin`", text)
+        text = replaced("The program `ledger` has to be in `/usr/bin`", f"The program `{name}` has to be in `/usr/bin`", text)
     if str(file) == "README.md":
         text = readme(text)
     return renamed(text, name) if file.suffix in (".py", ".service", ".sh") else text

@@ -30,8 +30,8 @@ HERE = {"faults": "FAULTS", "when-something-is-refused": "DIAGNOSTICS"}
 HERE |= {it.lower().replace(" ", "-").strip("`"): it.strip("`") for it in ADVICE}
 # how long a line may be in the text of a command, so that it has 80 columns at most on the page
 ROOM = 71
-# what a help text says of this page, and what the page says there
-OF_THIS_PAGE = ('"man ledger-1541" says what to do about each.', "The section FAULTS says what to do about each.")
+# where a help text says that more is, and what the page says there
+OF_THIS_PAGE = ('"ledger help LOOP" says what to do about it.', "The section FAULTS says what to do about each.")
 
 STATUSES = (
     ("0", "Success; also when help was asked for."),

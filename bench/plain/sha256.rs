@@ -1,4 +1,6 @@
 //! SHA-256 by FIPS 180-4, in plain Rust.
+use std::convert::TryInto;
+
 const FIRST: [u32; 8] =
     [0x6a09e667, 0xbb67ae85, 0x3c6ef372, 0xa54ff53a, 0x510e527f, 0x9b05688c, 0x1f83d9ab, 0x5be0cd19];
 const K: [u32; 64] = [
@@ -37,6 +39,11 @@ fn block(state: &mut [u32; 8], bytes: &[u8; 64]) {
 
 /// The first eight bytes of the digest.
 pub fn digest_begins(bytes: &[u8]) -> [u8; 8] {
+    digest(bytes)[..8].try_into().unwrap()
+}
+
+/// The digest.
+pub fn digest(bytes: &[u8]) -> [u8; 32] {
     let mut state = FIRST;
     let (whole, rest) = bytes.as_chunks::<64>();
     for bytes in whole {
@@ -50,8 +57,9 @@ pub fn digest_begins(bytes: &[u8]) -> [u8; 8] {
     for bytes in last[..end].as_chunks::<64>().0 {
         block(&mut state, bytes);
     }
-    let mut begins = [0; 8];
-    begins[..4].copy_from_slice(&state[0].to_be_bytes());
-    begins[4..].copy_from_slice(&state[1].to_be_bytes());
-    begins
+    let mut digest = [0; 32];
+    for (four, word) in digest.chunks_exact_mut(4).zip(state) {
+        four.copy_from_slice(&word.to_be_bytes());
+    }
+    digest
 }

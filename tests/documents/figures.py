@@ -1,9 +1,11 @@
 #!/usr/bin/env python3
-"""Compares the figures of README's table with where they come from:
+"""Compares the figures of README with where they come from:
 
     tests/documents/figures.py
 
-Lines of the product are counted as for the table of docs/PROOF.md, and rounded to thousands. The times stand in docs/SPEED.md."""
+Lines of the product are counted as for the table of docs/PROOF.md, and rounded to thousands. The times stand in docs/SPEED.md. How many
+rows of tests there are says their last run in tests/RECORD: README names a hundred that isn't above it, and not far below it. The minutes of the
+gate stand in docs/GATE.md, and the memory of a proof in tools/program."""
 
 import re
 import sys
@@ -30,10 +32,19 @@ def main():
         f"| {row[1]} ms, and {row[2]} ms if 64 are waiting",
         f"| {code:,} of code, {contracts:,} of contracts, {definitions:,} of definitions, and {proofs:,} of proofs |",
     )
+    first = re.search(r"\| the first answer after it[^|]*\| ([\d.]+) s \|", speed)
+    wanted += (f"| first answer after a clone | {first[1]} s ",) if first else ()
+    minutes = re.search(r"(\d+) minutes by the clock", (TOP / "docs/GATE.md").read_text())[1]
+    memory = int(re.search(r"(?m)^MOST_MEMORY = ([\d_]+)$", (TOP / "tools/program").read_text())[1])
+    wanted += (f"took {minutes} minutes on four processors", f"{memory / 1e9:.1f} GB of memory for each processor")
     missing = [it for it in wanted if it not in readme]
+    rows = int(re.search(r"(?m)^rows/tables .*: (\d+) passed", (TOP / "tests/RECORD").read_text())[1])
+    said = int(re.search(r"\| rows of tests on the built program \| ([\d,]+) and more \|", readme)[1].replace(",", ""))
+    if not said <= rows < 1.1 * said:
+        missing.append(f"how many rows there are: {rows:,} passed last time")
     for it in missing:
         print(f"README.md doesn't say {it}")
-    print(f"figures: {len(wanted)} rows of README, {len(missing)} stale")
+    print(f"figures: {len(wanted) + 1} figures of README, {len(missing)} stale")
     return 1 if missing else 0
 
 

@@ -118,14 +118,15 @@ def table(version: str) -> str:
         if entry["group"] == "documents":
             continue
         if not run:
-            without.setdefault(entry["group"], []).append(f"`{name}`")
+            without[whole] = entry
             continue
         other = "" if minor(run.release) == minor(version) else f", not of {minor(version)}"
         passed = f"{run.passed:,}" + (f", **{run.failed} failed**" if run.failed else "")
-        rows.append(f"| [{whole}](../tests/{entry['file']}) | {entry['tries']} | {passed} | {run.release}{other}, {run.day} |")
-    head = ["| Trial | What happens | Passed | Release, day |", "|---|---|---|---|"]
-    more = [f"| {group} | {', '.join(names)} |" for group, names in without.items()]
-    more = ["| Folder | Trials of which no run is kept |", "|---|---|", *more, ""] if more else []
+        amount = f"{int(run.amount):,} {entry['unit']}" if run.amount.isdecimal() and "unit" in entry else ""
+        rows.append(f"| [{whole}](../tests/{entry['file']}) | {entry['tries']} | {amount} | {passed} | {run.release}{other}, {run.day} |")
+    head = ["| Trial | What happens | Amount | Passed | Release, day |", "|---|---|---|---|---|"]
+    more = [f"| [{whole}](../tests/{entry['file']}) | {entry.get('without', 'not run yet')} |" for whole, entry in without.items()]
+    more = ["| No run is kept of | Why |", "|---|---|", *more, ""] if more else []
     return "\n".join([BEGIN, "", *head, *rows, "", *more, END])
 
 

@@ -90,6 +90,8 @@ END
     exit 1
 }
 
+[ -e "$debian/usr/bin/man" ] || fail "there is no man in $debian: make it with debootstrap --include=man-db"
+
 # inside COMMAND: as nobody, in a folder of its own
 inside() {
     chroot --userspec=nobody:nogroup "$debian" /usr/bin/env -i PATH=/usr/bin:/bin HOME=/home/keeper LC_ALL=C sh -c "cd /home/keeper && $1"
@@ -121,7 +123,7 @@ chroot "$debian" dpkg --verify ledger-1541 >"$work/changed"
 [ -z "$(chroot "$debian" dpkg-query -W -f '${Conflicts}${Replaces}' ledger-1541)" ] || fail "it puts another package out"
 [ ! -e "$debian/usr/bin/ledger" ] || fail "it takes a name of Debian's package ledger"
 first_minute ledger-1541
-inside "man --warnings ledger-1541" >"$work/page" 2>"$work/warned"
+inside "man --warnings ledger-1541" >"$work/page" 2>"$work/warned" || { cat "$work/warned"; fail "man can't show the page"; }
 grep -q '^NAME' "$work/page" && [ ! -s "$work/warned" ] || { cat "$work/warned"; exit 1; }
 chroot "$debian" dpkg --purge ledger-1541 >"$work/log"
 files >"$work/after"

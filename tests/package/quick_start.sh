@@ -32,8 +32,10 @@ else
         >"$work/log" 2>&1 || { tail "$work/log" >&2; exit 1; }
 fi
 
-# the repository's top, with the program where `./ledger` puts it
+# the repository's top, with the program where `./ledger` puts it; it is there already, so that one only runs it
 install -D -m 755 "$program" "$root/shop/releases/out/ledger"
+printf '#!/bin/sh\nexec "${0%%/*}/releases/out/ledger" "$@"\n' >"$root/shop/ledger"
+chmod 755 "$root/shop/ledger"
 cp -a "$top/examples" "$top/shop" "$root/shop/"
 cp "$top/tests/package/quick_start_after.sh" "$root/shop/after"
 sed -n '/^```sh$/,/^```$/{/^```/!p}' "$top/shop/QUICK_START.md" >"$root/shop/commands"

@@ -15,7 +15,7 @@ from palette import DARK, DARKER, rgb
 from served import want
 
 PHONE = {"width": 390, "height": 844, "deviceScaleFactor": 2, "mobile": True}
-DARK_SYSTEM = {"map": (255, 255, 255), "dir": (0x9A, 0xA0, 0xAA), "free": (0x2A, 0x2D, 0x34), "lost": (0x8B, 0x8D, 0x92)}
+DARK_SYSTEM = {"map": (255, 255, 255), "dir": (0x9A, 0xA0, 0xAA), "free": (0x2A, 0x2D, 0x34), "lost": (0xA2, 0x9C, 0x93)}
 DARK_RED = (0xFF, 0x4A, 0x3D)
 # pixels for a unit of the poster, so that the drawing stands on whole pixels
 UNIT = 12

@@ -1,7 +1,7 @@
 //! The subcommands that change the files of a disk: the words of each, and what help says of it, at most 80 columns wide.
 use crate::subcommands::Subcommand;
 use crate::values::{
-    ACCEPT_AWAY, ACCEPT_LOSS, Count, DRY_RUN, FIELDS, IMAGE, NAME, POSITIONS, Value,
+    ACCEPT_AWAY, ACCEPT_LOSS, Count, DRY_RUN, FIELDS, IMAGE, NAME, NEW_IMAGE, POSITIONS, Value,
 };
 
 /// The subcommands that make disks and files, in the order in which help lists them.
@@ -34,11 +34,11 @@ a shop, use format.
 Exit status:
   0  the image was made
   1  FILE EXISTS: IMAGE or its log exists, and nothing was done
-  2  NAME: more than 16 bytes; ID: not two bytes
+  2  NAME: more than 16 bytes; ID: not two bytes; PATH
   3  FILE (the file, its folder or the output failed), NO MEMORY
 
 Example: ledger new work.d64 --name WORK --id 01",
-    values: &[IMAGE, DISK_NAME, DISK_ID],
+    values: &[NEW_IMAGE, DISK_NAME, DISK_ID],
 };
 
 /// The length of the records of a new file.
@@ -61,8 +61,8 @@ Exit status:
   1  nothing was done. The disk isn't clean (LAYOUT and a fault: repair mends
      MAPWRONG and COUNTWRONG, repair --sides also BADSIDE, nothing else); or
      SHORT, GEOS, IMAGE SIZE, LOG, LOG AWAY, TWO NAMES, FILE EXISTS, DISK FULL
-  2  NAME, LENGTH
-  3  FILE, NO MEMORY, IN USE, DEVICE
+  2  NAME, LENGTH, PATH
+  3  FILE, NOT READY, NO MEMORY, IN USE, DEVICE
 
 Example: ledger make new.d64 ADDRESS --length 40",
     values: &[IMAGE, NAME, LENGTH, ACCEPT_LOSS, DRY_RUN],
@@ -92,8 +92,8 @@ Exit status:
   1  nothing was done. The disk isn't clean (LAYOUT: repair mends MAPWRONG and
      COUNTWRONG, repair --sides also BADSIDE, nothing else); or SHORT, GEOS,
      IMAGE SIZE, LOG, LOG AWAY, TWO NAMES, NO FILE, RECORDS LINE n, DISK FULL
-  2  NAME, POSITIONS, FLAGS
-  3  FILE, NO MEMORY, IN USE, DEVICE
+  2  NAME, POSITIONS, FLAGS, PATH
+  3  FILE, NOT READY, NO MEMORY, IN USE, DEVICE
 
 Example: ledger store new.d64 ADDRESS address.csv",
     values: &[
@@ -137,8 +137,8 @@ Exit status:
   1  nothing was done. The disk isn't clean (LAYOUT and a fault: repair mends
      MAPWRONG and COUNTWRONG, repair --sides also BADSIDE, nothing else); or
      SHORT, GEOS, IMAGE SIZE, LOG, LOG AWAY, TWO NAMES, FILE EXISTS, DISK FULL
-  2  NAME, TYPE
-  3  FILE, NO MEMORY, IN USE, DEVICE
+  2  NAME, TYPE, PATH
+  3  FILE, NOT READY, NO MEMORY, IN USE, DEVICE
 
 Example: ledger put new.d64 GAME game.prg --type prg",
     values: &[IMAGE, NAME, FILE, FILE_TYPE, ACCEPT_LOSS, DRY_RUN],
@@ -174,9 +174,9 @@ Exit status:
   1  FROM has no such file (NO FILE), or not whole (LAYOUT and a fault, SHORT).
      The disk isn't clean (LAYOUT: repair mends MAPWRONG and COUNTWRONG,
      repair --sides also BADSIDE, nothing else), SHORT, GEOS, IMAGE SIZE, LOG,
-     LOG AWAY, TWO NAMES, FILE EXISTS, DISK FULL: nothing was done
-  2  NAME
-  3  FILE, NO MEMORY, IN USE, DEVICE
+     LOG AWAY, TWO NAMES, FILE EXISTS, DISK FULL, SHOP FILE: nothing was done
+  2  NAME, PATH
+  3  FILE, NOT READY, NO MEMORY, IN USE, DEVICE
 
 Example: ledger copy-file old.d64 GAME new.d64",
     values: &[FROM, NAME, IMAGE, ACCEPT_LOSS, DRY_RUN, COPY_NAME],
@@ -210,8 +210,8 @@ Exit status:
   1  nothing was done. A file or the directory is damaged (LAYOUT and a fault:
      repair --sides mends BADSIDE, nothing else); or IMAGE SIZE, LOG, LOG AWAY,
      TWO NAMES, NO FILE, FILE EXISTS (NEW), SHOP FILE
-  2  NAME
-  3  FILE, NO MEMORY, IN USE, DEVICE
+  2  NAME, PATH
+  3  FILE, NOT READY, NO MEMORY, IN USE, DEVICE
 
 Example: ledger rename old.d64 LETTER 'LETTER 1'",
     values: &[IMAGE, OLD_NAME, NEW_NAME, ACCEPT_AWAY, DRY_RUN],
@@ -229,8 +229,8 @@ Exit status:
   1  nothing was done. A file or the directory is damaged (LAYOUT and a fault:
      repair --sides mends BADSIDE, nothing else); or IMAGE SIZE, LOG, LOG AWAY,
      TWO NAMES
-  2  NAME: more than 16 bytes; ID: not two bytes
-  3  FILE, NO MEMORY, IN USE, DEVICE
+  2  NAME: more than 16 bytes; ID: not two bytes; PATH
+  3  FILE, NOT READY, NO MEMORY, IN USE, DEVICE
 
 Example: ledger title old.d64 --name LETTERS --id 84",
     values: &[IMAGE, DISK_NAME, DISK_ID, ACCEPT_AWAY, DRY_RUN],

@@ -21,8 +21,8 @@ Exit status:
   1  nothing was done. A file or the directory is damaged (LAYOUT and a fault:
      repair --sides mends BADSIDE, nothing else); or IMAGE SIZE, LOG, LOG AWAY,
      TWO NAMES, NO FILE, SHOP FILE
-  2  NAME
-  3  FILE, NO MEMORY, IN USE, DEVICE
+  2  NAME, PATH
+  3  FILE, NOT READY, NO MEMORY, IN USE, DEVICE
 
 Example: ledger lock old.d64 LETTER",
     values: ENTRY,
@@ -40,8 +40,8 @@ Exit status:
   1  nothing was done. A file or the directory is damaged (LAYOUT and a fault:
      repair --sides mends BADSIDE, nothing else); or IMAGE SIZE, LOG, LOG AWAY,
      TWO NAMES, NO FILE, SHOP FILE
-  2  NAME
-  3  FILE, NO MEMORY, IN USE, DEVICE
+  2  NAME, PATH
+  3  FILE, NOT READY, NO MEMORY, IN USE, DEVICE
 
 Example: ledger unlock old.d64 LETTER",
     values: ENTRY,
@@ -62,8 +62,8 @@ Exit status:
      MAPWRONG and COUNTWRONG, repair --sides also BADSIDE, nothing else); or
      SHORT, GEOS, IMAGE SIZE, LOG, LOG AWAY, TWO NAMES, NO FILE, LOCKED,
      SHOP FILE
-  2  NAME
-  3  FILE, NO MEMORY, IN USE, DEVICE
+  2  NAME, PATH
+  3  FILE, NOT READY, NO MEMORY, IN USE, DEVICE
 
 Example: ledger delete old.d64 LETTER",
     values: &[IMAGE, NAME, ACCEPT_LOSS, DRY_RUN],
@@ -92,8 +92,8 @@ Exit status:
   1  nothing was done. A file or the directory is damaged or would be (LAYOUT:
      OWNEDTWICE if another file has a block); or SHORT, IMAGE SIZE, GEOS,
      FORMAT, LOG, LOG AWAY, TWO NAMES, NO FILE, FILE EXISTS
-  2  NAME, TYPE
-  3  FILE, NO MEMORY, IN USE, DEVICE
+  2  NAME, TYPE, PATH
+  3  FILE, NOT READY, NO MEMORY, IN USE, DEVICE
 
 Example: ledger undelete old.d64 LETTER --type seq",
     values: &[IMAGE, NAME, ENTRY_TYPE, ACCEPT_LOSS, DRY_RUN],
@@ -113,7 +113,8 @@ Exit status:
   1  nothing was done. A file or the directory is damaged (LAYOUT and a fault:
      repair --sides mends BADSIDE, nothing else); or IMAGE SIZE, LOG, LOG AWAY,
      TWO NAMES
-  3  FILE, NO MEMORY, IN USE, DEVICE
+  2  PATH
+  3  FILE, NOT READY, NO MEMORY, IN USE, DEVICE
 
 Example: ledger sort old.d64",
     values: &[IMAGE, ACCEPT_AWAY, DRY_RUN],

@@ -1,6 +1,6 @@
 //! The subcommands that look at disks: the words of each, and what help says of it, at most 80 columns wide.
 use crate::subcommands::Subcommand;
-use crate::values::{AS_IS, Count, IMAGE, IMAGES, MIXED, TEXT, Value};
+use crate::values::{ANY_IMAGE, ANY_IMAGES, AS_IS, Count, IMAGES, MIXED, TEXT, Value};
 
 /// The subcommands that look at disks, in the order in which help lists them.
 pub(crate) const LOOKS: &[Subcommand] = &[LIST, CHECK, PLAN, MAP, PICTURE, FREE, SECTOR];
@@ -21,7 +21,7 @@ prints the directory of its first 35 tracks.
 Exit status:
   0  the directory was printed
   1  the image is refused (IMAGE SIZE, LAYOUT, LOG)
-  3  FILE, NO MEMORY, IN USE
+  3  FILE, NOT READY, NO MEMORY, IN USE
 
 Example: ledger list old.d64",
     values: &[IMAGES, TEXT, MIXED, AS_IS],
@@ -67,7 +67,7 @@ It prints OK, or a fault and its sector, for example LOOP 17/0:
   UNCLOSED    no drive closed a file whose entry is in this sector
   BADTYPE     a closed entry in this sector has a type that doesn't exist
   BADLENGTH   a relative file's entry in this sector has record length 0 or 255
-\"man ledger-1541\" says what to do about each.
+\"ledger help LOOP\" says what to do about it.
 If a file is cut short, SHORT and its last sector follow with --all, in `short`
 with --json or --csv, with several images, on a terminal and with --explain.
 Otherwise, but not with several images alone, FEWER is reported in the same way
@@ -88,7 +88,7 @@ track 35, BEYOND 17/4 \"MENU\". Then the status isn't 0.
 Exit status:
   0  OK
   1  a fault, ERROR, BEYOND, IMAGE SIZE, LOG
-  3  FILE, NO MEMORY, IN USE
+  3  FILE, NOT READY, NO MEMORY, IN USE
 
 Example: ledger check ./*.[dD]64",
     values: &[IMAGES, JSON, CSV, ALL, AS_IS],
@@ -113,7 +113,7 @@ each has a row of a table. --json goes before --csv.
 Exit status:
   0  OK
   1  a fault, IMAGE SIZE, LOG
-  3  FILE, NO MEMORY, IN USE
+  3  FILE, NOT READY, NO MEMORY, IN USE
 
 Example: ledger plan ./*.[dD]64",
     values: &[IMAGES, JSON, CSV],
@@ -136,11 +136,11 @@ that is refused. The exit status is then the highest of all.
 
 Exit status:
   0  the disk is clean
-  1  a fault, ERROR, BEYOND, or the image is refused
-  3  FILE, NO MEMORY, IN USE
+  1  a fault, ERROR, BEYOND; or the image is refused (IMAGE SIZE, LAYOUT, LOG)
+  3  FILE, NOT READY, NO MEMORY, IN USE
 
 Example: ledger map old.d64",
-    values: &[IMAGES],
+    values: &[ANY_IMAGES],
 };
 
 /// The flag for a poster.
@@ -183,13 +183,14 @@ The page of one image has the lines ERROR and BEYOND of map below the drawing.
 
 Exit status:
   0  the disk is clean
-  1  a fault, ERROR or BEYOND on the page, or the image is refused
+  1  a fault, ERROR or BEYOND on the page; or the image is refused (IMAGE SIZE,
+     LAYOUT, LOG)
   2  IMAGES: several without --sheet, more than 400, not two with --compare, or
      two of --svg, --sheet and --compare
-  3  FILE, NO MEMORY, IN USE
+  3  FILE, NOT READY, NO MEMORY, IN USE
 
 Example: ledger picture --sheet ./*.d64 > all.html",
-    values: &[IMAGES, SVG, SHEET, COMPARE],
+    values: &[ANY_IMAGES, SVG, SHEET, COMPARE],
 };
 
 /// `free IMAGE`
@@ -204,10 +205,10 @@ wrong. To free sectors that no file owns, use repair --free.
 Exit status:
   0  the numbers of free sectors were printed
   1  the image is refused (IMAGE SIZE, LOG)
-  3  FILE, NO MEMORY, IN USE
+  3  FILE, NOT READY, NO MEMORY, IN USE
 
 Example: ledger free old.d64",
-    values: &[IMAGE],
+    values: &[ANY_IMAGE],
 };
 
 /// A sector of the disk.
@@ -232,8 +233,8 @@ Exit status:
   0  the sector was printed
   1  the image is refused (IMAGE SIZE, LOG)
   2  SECTOR: the disk has no such sector
-  3  FILE, NO MEMORY, IN USE
+  3  FILE, NOT READY, NO MEMORY, IN USE
 
 Example: ledger sector old.d64 18/0",
-    values: &[IMAGE, PLACE],
+    values: &[ANY_IMAGE, PLACE],
 };

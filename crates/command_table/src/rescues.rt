@@ -1,7 +1,7 @@
 //! The subcommands that rescue files and disks: the words of each, and what help says of it, at most 80 columns wide.
 use crate::subcommands::Subcommand;
 use crate::values::{
-    ACCEPT_LOSS, Count, DRY_RUN, FIELDS, IMAGE, MIXED, NAME, POSITIONS, TEXT, Value,
+    ACCEPT_LOSS, ANY_IMAGE, Count, DRY_RUN, FIELDS, IMAGE, MIXED, NAME, POSITIONS, TEXT, Value,
 };
 
 /// The subcommands that rescue files and disks, in the order in which help lists them.
@@ -34,10 +34,10 @@ Exit status:
   1  LAYOUT and a fault, or SHORT (the file has lost its end): what can be read
      was printed; or NO FILE, IMAGE SIZE, LOG: nothing was
   2  NAME, POSITIONS, FLAGS
-  3  FILE, NO MEMORY, IN USE
+  3  FILE, NOT READY, NO MEMORY, IN USE
 
 Example: ledger records old.d64 ADDRESS > address.csv",
-    values: &[IMAGE, NAME, TEXT, MIXED, FIELDS, POSITIONS, UNCLOSED],
+    values: &[ANY_IMAGE, NAME, TEXT, MIXED, FIELDS, POSITIONS, UNCLOSED],
 };
 
 /// `bytes IMAGE NAME [--text] [--mixed] [--unclosed]`
@@ -55,10 +55,10 @@ Exit status:
   1  LAYOUT and a fault, or SHORT (the file has lost its end): what can be read
      was printed; or NO FILE, IMAGE SIZE, LOG: nothing was
   2  NAME
-  3  FILE, NO MEMORY, IN USE
+  3  FILE, NOT READY, NO MEMORY, IN USE
 
 Example: ledger bytes old.d64 'ADD\\c1' > add.prg",
-    values: &[IMAGE, NAME, TEXT, MIXED, UNCLOSED],
+    values: &[ANY_IMAGE, NAME, TEXT, MIXED, UNCLOSED],
 };
 
 /// `basic IMAGE NAME [--unclosed]`
@@ -79,10 +79,10 @@ Exit status:
      file is none): what can be read was printed; or NO FILE, IMAGE SIZE, LOG:
      nothing was
   2  NAME
-  3  FILE, NO MEMORY, IN USE
+  3  FILE, NOT READY, NO MEMORY, IN USE
 
 Example: ledger basic old.d64 MENU > menu.bas",
-    values: &[IMAGE, NAME, UNCLOSED],
+    values: &[ANY_IMAGE, NAME, UNCLOSED],
 };
 
 /// The folder that files are taken out to.
@@ -128,10 +128,11 @@ Exit status:
   0  all files are whole
   1  a file or the directory isn't (LAYOUT and the first fault, SHORT); or
      IMAGE SIZE, LOG, FILE EXISTS: nothing was done
-  3  FILE, NO MEMORY, IN USE
+  2  PATH
+  3  FILE, NOT READY, NO MEMORY, IN USE
 
 Example: ledger extract old.d64 old",
-    values: &[IMAGE, FOLDER, DELETED, SCAN],
+    values: &[ANY_IMAGE, FOLDER, DELETED, SCAN],
 };
 
 /// The flag that frees sectors that no file owns.
@@ -169,7 +170,8 @@ Exit status:
   0  the disk is clean
   1  KEPT; or the disk is refused (LAYOUT, SHORT, GEOS, FORMAT, IMAGE SIZE, LOG,
      LOG AWAY, TWO NAMES) and untouched
-  3  FILE, NO MEMORY, IN USE, DEVICE
+  2  PATH
+  3  FILE, NOT READY, NO MEMORY, IN USE, DEVICE
 
 Example: ledger repair --dry-run old.d64",
     values: &[IMAGE, ACCEPT_LOSS, FREE_SECTORS, DRY_RUN, SIDES],
@@ -188,9 +190,10 @@ the sector whose link leads there, and the file's name.
 
 Exit status:
   0  all of the image is there
-  1  such a line was printed, or the image is refused (IMAGE SIZE, LOG)
-  3  FILE, NO MEMORY, IN USE
+  1  ERROR or BEYOND was printed, or the image is refused (IMAGE SIZE, LAYOUT,
+     LOG)
+  3  FILE, NOT READY, NO MEMORY, IN USE
 
 Example: ledger trim old40.d64 > old.d64",
-    values: &[IMAGE],
+    values: &[ANY_IMAGE],
 };

@@ -1,6 +1,6 @@
 //! The subcommands that run a shop: the words of each, and what help says of it, at most 80 columns wide.
 use crate::subcommands::Subcommand;
-use crate::values::{ACCEPT_AWAY, ACCEPT_LOSS, AS_IS, Count, IMAGE, Value};
+use crate::values::{ACCEPT_AWAY, ACCEPT_LOSS, AS_IS, Count, IMAGE, NEW_IMAGE, Value};
 
 /// The subcommands that run a shop, in the order in which help lists them.
 pub(crate) const SHOPS: &[Subcommand] = &[FORMAT, SHOW, PLAY, DRY, SERVE, COPY];
@@ -33,11 +33,11 @@ Exit status:
   0  the image was made
   1  FILE EXISTS, with --new: IMAGE or its log exists; TWO NAMES, without it:
      nothing was done
-  2  TILLS: not 1 to 64
+  2  TILLS: not 1 to 64; PATH
   3  FILE (the file, its folder or the output failed), NO MEMORY, IN USE
 
 Example: ledger format --new shop.d64 --tills 4",
-    values: &[IMAGE, TILLS, ONLY_NEW],
+    values: &[NEW_IMAGE, TILLS, ONLY_NEW],
 };
 
 /// `show IMAGE [--accept-loss] [--as-is]`
@@ -51,8 +51,10 @@ image of 40 or 42 tracks, or with error bytes, too.
 
 Exit status:
   0  the shop was printed
-  1  the image isn't a shop, or LOG, LOG AWAY
-  3  FILE, NO MEMORY, IN USE
+  1  nothing was printed. The image isn't a shop: NO STOCK, NO REQUESTS,
+     BAD CARD n, BAD REQUEST CARD n, TWO INTENTS. Or it is refused: LAYOUT and a
+     fault, IMAGE SIZE, LOG, LOG AWAY
+  3  FILE, NOT READY, NO MEMORY, IN USE
 
 Example: ledger show shop.d64",
     values: &[IMAGE, ACCEPT_AWAY, AS_IS],
@@ -86,8 +88,10 @@ end. Without it a power loss can lose answered requests, or leave a wrong shop.
 
 Exit status:
   0  all lines were played
-  1  the script (SCRIPT LINE n) or the image is refused (TWO NAMES, too):
-     nothing was done
+  1  nothing was done. The script is refused: SCRIPT LINE n. The image isn't a
+     shop: NO STOCK, NO REQUESTS, BAD CARD n, BAD REQUEST CARD n, TWO INTENTS.
+     Or it is refused: LAYOUT and a fault, IMAGE SIZE, LOG, LOG AWAY, TWO NAMES
+  2  PATH
   3  FILE, NOT READY, NO MEMORY, IN USE; or DEVICE: check a copy on another
      disk, and go on there
 
@@ -123,8 +127,11 @@ there.
 
 Exit status:
   0  the input ended
-  1  the image isn't a shop, a file of the disk has lost its end (SHORT), LOG,
-     LOG AWAY, TWO NAMES: nothing was done
+  1  nothing was done. The image isn't a shop: NO STOCK, NO REQUESTS,
+     BAD CARD n, BAD REQUEST CARD n, TWO INTENTS. A file has lost its end:
+     SHORT. Or it is refused: LAYOUT and a fault, IMAGE SIZE, LOG, LOG AWAY,
+     TWO NAMES
+  2  PATH
   3  FILE, NOT READY (input that doesn't wait), NO MEMORY, IN USE, DEVICE (also
      if IMAGE no longer names the file that is served)
 
@@ -153,14 +160,16 @@ const COPY: Subcommand = Subcommand {
     name: "copy",
     about: "Copy the image as it is now, also while it is served",
     more: "\
-Prints COPIED once the copy is on the disk. The copy needs no log. With --log it
-reads a log alone, and also prints COMMITS (how many it took, the image that the
-log began with among them) and LEFT (how many blocks it left out after them).
+It prints COPIED once the copy is on the disk. The copy needs no log, unless the
+image's own log is away (LOG AWAY). With --log it reads a log alone, and also
+prints COMMITS (how many it took, the image that the log began with among them)
+and LEFT (how many blocks it left out after them).
 
 Exit status:
   0  the image was copied
   1  IMAGE SIZE, LOG, or FILE EXISTS (NEW, or its log): nothing was done
-  3  FILE, NO MEMORY, IN USE
+  2  PATH
+  3  FILE, NOT READY, NO MEMORY, IN USE
 
 Examples: ledger copy shop.d64 backup.d64
           ledger copy --log shop.d64-log rescued.d64",

@@ -41,6 +41,30 @@ pub(crate) const IMAGES: Value = Value {
     help: "The disk's image, a D64 file of 35 tracks; or several",
 };
 
+/// The image of a subcommand that takes longer ones, too.
+pub(crate) const ANY_IMAGE: Value = Value {
+    name: "IMAGE",
+    word: None,
+    count: Count::One,
+    help: "The disk's image, a D64 file of 35, 40 or 42 tracks",
+};
+
+/// The images of a subcommand that takes several, and longer ones, too.
+pub(crate) const ANY_IMAGES: Value = Value {
+    name: "IMAGE",
+    word: None,
+    count: Count::Several,
+    help: "The disk's image, a D64 file of 35, 40 or 42 tracks; or several",
+};
+
+/// The image that a subcommand makes.
+pub(crate) const NEW_IMAGE: Value = Value {
+    name: "IMAGE",
+    word: None,
+    count: Count::One,
+    help: "The path of the image that is made, a D64 file of 35 tracks",
+};
+
 /// The name of a file on the disk.
 pub(crate) const NAME: Value = Value {
     name: "NAME",

@@ -5,6 +5,7 @@ pub mod Deleted
 pub mod Judged
 pub mod MadeFile
 pub mod Put
+pub mod Remedied
 pub mod Renamed
 pub mod RecordCopies
 pub mod Repaired

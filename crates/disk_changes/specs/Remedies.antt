@@ -1,6 +1,7 @@
 -- What can be done for a disk: a repair that ends so. Our own.
-use Rattle.std.specs.Prelude.{◌≡◌, IsTrue, List, false, length, true, ℕ}
+use Rattle.std.specs.Prelude.{◌≡◌, Bool, List, false, length, true, ℕ}
 use Rattle.command_faults.specs.declared.faults.CommandFault.{CommandFault}
+use Rattle.command_faults.specs.declared.faults.CommandFault.TheVariants as faults
 use Rattle.d64_image.specs.Memory.{sectors_in}
 use Rattle.d64_image.specs.declared.place.Place.{Place}
 use Rattle.damaged_files.specs.cut.Told.{IsCutShort}
@@ -29,18 +30,48 @@ change_by ways.FreeingSettled = changes.Repair true Accepted
 abbrev pub EndsBy : (image : List ℕ) → Way → (left : ℕ) → Type 0
 EndsBy image way left = (made : Changed) × IsChanged (change_by way) image made × (made.left ≡ left)
 
--- this repair of the image is refused for this reason
-abbrev pub IsRefusedBy : (image : List ℕ) → Way → CommandFault → Type 0
-IsRefusedBy image way why = IsRefused (change_by way) image why
+-- there was no memory
+abbrev pub IsLackOfMemory : CommandFault → Type 0
+IsLackOfMemory why = why ≡ faults.NoMemory
+
+-- this repair of the image is refused for this reason, and not because there was no memory to try it
+pub record IsRefusedBy (image : List ℕ) (way : Way) (why : CommandFault) : Type 0 where
+  pub refused : IsRefused (change_by way) image why
+  pub tried : ¬ (IsLackOfMemory why)
+
+-- it is refused
+abbrev pub IsRefusedWay : (image : List ℕ) → Way → Type 0
+IsRefusedWay image way = (why : CommandFault) × IsRefusedBy image way why
 
 -- no file of the image is cut short
 abbrev pub HasNoneCut : (image : List ℕ) → Type 0
 HasNoneCut image = (p : Place) → ¬ (IsCutShort image p)
 
+-- nothing has to be done for the image: its disk is clean, and no file of it is cut short
+pub record IsWhole (image : List ℕ) : Type 0 where
+  pub size : length image ≡ 174848
+  pub clean : IsClean (sectors_in image)
+  pub uncut : HasNoneCut image
+
+-- each way that is tried before this one is refused; the two that free sectors aren't tried as the first that helps
+abbrev pub IsFirstWay : (image : List ℕ) → Way → Type 0
+IsFirstWay image ways.Plain = Unit {0}
+IsFirstWay image ways.Sides = IsRefusedWay image ways.Plain
+IsFirstWay image ways.Settled = IsRefusedWay image ways.Plain × IsRefusedWay image ways.Sides
+IsFirstWay image ways.SidesSettled =
+    IsRefusedWay image ways.Plain × (IsRefusedWay image ways.Sides × IsRefusedWay image ways.Settled)
+IsFirstWay image _ = ⊥
+
+-- `repair --free` of the image can be made, or can't
+abbrev pub IsFreedBy : (image : List ℕ) → Bool → Type 0
+IsFreedBy image true = (none : ℕ) × EndsBy image ways.Freeing none
+IsFreedBy image false = IsRefusedWay image ways.Freeing
+
 -- what can be done for the disk of the image holds
 abbrev pub IsRemedy : (image : List ℕ) → Remedy → Type 0
-IsRemedy image remedies.Nothing = (length image ≡ 174848) × IsClean (sectors_in image) × HasNoneCut image
-IsRemedy image (remedies.Strays left freed) = EndsBy image ways.Plain left × HasStraysAlone (sectors_in image)
-    × (IsTrue freed → (none : ℕ) × EndsBy image ways.Freeing none)
-IsRemedy image (remedies.Repair way left) = EndsBy image way left
-IsRemedy image (remedies.Rescue why) = IsRefusedBy image ways.SidesSettled why
+IsRemedy image remedies.Nothing = IsWhole image
+IsRemedy image (remedies.Strays left freed) = ¬ (IsWhole image) × (EndsBy image ways.Plain left
+    × (HasStraysAlone (sectors_in image) × IsFreedBy image freed))
+IsRemedy image (remedies.Repair way left) = ¬ (IsWhole image) × (IsFirstWay image way × EndsBy image way left)
+IsRemedy image (remedies.Rescue why) =
+    ¬ (IsWhole image) × (IsFirstWay image ways.SidesSettled × IsRefusedBy image ways.SidesSettled why)

@@ -1,10 +1,17 @@
 //! What can be done for a disk: which repair of it ends well. Each is tried in memory, so that what is said of it holds.
-ghost use Rattle.std.specs.Prelude.{◌≡◌, ℕ, IfErr, IfOk, IsTrue, length};
+ghost use Rattle.std.specs.Prelude.{◌≡◌, ◌↔◌, IfErr, IfOk, IsTrue, length};
 ghost use Rattle.command_faults.specs.Faults.{IsLoadFault};
-ghost use Rattle.d64_image.specs.Memory.{sectors_in};
-ghost use Rattle.disk_changes.specs.Remedies.{EndsBy, HasNoneCut, IsRefusedBy, IsRemedy, change_by as change_of};
-ghost use Rattle.disk_changes.specs.declared.remedies.Way.TheVariants.{Freeing, Plain};
-ghost use Rattle.disk_layout.specs.Clean.{IsClean};
+ghost use Rattle.disk_changes.specs.Remedies.{
+  EndsBy,
+  HasNoneCut,
+  IsFreedBy,
+  IsLackOfMemory,
+  IsRefusedBy,
+  IsRemedy,
+  IsWhole,
+  change_by as change_of,
+};
+ghost use Rattle.disk_changes.specs.declared.remedies.Way.TheVariants.{Plain};
 
 use crate::changes::Change;
 use crate::changing::change;
@@ -86,94 +93,139 @@ fn change_by(way: Way) -> Change<'static>
     }
 }
 
+/// Why something is refused, which stands. The error is `NoMemory`: it wasn't found out.
+fn known_refusal(fault: CommandFault) -> Result<CommandFault, CommandFault>
+    ensures ok { IfOk result (λ why. (why ≡ fault) × ¬ (IsLackOfMemory why)) }
+    ensures err { IfErr result IsLackOfMemory }
+{
+    if fault == CommandFault::NoMemory {
+        return Err(CommandFault::NoMemory);
+    }
+    Ok(fault)
+}
+
 /// Tries a repair in memory: how many sectors it leaves, or why it is refused. Nothing is written.
-fn try_repair(alloc: Global, image: &[u8], way: Way) -> Result<u16, CommandFault>
-    ensures ok { IfOk result (EndsBy image.now way) }
-    ensures err { IfErr result (IsRefusedBy image.now way) }
+///
+/// The error is `NoMemory`: there was no memory to try it, so that nothing is known of it.
+fn try_repair(
+    alloc: Global,
+    image: &[u8],
+    way: Way,
+) -> Result<Result<u16, CommandFault>, CommandFault>
+    ensures ok { IfOk result (λ tried. IfOk tried (EndsBy image.now way) × IfErr tried (IsRefusedBy image.now way)) }
+    ensures err { IfErr result IsLackOfMemory }
 {
     match change(alloc, &change_by(way), image) {
-        Ok(made) => Ok(made.left),
-        Err(fault) => Err(fault),
+        Ok(made) => Ok(Ok(made.left)),
+        Err(fault) => {
+            let why = known_refusal(fault)?;
+            Ok(Err(why))
+        }
     }
 }
 
 /// Whether no file of an image is cut short.
-fn is_uncut(alloc: Global, image: &[u8]) -> bool
-    ensures { IsTrue result → HasNoneCut image.now }
+///
+/// The error is `NoMemory`.
+fn is_uncut(alloc: Global, image: &[u8]) -> Result<bool, CommandFault>
+    requires { length image.now ≡ 174848 }
+    ensures ok { IfOk result (λ uncut. IsTrue uncut ↔ HasNoneCut image.now) }
+    ensures err { IfErr result IsLackOfMemory }
 {
     match taken_disk(alloc, image, Loss::Refused) {
-        Ok(_) => true,
-        Err(_) => false,
+        Ok(_) => Ok(true),
+        Err(fault) => {
+            known_refusal(fault)?;
+            Ok(false)
+        }
     }
 }
 
-/// Whether the disk of an image is clean, and no file of it is cut short.
+/// Whether nothing has to be done for the disk of an image: it is clean, and no file of it is cut short.
 fn is_whole(alloc: Global, image: &[u8]) -> Result<bool, CommandFault>
-    ensures ok { IfOk result (λ whole. IsTrue whole → (length image.now ≡ 174848) × IsClean (sectors_in image.now)
-        × HasNoneCut image.now) }
+    ensures ok { IfOk result (λ whole. (length image.now ≡ 174848) × (IsTrue whole ↔ IsWhole image.now)) }
     ensures err { IfErr result (IsLoadFault image.now) }
 {
     let mut disk = load(alloc, image)?;
-    match check(&mut disk) {
-        Ok(_) => Ok(is_uncut(alloc, image)),
+    let Ok(_) = check(&mut disk) else {
+        return Ok(false);
+    };
+    let uncut = is_uncut(alloc, image)?;
+    Ok(uncut)
+}
+
+/// Whether `repair --free` can be made.
+///
+/// The error is `NoMemory`.
+fn can_free(alloc: Global, image: &[u8]) -> Result<bool, CommandFault>
+    ensures ok { IfOk result (IsFreedBy image.now) }
+    ensures err { IfErr result IsLackOfMemory }
+{
+    match try_repair(alloc, image, Way::Freeing)? {
+        Ok(_) => Ok(true),
         Err(_) => Ok(false),
     }
 }
 
-/// Whether `repair --free` can be made.
-fn can_free(alloc: Global, image: &[u8]) -> bool
-    ensures { IsTrue result → (none : ℕ) × EndsBy image.now Freeing none }
-{
-    match try_repair(alloc, image, Way::Freeing) {
-        Ok(_) => true,
-        Err(_) => false,
-    }
-}
-
 /// What `repair` does, which leaves so many sectors: only those are wrong with the disk, or it mends more.
-fn plain_way(alloc: Global, image: &[u8], left: u16) -> Remedy
-    requires { EndsBy image.now Plain left }
-    ensures { IsRemedy image.now result }
+fn plain_way(alloc: Global, image: &[u8], left: u16) -> Result<Remedy, CommandFault>
+    requires { ¬ (IsWhole image.now) × EndsBy image.now Plain left }
+    ensures ok { IfOk result (IsRemedy image.now) }
+    ensures err { IfErr result IsLackOfMemory }
 {
     let repair = Remedy::Repair {
         way: Way::Plain,
         left,
     };
     if left == 0 {
-        return repair;
+        return Ok(repair);
     }
     match check_usable(alloc, image) {
         Ok(()) => {
-            let freed = can_free(alloc, image);
-            Remedy::Strays { left, freed }
+            let freed = can_free(alloc, image)?;
+            Ok(Remedy::Strays { left, freed })
         }
-        Err(_) => repair,
+        Err(fault) => {
+            known_refusal(fault)?;
+            Ok(repair)
+        }
     }
 }
 
-/// What these ways of repairing do: the first that can be gone. `Rescue` with the reason of the last if none can.
-fn other_way(alloc: Global, image: &[u8]) -> Remedy
-    ensures { IsRemedy image.now result }
+/// What the ways of repairing do that are tried after `repair`, which is refused: the first that can be gone. `Rescue` with the
+/// reason of the last if none can.
+fn other_way(alloc: Global, image: &[u8], why: CommandFault) -> Result<Remedy, CommandFault>
+    requires { ¬ (IsWhole image.now) × IsRefusedBy image.now Plain why }
+    ensures ok { IfOk result (IsRemedy image.now) }
+    ensures err { IfErr result IsLackOfMemory }
 {
-    for way in [Way::Sides, Way::Settled] {
-        if let Ok(left) = try_repair(alloc, image, way) {
-            return Remedy::Repair { way, left };
-        }
+    if let Ok(left) = try_repair(alloc, image, Way::Sides)? {
+        return Ok(Remedy::Repair {
+            way: Way::Sides,
+            left,
+        });
     }
-    match try_repair(alloc, image, Way::SidesSettled) {
+    if let Ok(left) = try_repair(alloc, image, Way::Settled)? {
+        return Ok(Remedy::Repair {
+            way: Way::Settled,
+            left,
+        });
+    }
+    Ok(match try_repair(alloc, image, Way::SidesSettled)? {
         Ok(left) => Remedy::Repair {
             way: Way::SidesSettled,
             left,
         },
-        Err(fault) => Remedy::Rescue(fault),
-    }
+        Err(last) => Remedy::Rescue(last),
+    })
 }
 
 /// What can be done for the disk of an image: nothing if it is clean and no file is cut short; otherwise the first of `repair`,
 /// `repair --sides`, and both with a loss accepted, that can be made of this very image; and if none can, why the last isn't made.
 /// Each is tried in memory, and nothing is written.
 ///
-/// The errors are `ImageSize` and `NoMemory`.
+/// The errors are `ImageSize` and `NoMemory`. Where memory is refused nothing is said of the disk, because a way that
+/// couldn't be tried may be the one that helps.
 pub fn find_remedy(alloc: Global, image: &[u8]) -> Result<Remedy, CommandFault>
     ensures ok { IfOk result (IsRemedy image.now) }
     ensures err { IfErr result (IsLoadFault image.now) }
@@ -181,8 +233,8 @@ pub fn find_remedy(alloc: Global, image: &[u8]) -> Result<Remedy, CommandFault>
     if is_whole(alloc, image)? {
         return Ok(Remedy::Nothing);
     }
-    match try_repair(alloc, image, Way::Plain) {
-        Ok(left) => Ok(plain_way(alloc, image, left)),
-        Err(_) => Ok(other_way(alloc, image)),
+    match try_repair(alloc, image, Way::Plain)? {
+        Ok(left) => plain_way(alloc, image, left),
+        Err(why) => other_way(alloc, image, why),
     }
 }

@@ -12,7 +12,7 @@ use Rattle.disk_changes.specs.declared.changes.Change.{Change}
 use Rattle.disk_changes.specs.declared.changes.Change.TheVariants as changes
 use Rattle.disk_changes.specs.declared.changes.Changed.{Changed}
 use Rattle.command_faults.specs.declared.faults.CommandFault.{CommandFault}
-use Rattle.folder_changes.specs.FolderChanges.{GivesChanged, IsLeft, IsMade, IsToldAs}
+use Rattle.folder_changes.specs.FolderChanges.{GivesChanged, IsLeft, IsMade, IsToldAs, IsUnplaced, KeepsImage}
 use Rattle.command_faults.specs.declared.faults.CommandFault.TheVariants as faults
 use Rattle.image_log.specs.life.Bringing.{RestsAlone, RestsWith}
 use Rattle.image_log.specs.life.Folders.{FolderHistory, LeavesFolders}
@@ -47,13 +47,13 @@ module _ {D : Type 0} (h : FolderHistory D) (what : Change) (image : List ℕ) w
 
 -- a change that is made was printed, or not
 pub printed : {W : Type 0} (contents : W → Option (List ℕ)) (Is : Changed → Type 0) (Refuses : CommandFault → Type 0)
-    (before after : W) (made : Changed) → Is made → (r : Result ℕ CommandFault)
+    (Kept : Type 0) (before after : W) (made : Changed) → Is made → (r : Result ℕ CommandFault)
     → IfOk r (λ left. (left ≡ made.left) × Appends (contents before) (contents after) made.text.items)
     → OnErr r (HandsPart (contents before) (contents after) made.text.items) → IfErr r (λ fault. fault ≡ faults.File)
-    → IsToldAs contents Is Refuses before after r
-printed contents Is Refuses before after made is (Ok left) all part output = (made, is, all.0, all.1)
-printed contents Is Refuses before after made is (Err fault) all part output =
-    subst (λ (s : CommandFault). IsToldAs contents Is Refuses before after (Err s)) (sym output) (made, is, part)
+    → IsToldAs contents Is Refuses Kept before after r
+printed contents Is Refuses Kept before after made is (Ok left) all part output = (made, is, all.0, all.1)
+printed contents Is Refuses Kept before after made is (Err fault) all part output =
+    subst (λ (s : CommandFault). IsToldAs contents Is Refuses Kept before after (Err s)) (sym output) (inr (made, is, part))
 
 -- what bars a change in memory is neither the output nor the device
 barred-in-memory : (what : Change) (image : List ℕ) → (IsBarred what image faults.File → ⊥) × (IsBarred what image faults.Device → ⊥)
@@ -97,22 +97,19 @@ sized what image made is = ⊎_elim (sized-done what image made) (λ w. w.1.asid
 
 -- nothing is printed of a change that isn't put in place
 pub unplaced : {W D : Type 0} (h : FolderHistory D) (contents : W → Option (List ℕ)) (what : Change) (image : List ℕ) (old new : D)
-    (w : W) (fault : CommandFault) → length image ≡ 174848
-    → ((fault ≡ faults.NoMemory) × (new ≡ old)) ⊎ ((fault ≡ faults.Device) × (h.has_failed new ≡ true))
-    → IsToldAs contents (IsMade h what image old new) (IsLeft h what image old new) w w (Err fault)
-unplaced h contents what image old new w fault size (inl (is, same)) =
-    subst (λ (f : CommandFault). IsToldAs contents (IsMade h what image old new) (IsLeft h what image old new) w w (Err f))
-    (sym is) ((inr (inl size), same), refl)
-unplaced h contents what image old new w fault size (inr (is, failed)) =
-    subst (λ (f : CommandFault). IsToldAs contents (IsMade h what image old new) (IsLeft h what image old new) w w (Err f))
-    (sym is) refl
+    (w : W) (fault : CommandFault) → length image ≡ 174848 → IsUnplaced h image old new fault
+    → IsToldAs contents (IsMade h what image old new) (IsLeft h what image old new) (KeepsImage h image old new) w w (Err fault)
+unplaced h contents what image old new w faults.NoMemory size same = ((inr (inl size), same), refl)
+unplaced h contents what image old new w faults.File size kept = inl (kept, refl)
+unplaced h contents what image old new w faults.Device size is = refl
+unplaced h contents what image old new w _ size is = absurd is
 
 -- nothing is printed of a change that is refused
-pub refused : {W : Type 0} (contents : W → Option (List ℕ)) (Is : Changed → Type 0) (Refuses : CommandFault → Type 0) (w : W)
-    (fault : CommandFault) → (Refuses faults.File → ⊥) → Refuses fault → IsToldAs contents Is Refuses w w (Err fault)
-refused contents Is Refuses w faults.Device no-output why = refl
-refused contents Is Refuses w faults.File no-output why = absurd (no-output why)
-refused contents Is Refuses w _ no-output why = (why, refl)
+pub refused : {W : Type 0} (contents : W → Option (List ℕ)) (Is : Changed → Type 0) (Refuses : CommandFault → Type 0) (Kept : Type 0)
+    (w : W) (fault : CommandFault) → (Refuses faults.File → ⊥) → Refuses fault → IsToldAs contents Is Refuses Kept w w (Err fault)
+refused contents Is Refuses Kept w faults.Device no-output why = refl
+refused contents Is Refuses Kept w faults.File no-output why = absurd (no-output why)
+refused contents Is Refuses Kept w _ no-output why = (why, refl)
 
 -- only an output fails while a text is printed
 pub no-device : (r : Result ℕ CommandFault) → IfErr r (λ fault. fault ≡ faults.File) → r ≢ Err faults.Device
@@ -121,9 +118,11 @@ no-device (Err fault) output device = cc
 
 -- what is known of a change and of its refusal may be weakened
 pub told-weaker : {W : Type 0} (contents : W → Option (List ℕ)) (Is Then : Changed → Type 0) (Refuses Why' : CommandFault → Type 0)
-    (old new : W) → ((made : Changed) → Is made → Then made) → ((why : CommandFault) → Refuses why → Why' why)
-    → (r : Result ℕ CommandFault) → IsToldAs contents Is Refuses old new r → IsToldAs contents Then Why' old new r
-told-weaker contents Is Then Refuses Why' old new f g (Ok left) told = (told.0, f told.0 told.1, told.2, told.3)
-told-weaker contents Is Then Refuses Why' old new f g (Err faults.Device) told = told
-told-weaker contents Is Then Refuses Why' old new f g (Err faults.File) told = (told.0, f told.0 told.1, told.2)
-told-weaker contents Is Then Refuses Why' old new f g (Err _) told = (g _ told.0, told.1)
+    (Kept Kept' : Type 0) (old new : W) → ((made : Changed) → Is made → Then made) → ((why : CommandFault) → Refuses why → Why' why)
+    → (Kept → Kept') → (r : Result ℕ CommandFault) → IsToldAs contents Is Refuses Kept old new r
+    → IsToldAs contents Then Why' Kept' old new r
+told-weaker contents Is Then Refuses Why' Kept Kept' old new f g k (Ok left) told = (told.0, f told.0 told.1, told.2, told.3)
+told-weaker contents Is Then Refuses Why' Kept Kept' old new f g k (Err faults.Device) told = told
+told-weaker contents Is Then Refuses Why' Kept Kept' old new f g k (Err faults.File) told =
+    ⊎_elim (λ kept. inl (k kept.0, kept.1)) (λ made. inr (made.0, f made.0 made.1, made.2)) told
+told-weaker contents Is Then Refuses Why' Kept Kept' old new f g k (Err _) told = (g _ told.0, told.1)

@@ -10,7 +10,7 @@ use crate::image_replacing::put_image_in;
 use command_faults::CommandFault;
 use disk_changes::Change;
 use image_file::PlainFiles;
-use image_log::{HostLogs, ImageFolder, LogNames};
+use image_log::{HostLogs, ImageFolder, LogNames, forget_making};
 use std::alloc::Global;
 use std::io::{self, Write};
 
@@ -24,8 +24,9 @@ pub trait HostImages: HostLogs {
     ghost replaced: { Self → (path image : List ℕ) → Type 0 } = { λ _ _ _. ⊤ };
 
     /// Changes the image of these names, whose open file and bytes these are, and prints the change's text. No log is beside
-    /// it, and both are synced. Returns what `change_image` does over its folder. The error is that of a file that is no regular
-    /// one, or has a second name: nothing was done.
+    /// it, and both are synced. Returns what `change_image` does over its folder. A log in the making that couldn't be made is taken
+    /// away again, if the host allows it. The error is that of a file that is no regular one, or has a second name: nothing was
+    /// done.
     fn change_at<W: Write>(
         &self,
         alloc: Global,
@@ -39,7 +40,7 @@ pub trait HostImages: HostLogs {
         requires fit { IsFit what.now }
         ensures run { IfOk result (IsToldAs W.contents
             (λ made. IsChanged what.now image.now made × changed self.now (string_bytes names.now.image) image.now made)
-            (IsRefused what.now image.now) out.old out.new) }
+            (IsRefused what.now image.now) ⊤ out.old out.new) }
         ensures quiet { IsErr result → out.new ≡ out.old };
 
     /// Puts an image in the place of the one of these names, whose open file this is, and of its log. Returns what `put_image_in`
@@ -67,7 +68,12 @@ impl<R: HostLogs + PlainFiles> HostImages for R {
         out: &mut W,
     ) -> io::Result<Result<u16, CommandFault>> {
         let mut folder = ImageFolder::new(self, names, file)?;
-        Ok(change_image(alloc, &mut folder, image, what, out))
+        let ended = change_image(alloc, &mut folder, image, what, out);
+        if let Err(CommandFault::File) = ended {
+            // the log in the making that couldn't be made; while the image is locked nobody else makes one
+            let _ = forget_making(self, names);
+        }
+        Ok(ended)
     }
 
     fn replace_at(

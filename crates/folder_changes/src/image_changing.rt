@@ -1,23 +1,24 @@
 //! The image in a folder, changed.
-ghost use Rattle.std.specs.Prelude.{◌≡◌, ◌⊎◌, Err, IfErr, IfOk, None, OnErr, OnOk, length, true};
+ghost use Rattle.std.specs.Prelude.{◌≡◌, ◌≢◌, Err, IfErr, IfOk, None, OnErr, OnOk, length, true};
 ghost use Rattle.std.specs.Io.KnownBytes.{Appends};
 ghost use Rattle.command_faults.specs.Outputs.{HandsPart};
 ghost use Rattle.command_faults.specs.declared.faults.CommandFault.TheVariants as faults;
 ghost use Rattle.d64_image.specs.Memory.{disk_image, sectors_in};
 ghost use Rattle.disk_changes.specs.Changes.{IsFit};
-ghost use Rattle.folder_changes.specs.FolderChanges.{GivesChanged, IsChangeOver, IsChangePrinted};
+ghost use Rattle.folder_changes.specs.FolderChanges.{GivesChanged, IsChangeOver, IsChangePrinted, IsUnplaced};
 ghost use Rattle.image_log.specs.life.Bringing.{RestsAlone};
 ghost use Rattle.image_log.specs.life.Folders.{LeavesFolders};
 ghost use Rattle.image_log.specs.life.Replacing.{KeepsOrGives};
 
 use command_faults::{CommandFault, flush, put};
 use disk_changes::{Change, Changed, change};
-use image_log::{LogFile, LogFolder, LogRoom, replace, sectors_of};
+use image_log::{LogFile, LogFolder, LogRoom, ReplaceFault, replace, sectors_of};
 use std::alloc::Global;
 use std::io::Write;
 
 /// Puts the disk that came of a change in the place of the image, unless it is the same. The only errors are `NoMemory`,
-/// and then nothing was done, and `Device`, if the folder failed.
+/// and then nothing was done; `File`, if the folder failed before anything of the image was tried; and `Device`, if it failed
+/// later.
 fn put_in_place<F: LogFile, D: LogFolder<F>>(
     alloc: Global,
     folder: &mut D,
@@ -30,8 +31,8 @@ fn put_in_place<F: LogFile, D: LogFolder<F>>(
         (KeepsOrGives None (sectors_in image.now) (disk_image made.now.disk)) }
     ensures ok { OnOk result (RestsAlone D.history folder.old (sectors_in image.now)
         → RestsAlone D.history folder.new (disk_image made.now.disk)) }
-    ensures err { IfErr result (λ fault. ((fault ≡ faults.NoMemory) × (folder.new ≡ folder.old))
-        ⊎ ((fault ≡ faults.Device) × (D.history.has_failed folder.new ≡ true))) }
+    ensures err { IfErr result (IsUnplaced D.history image.now folder.old folder.new) }
+    ensures cause { IfErr result (λ fault. fault ≢ faults.NoMemory → D.history.has_failed folder.new ≡ true) }
 {
     if made.disk.bytes() == image {
         return Ok(());
@@ -46,7 +47,8 @@ fn put_in_place<F: LogFile, D: LogFolder<F>>(
         sectors_of(made.disk.bytes()),
     ) {
         Ok(()) => Ok(()),
-        Err(_) => Err(CommandFault::Device),
+        Err(ReplaceFault::Unbegun(_)) => Err(CommandFault::File),
+        Err(ReplaceFault::Unfinished(_)) => Err(CommandFault::Device),
     }
 }
 
@@ -83,8 +85,9 @@ pub fn show_change<W: Write>(
 /// though no file owns them. `image` has the bytes of IMAGE, which has no log beside it; both are synced, as `land` leaves
 /// them. A power loss at any moment, and an error, leave a folder that gives this image, or the one with the change.
 ///
-/// `Device` if the folder or its log's file failed: nothing was printed. `File` if the output failed, which has a first part
-/// of the text: the image is changed. Any other error refuses the change: nothing was written or printed.
+/// `Device` if the folder or its log's file failed: nothing was printed. `File` if they failed before anything of IMAGE was
+/// tried: it is as it was, and nothing was printed. `File` also if the output failed, which has a first part of the text: the
+/// image is changed. Any other error refuses the change: nothing was written or printed.
 pub fn change_image<F: LogFile, D: LogFolder<F>, W: Write>(
     alloc: Global,
     folder: &mut D,

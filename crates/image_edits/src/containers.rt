@@ -1,8 +1,8 @@
 //! The files of emulators, which hold a file of a disk or a tape after a header.
-ghost use Rattle.std.specs.Prelude.{◌≡◌, ◌≤◌, ◌+◌, ◌++◌, ◌⊎◌, IfErr, IfOk, Some, drop, length, option_map, take, vec_items};
+ghost use Rattle.std.specs.Prelude.{◌≡◌, ◌↔◌, ◌≤◌, ◌+◌, ◌++◌, ◌⊎◌, IfErr, IfOk, IsTrue, None, Some, drop, length, option_map, take, vec_items};
 ghost use Rattle.command_faults.specs.declared.faults.CommandFault.TheVariants.{File, NoMemory};
 ghost use Rattle.image_edits.specs.Containers as containers;
-ghost use Rattle.image_edits.specs.Containers.{file_in, two_bytes};
+ghost use Rattle.image_edits.specs.Containers.{cut_of, file_in, lack_of, two_bytes};
 ghost use Rattle.opened_files.specs.HostFiles.{IsUnread, OfText};
 ghost use Rattle.opened_files.specs.Rights.{MayReadText};
 
@@ -56,16 +56,73 @@ fn is_tape(bytes: &[u8]) -> bool
         || begins(bytes, b"C64 tape image file")
 }
 
+/// Whether a T64 has one program: its first entry is used, and it says of no other.
+fn has_one(tape: &[u8]) -> bool
+    ensures { result ≡ containers.has_one tape.now }
+{
+    tape.len() >= 96 && tape[64] != 0 && number_at(tape, 36) <= 1
+}
+
+/// How many bytes the first entry of a T64 counts.
+fn counted_in(tape: &[u8]) -> usize
+    requires { 96 ≤ length tape.now }
+    ensures { result ≡ containers.counted_in tape.now }
+{
+    number_at(tape, 68).saturating_sub(number_at(tape, 66))
+}
+
+/// Those of them that are there.
+fn data_of(tape: &[u8]) -> &[u8]
+    requires { 96 ≤ length tape.now }
+    ensures { result.now ≡ containers.data_of tape.now }
+{
+    let data = rest_from(tape, number_at(tape, 72) + 65536 * number_at(tape, 74));
+    first(data, counted_in(tape))
+}
+
 /// The only program of a T64, in two parts: its address, and what stands after that. None if it has none, or several.
 fn tape_parts(tape: &[u8]) -> Option<(&[u8], &[u8])>
     ensures { option_map (λ parts. parts.0.now ++ parts.1.now) result ≡ containers.tape_file tape.now }
 {
-    if tape.len() < 96 || tape[64] == 0 || 1 < number_at(tape, 36) {
-        return None;
+    if has_one(tape) {
+        Some((&tape[66..68], data_of(tape)))
+    } else {
+        None
     }
-    let data = rest_from(tape, number_at(tape, 72) + 65536 * number_at(tape, 74));
-    let count = number_at(tape, 68).saturating_sub(number_at(tape, 66));
-    Some((&tape[66..68], first(data, count)))
+}
+
+/// What a file of an emulator lacks of what its header counts.
+#[derive(Clone, Copy, Debug, PartialEq, Eq)]
+pub struct CutFile {
+    /// How many bytes are there.
+    pub there: usize,
+    /// How many its header counts.
+    pub counted: usize,
+}
+
+/// What a number of bytes lacks of another one. None if it isn't less.
+fn lacking(there: usize, counted: usize) -> Option<CutFile>
+    ensures { result ≡ lack_of there counted }
+{
+    if there < counted {
+        Some(CutFile { there, counted })
+    } else {
+        None
+    }
+}
+
+/// What a P00 or a T64 lacks: of a P00 a part of its header of 26 bytes, of the only program of a T64 bytes that its entry counts.
+/// None of any other file, and of a T64 with no program or with several.
+pub fn cut_in(bytes: &[u8]) -> Option<CutFile>
+    ensures { result ≡ cut_of bytes.now }
+{
+    if begins(bytes, P00) {
+        return lacking(bytes.len(), 26);
+    }
+    if is_tape(bytes) && has_one(bytes) {
+        return lacking(data_of(bytes).len(), counted_in(bytes));
+    }
+    None
 }
 
 /// The file that a host's file holds, in two parts. None for a T64 with no program, or with several.
@@ -80,6 +137,13 @@ fn parts_of(bytes: &[u8]) -> Option<(&[u8], &[u8])>
     } else {
         Some((&[], bytes))
     }
+}
+
+/// Whether a host's file holds no file that could be put on a disk: it is a T64 with no program, or with several.
+pub fn has_no_file(bytes: &[u8]) -> bool
+    ensures { IsTrue result ↔ (file_in bytes.now ≡ None) }
+{
+    parts_of(bytes).is_none()
 }
 
 /// Both parts as one. `NoMemory` if there was none for it.

@@ -11,6 +11,7 @@ mod salvaging;
 mod trimming;
 
 pub use changing::change_end;
+pub use containers::{CutFile, cut_in, has_no_file};
 pub use copying::do_copying;
 pub use edit::{Columns, Edit, Effect, Unowned};
 pub use edits::do_edit;

@@ -36,7 +36,7 @@ pub use life::mem_folder::{FolderCall, MemFolder};
 pub use life::memory::{image_room, land_in, view_in};
 pub use life::open_log::OpenLog;
 pub use life::read_log::ReadLog;
-pub use life::replacing::{replace, sectors_of};
+pub use life::replacing::{ReplaceFault, replace, sectors_of};
 pub use life::superseding::supersede;
 pub use life::system_log::SystemLog;
 pub use life::tagged_files::untag_file;

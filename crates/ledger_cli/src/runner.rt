@@ -9,7 +9,7 @@ ghost use Rattle.ledger_cli.specs.declared.runner.Audience.TheVariants.{Person, 
 use crate::dashes::{read_dashes, writes_dash};
 use crate::faults::JobFault;
 use crate::progress::{Watched, is_long};
-use crate::unread_words::tell_unread;
+use crate::unread_words::words_left;
 use crate::word_refusals::{print_meaning, refuse, refuse_words};
 use crate::words::command_line;
 use command_faults::CommandFault;
@@ -381,29 +381,21 @@ where
     }
 }
 
-/// The words of the command line. If they can't be had, that is reported, and the exit status is returned.
-fn words_of<R: Env + AllocGlobal, E: Write>(
-    rt: &R,
-    told: Audience,
-    err: &mut E,
-) -> Result<Vec<String>, u8> {
-    let collected = match env::args(rt) {
-        Ok(words) => words.collect(rt.alloc()),
-        Err(error) if error.kind() == io::ErrorKind::InvalidData => {
-            let _ = writeln!(
-                err,
-                "error: invalid UTF-8 was detected in one or more arguments"
-            );
-            if told != Audience::Program {
-                tell_unread(rt, rt.alloc(), err);
-            }
-            return Err(WORDS);
-        }
-        Err(error) => return Err(refuse(err, &error)),
-    };
-    match collected {
-        Ok(words) => Ok(words),
-        Err(error) => Err(refuse(err, &io::Error::from(error))),
+/// Reports that an argument isn't UTF-8, and does what the other words ask for if that is to look at several images. Returns the
+/// exit status: that of refused words, or a higher one of the images.
+fn obey_rest<F, R, E>(rt: &R, told: Audience, err: &mut E) -> u8
+where
+    F: EndedFile + Read + Locks + OpenFile + Drop,
+    R: Files<File = F> + Clock + Env + Input + Print + AllocGlobal,
+    E: Write,
+{
+    let _ = writeln!(
+        err,
+        "error: invalid UTF-8 was detected in one or more arguments"
+    );
+    match words_left(rt, rt.alloc(), told != Audience::Program, err) {
+        Some(words) => obey(rt, words.as_slice(), told, err).max(WORDS),
+        None => WORDS,
     }
 }
 
@@ -416,8 +408,15 @@ where
     E: Write,
 {
     let err = &mut LimitedErrors::new(rt, err);
-    match words_of(rt, told, err) {
+    let collected: Result<Vec<String>, AllocError> = match env::args(rt) {
+        Ok(words) => words.collect(rt.alloc()),
+        Err(error) if error.kind() == io::ErrorKind::InvalidData => {
+            return obey_rest(rt, told, err);
+        }
+        Err(error) => return refuse(err, &error),
+    };
+    match collected {
         Ok(words) => obey(rt, words.as_slice(), told, err),
-        Err(status) => status,
+        Err(error) => refuse(err, &io::Error::from(error)),
     }
 }

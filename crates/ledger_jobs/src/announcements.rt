@@ -6,6 +6,7 @@ use crate::cures::{cure_of, meaning_of_fault};
 use crate::failure_lines::tell_of;
 use crate::jobs::Job;
 use crate::refusal_subjects::{CUT_SHORT, FEWER};
+use crate::text_warnings::tell_text;
 use crate::typed_names::warn_of_name;
 use command_faults::CommandFault;
 use damaged_files::Shortfall;
@@ -119,6 +120,9 @@ where
 /// what a file of the image lacks, if one lacks something: a line `SHORT t/s` or `FEWER t/s`. A line `GEOS` stands before
 /// `SHORT t/s` of a disk of GEOS, as changes refuse it. For that the image's file is opened, locked with others that read
 /// it, and read once more. If that can't be done, or a line can't be printed, it isn't printed.
+///
+/// After a change that took a text of the host it prints what is odd about that: a P00 or a T64 that was cut short, records with
+/// small letters.
 pub fn tell_verdict<F, R, E>(rt: &R, job: &Job<'_>, found: Option<Fault>, err: &mut E)
 where
     F: Read + Locks + OpenFile + Drop,
@@ -131,7 +135,7 @@ where
         image,
     } = job
     else {
-        return;
+        return tell_text(rt, job, err);
     };
     if let Some(fault) = found {
         tell_fault(rt, image, fault, err);

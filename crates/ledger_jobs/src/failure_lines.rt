@@ -5,6 +5,7 @@ ghost use Rattle.opened_files.specs.Rights.{MayLook};
 use crate::job_files::{first_file, image_of};
 use crate::jobs::Job;
 use crate::read_again::text_again;
+use crate::text_warnings::takes_no_file;
 use image_edits::Edit;
 use image_file::{Failure, HostFiles, MOST_SCRIPT, ShownPath, regular_at};
 use opened_files::{STANDARD_INPUT, size_of};
@@ -25,6 +26,9 @@ const LOGGED: &str =
 const UNWAITED: &str = "; it is set not to wait (O_NONBLOCK): hand over one that waits";
 
 const TAPE: &str = "it is a tape (T64) of several programs, or of none; cbmconvert takes them out";
+
+const UNMADE: &str =
+    "its log couldn't be made; if a file IMAGE-log.new stands beside it that isn't as long as a log, move that away, and go on";
 
 const UNREAD: &str = "ledger: a file couldn't be read to its end, or the output not be written";
 
@@ -115,8 +119,9 @@ fn tell_long<R: HostFiles, E: Write>(rt: &R, job: &Job<'_>, err: &mut E) -> bool
     true
 }
 
-/// Prints why a file wasn't read of which the system said nothing: it is too long, or a tape of no program, or of several.
-fn tell_unread<R: HostFiles, E: Write>(rt: &R, job: &Job<'_>, err: &mut E)
+/// Prints why a file wasn't read or made of which the system said nothing: a text is too long, or a tape of no program, or of several;
+/// or the log of a change wasn't made, since another file has its name.
+fn tell_unread<R: HostFiles + AllocGlobal, E: Write>(rt: &R, job: &Job<'_>, err: &mut E)
     requires { MayExplain R.rights rt.now job.now }
 {
     if tell_long(rt, job, err) {
@@ -126,7 +131,8 @@ fn tell_unread<R: HostFiles, E: Write>(rt: &R, job: &Job<'_>, err: &mut E)
         Job::Change {
             edit: Edit::Put { file, .. },
             ..
-        } => tell_of(err, file, TAPE),
+        } if takes_no_file(rt, job) => tell_of(err, file, TAPE),
+        Job::Change { image, .. } => tell_of(err, image, UNMADE),
         _ => {
             let _ = writeln!(err, "{UNREAD}");
         }
@@ -135,7 +141,7 @@ fn tell_unread<R: HostFiles, E: Write>(rt: &R, job: &Job<'_>, err: &mut E)
 
 /// Prints why a file couldn't be opened, read or written: what the system said of it. If it said nothing, something else
 /// than a regular file stands where an image is wanted.
-pub(crate) fn tell_files<R: HostFiles, E: Write>(
+pub(crate) fn tell_files<R: HostFiles + AllocGlobal, E: Write>(
     rt: &R,
     job: &Job<'_>,
     cause: Option<Failure<'_>>,

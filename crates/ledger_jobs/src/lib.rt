@@ -16,6 +16,7 @@ mod near_names;
 mod read_again;
 mod refusal_subjects;
 mod size_lines;
+mod text_warnings;
 mod typed_names;
 
 pub use announcements::{announce, tell_verdict};

@@ -1,7 +1,7 @@
 -- The image in a folder in memory turned into what was made of it.
 use Rattle.std.proofs.Common.{◌≡◌, ◌∙◌, [], ℕ, List, ap, length}
 use Rattle.std.proofs.lemmas.List.{set-get_or}
-use Rattle.std.specs.Prelude.{Bool, Err, IfOk, IfSome, IsSome, None, Ok, OnOk, Option, Result, slice_index_or, slice_set}
+use Rattle.std.specs.Prelude.{Bool, Err, IfOk, IfSome, IsSome, None, Ok, OnOk, Option, Result, slice_index_or, slice_set, ⊤}
 use Rattle.command_faults.specs.declared.faults.CommandFault.{CommandFault}
 use Rattle.d64_image.specs.Images.{Image}
 use Rattle.d64_image.specs.Memory.{disk_image, sectors_in}
@@ -9,7 +9,7 @@ use Rattle.disk_changes.specs.Changes.{IsChanged, IsRefused}
 use Rattle.disk_changes.specs.declared.changes.Change.{Change}
 use Rattle.disk_changes.specs.declared.changes.Changed.{Changed}
 use Rattle.folder_changes.proofs.Changed.{sized, told-weaker}
-use Rattle.folder_changes.specs.FolderChanges.{IsLeft, IsMade, IsToldAs}
+use Rattle.folder_changes.specs.FolderChanges.{IsLeft, IsMade, IsToldAs, KeepsImage}
 use Rattle.image_log.specs.declared.life.mem_folder.MemFolder.{MemFolder}
 use Rattle.image_log.specs.life.Bringing.{RestsAlone, RestsWith}
 use Rattle.image_log.specs.life.Folders.{LeavesFolders}
@@ -35,18 +35,19 @@ module _ {E D : Type 0} (inner : E → D) (failed : E → Bool) (of : D → Opti
       → (length image ≡ 174848 → IsSome found) → (r : Result (Result ℕ CommandFault) X)
       → IfOk r (IsChangedIn (untagged_in inner failed (folder_in of)) IsAt what image contents before after)
       → IfOk r (IsToldAs contents (λ made. IsChanged what image made × HasTurned (sectors_in image) (disk_image made.disk)) (IsRefused what image)
-      before after)
+      ⊤ before after)
   changed contents what before after some (Err e) is = is
   changed contents what before after some (Ok ended) (old, new, is, told) =
       told-weaker contents (IsMade (untagged_in inner failed (folder_in of)) what image old new)
       (λ (made : Changed). IsChanged what image made × HasTurned (sectors_in image) (disk_image made.disk))
-      (IsLeft (untagged_in inner failed (folder_in of)) what image old new) (IsRefused what image) before after
+      (IsLeft (untagged_in inner failed (folder_in of)) what image old new) (IsRefused what image)
+      (KeepsImage (untagged_in inner failed (folder_in of)) image old new) ⊤ before after
       (λ made m.
       let size = sized what image made m.0 in
       let was = rests inner failed of old found (sectors_in image) (none_there image size not) (at old is) (some size) there in
       let gone = m.1 was in
       (m.0, turned inner failed of old new (sectors_in image) (disk_image made.disk) was gone.0 gone.1))
-      (λ why left. left.0) ended told
+      (λ why left. left.0) (λ kept. tt) ended told
 
   done : (other : List ℕ) (old new : E) → IsAt old → IsSome found → length image ≡ 174848
       → ((log : Option (List ℕ)) (before : Image) → RestsWith (untagged_in inner failed (folder_in of)) old log before

@@ -2,6 +2,8 @@
 use Rattle.std.specs.Prelude.{◌≡◌, ◌⊎◌, List, Option, Some, ℕ}
 use Rattle.d64_image.specs.Images.{Image}
 use Rattle.image_log.specs.Files.{FileHistory, Only}
+use Rattle.image_log.specs.declared.life.replacing.ReplaceFault.{ReplaceFault}
+use Rattle.image_log.specs.declared.life.replacing.ReplaceFault.TheVariants as faults
 use Rattle.image_log.specs.life.Bringing.{IsLanding, IsWith}
 use Rattle.image_log.specs.life.Folders.{AllLeft, Folder, FolderHistory}
 use Rattle.image_log.specs.life.Folders.Making.{Fresh}
@@ -11,6 +13,11 @@ use Rattle.image_log.specs.life.Shops.{Gives, LogGives}
 -- the folder is as it was, with this image and this log, or gives the image after
 abbrev pub KeepsOrGives : Option (List ℕ) → Image → Image → Folder → Type 0
 KeepsOrGives log before after s = IsWith log before s ⊎ Gives s after
+
+-- the log that would give the image after wasn't made
+abbrev pub IsUnbegun : ReplaceFault → Type 0
+IsUnbegun (faults.Unbegun error) = Unit {0}
+IsUnbegun (faults.Unfinished error) = ⊥
 
 -- The file holds a log that gives the image after beside each mix of the two, and a power loss leaves that.
 pub record IsMarkedFor {F : Type 0} (g : FileHistory F) (file : F) (before after : Image) : Type 0 where

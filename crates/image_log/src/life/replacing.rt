@@ -1,11 +1,12 @@
 //! An image that takes the place of another, all or nothing.
-ghost use Rattle.std.specs.Prelude.{◌≡◌, [], IfOk, List, OnErr, OnOk, Option, Some, ℕ, length, true};
+ghost use Rattle.std.specs.Prelude.{◌≡◌, [], IfErr, IfOk, List, OnErr, OnOk, Option, Some, ℕ, length, true};
 ghost use Rattle.d64_image.specs.Images.{Image};
 ghost use Rattle.d64_image.specs.Memory.{sectors_in};
 ghost use Rattle.image_log.specs.life.Bringing.{IsWith, RestsAlone, RestsWith};
 ghost use Rattle.image_log.specs.life.Folders.{AllLeft, LeavesFolders};
-ghost use Rattle.image_log.specs.life.Replacing.{IsCommitted, IsMade, IsMarkedFor, KeepsOrGives};
+ghost use Rattle.image_log.specs.life.Replacing.{IsCommitted, IsMade, IsMarkedFor, IsUnbegun, KeepsOrGives};
 ghost use Rattle.image_log.specs.Marks.{Covers};
+ghost use Rattle.image_log.specs.declared.life.replacing.ReplaceFault.TheVariants.{Unfinished};
 
 use crate::blocks::BLOCK;
 use crate::filling::fill;
@@ -109,25 +110,57 @@ fn commit_made<F: LogFile, D: LogFolder<F>>(folder: &mut D, file: F) -> io::Resu
     folder.close_log(file)
 }
 
+/// Why an image wasn't put in the place of another: a call of the folder, or of the log's file, failed.
+#[derive(Debug)]
+pub enum ReplaceFault {
+    /// The log that gives the new image wasn't made. Of IMAGE nothing was written, and its log has its name no more than before.
+    Unbegun(io::Error),
+    /// A later call failed: the folder gives the old image, or the new one.
+    Unfinished(io::Error),
+}
+
+impl ReplaceFault {
+    /// The error of the call that failed.
+    pub fn into_error(self) -> io::Error {
+        match self {
+            ReplaceFault::Unbegun(error) | ReplaceFault::Unfinished(error) => error,
+        }
+    }
+}
+
+impl From<io::Error> for ReplaceFault {
+    ghost from_gives = { λ error fault. fault ≡ Unfinished error };
+
+    fn from(error: io::Error) -> ReplaceFault {
+        ReplaceFault::Unfinished(error)
+    }
+}
+
 /// Puts an image in the place of the one that IMAGE has, all or nothing. `now` is what IMAGE has, with no log beside it,
 /// and both are synced, as `land` leaves them. A power loss at any moment, and an error, leave a folder that gives `now` or
-/// `shop`; at Ok IMAGE is `shop`, with no log.
+/// `shop`; at Ok IMAGE is `shop`, with no log. At `Unbegun`, and until then, the folder has `now`, as it was.
 pub fn replace<F: LogFile, D: LogFolder<F>>(
     folder: &mut D,
     room: LogRoom,
     now: &[[u8; 256]],
     shop: &[[u8; 256]],
-) -> io::Result<()>
+) -> Result<(), ReplaceFault>
     requires now { length now.now ≡ 683 }
     requires shop { length shop.now ≡ 683 }
     ensures any_moment { (log : Option (List ℕ)) → RestsWith D.history folder.old log now.now
         → LeavesFolders D.history folder.old folder.new (KeepsOrGives log now.now shop.now) }
     ensures ok { OnOk result ((log : Option (List ℕ)) → RestsWith D.history folder.old log now.now
         → RestsAlone D.history folder.new shop.now) }
+    ensures unbegun { IfErr result (λ fault. IsUnbegun fault → (log : Option (List ℕ)) → RestsWith D.history folder.old log now.now
+        → LeavesFolders D.history folder.old folder.new (IsWith log now.now)) }
     ensures cause { OnErr result (D.history.has_failed folder.new ≡ true) }
 {
-    let file = make_replacing(folder, room, now, shop)?;
+    let file = match make_replacing(folder, room, now, shop) {
+        Ok(file) => file,
+        Err(error) => return Err(ReplaceFault::Unbegun(error)),
+    };
     commit_made(folder, file)?;
     write_changed(folder, now, shop)?;
-    unlog(folder)
+    unlog(folder)?;
+    Ok(())
 }

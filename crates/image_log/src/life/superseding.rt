@@ -46,5 +46,8 @@ pub fn supersede<F: LogFile, D: LogFolder<F>>(
     ensures cause { OnErr result (D.history.has_failed folder.new ≡ true) }
 {
     image_found(folder, now)?;
-    replace(folder, room, now, shop)
+    match replace(folder, room, now, shop) {
+        Ok(()) => Ok(()),
+        Err(fault) => Err(fault.into_error()),
+    }
 }

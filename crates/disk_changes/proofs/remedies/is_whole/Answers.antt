@@ -3,9 +3,15 @@ use Rattle.std.proofs.Common.{subst}
 use Rattle.disk_layout.specs.Clean.{IsClean}
 use Rattle.disk_changes.proofs.remedies.is_whole.Goals as goal
 
-pub returns-in-Ok-clause-ok : goal.returns-in-Ok-clause-ok
-returns-in-Ok-clause-ok c t = (
+pub returns-clause-ok : goal.returns-clause-ok
+returns-clause-ok c = (
   c.in_ok-disk.ensures.ok.0,
-  subst IsClean c.in_ok-disk.ensures.ok.1 (c.in-Ok.ensures.ok.0, c.in-Ok.ensures.ok.1),
-  c.is_uncut.ensures t,
+  (
+    λ t. record {
+      size = c.in_ok-disk.ensures.ok.0;
+      clean = subst IsClean c.in_ok-disk.ensures.ok.1 (c.in-Ok.ensures.ok.0, c.in-Ok.ensures.ok.1);
+      uncut = c.in_ok-uncut.ensures.ok.0 t;
+    },
+    λ whole. c.in_ok-uncut.ensures.ok.1 whole.uncut,
+  ),
 )

@@ -13,14 +13,14 @@ returns-in_err-made g c =
     let never = in-memory c.args.what.now c.args.image.now in
     let p = err_from_is_err_and c.from_residual.result c.from_residual.ensures.1 in
     rw (p.1 ∙ ap Err p.2) (
-      refused g.W.Write.contents (IsChanged c.args.what.now c.args.image.now) Refuses c.args.out.now _ never.0
+      refused g.W.Write.contents (IsChanged c.args.what.now c.args.image.now) Refuses ⊥ c.args.out.now _ never.0
           c.in_err-made.ensures.err,
       λ device. never.1 (subst (λ (r : Result ℕ CommandFault). IfErr r Refuses) device c.in_err-made.ensures.err),
     )
 
 pub returns : goal.returns
 returns g c = (
-  printed g.W.Write.contents (IsChanged c.args.what.now c.args.image.now) (IsRefused c.args.what.now c.args.image.now)
+  printed g.W.Write.contents (IsChanged c.args.what.now c.args.image.now) (IsRefused c.args.what.now c.args.image.now) ⊥
       c.args.out.now c.print.new.out c.in_ok-made.made c.in_ok-made.ensures.ok
       c.print.result c.print.ensures.ok c.print.ensures.part c.print.ensures.err,
   no-device c.print.result c.print.ensures.err,
