@@ -23,13 +23,15 @@ from trial import conduct
 ACT = re.compile(r"(\d+): (.*), after: (.*)")
 FOUND = re.compile(r"seed (\d+), step (\d+): (.*)")
 
+# what can't be left out: without a file there is nothing to go on with
+NO_STEPS = ("the beginning", "make a file")
 HARMLESS: dict[tuple[str, str], str] = {}
 
 
 def main(given):
     simulator = simulator_of(given)
     listed = played(simulator, "--seed", 1, "--seeds", given.amount, "--acts").stdout
-    steps = [it.groups() for it in map(ACT.fullmatch, listed.splitlines()) if it and it[2] != "the beginning"]
+    steps = [it.groups() for it in map(ACT.fullmatch, listed.splitlines()) if it and it[2] not in NO_STEPS]
 
     def tried(step):
         return step, FOUND.search(played(simulator, "--seed", 1, "--seeds", given.amount, "--without", step[0]).stdout)
