@@ -4,7 +4,7 @@ use crate::judging::see_failure;
 use crate::runs::{Ended, Program, draw_plan, run};
 use crate::stops::{Stop, see};
 use crate::stories::Story;
-use crate::words::{CHANGES, COPY, COPYING, FORMAT, PATHS, SCRIPT, SHOW, Words, change_of};
+use crate::words::{CHANGES, COPY, COPYING, FORMAT, PATHS, SCRIPT, SERVE, SHOW, Words, change_of};
 use simulated_machine::{Counted, Machine, Plan};
 use simulated_shop::Shop;
 
@@ -78,6 +78,20 @@ impl<P: Program> Story<'_, P> {
         Ok(is_new)
     }
 
+    /// What comes after a change that wasn't done. If power didn't go, another command first brings to the disk what is there: until
+    /// then a loss of power may still decide whether the change is made.
+    fn end_change(&mut self, ended: &Ended) -> Result<(), Stop> {
+        if !ended.is_stopped {
+            see_failure(ended)?;
+        }
+        let is_lost = ended.is_stopped && self.fall(true)?;
+        self.recover()?;
+        if !is_lost {
+            self.look(&SERVE)?;
+        }
+        Ok(())
+    }
+
     /// Runs a command that changes the disk. Whether the disk is the changed one then.
     fn change_by(&mut self, words: Words) -> Result<bool, Stop> {
         self.counts.add(Event::Change, 1);
@@ -87,14 +101,9 @@ impl<P: Program> Story<'_, P> {
         let input = self.machine.copy_of(b"")?;
         let ended = self.run(words, input, 1, plan)?;
         let is_told = ended.out.as_slice().ends_with(b"\n");
-        if ended.is_stopped {
-            self.fall(true)?;
-            self.recover()?;
-            return self.see_half(&made, is_told);
-        }
-        if !is_same(&ended, &made.ended) {
-            see_failure(&ended)?;
-            self.recover()?;
+        let is_done = is_same(&ended, &made.ended);
+        if ended.is_stopped || !is_done {
+            self.end_change(&ended)?;
             return self.see_half(&made, is_told);
         }
         self.see_half(&made, true)

@@ -15,12 +15,18 @@ const LOG_AWAY: &[u8] = b"LOG AWAY\n";
 const DEPTH: usize = 3;
 
 impl<P: Program> Story<'_, P> {
-    /// The program was stopped: it was killed, or power went.
-    pub(crate) fn fall(&mut self, may_lose_power: bool) -> Result<(), Stop> {
+    /// The program was stopped: it was killed, or power went. Whether power went.
+    pub(crate) fn fall(&mut self, may_lose_power: bool) -> Result<bool, Stop> {
         if !may_lose_power || self.random.once_in(4) {
             self.counts.add(Event::Kill, 1);
-            return Ok(());
+            return Ok(false);
         }
+        self.lose_power()?;
+        Ok(true)
+    }
+
+    /// Power goes.
+    fn lose_power(&mut self) -> Result<(), Stop> {
         self.counts.add(Event::PowerLoss, 1);
         match self.machine.lose_power(&mut self.random) {
             Ok(()) => Ok(()),
@@ -28,10 +34,35 @@ impl<P: Program> Story<'_, P> {
         }
     }
 
+    /// Now and then power goes between two commands. What was done and what was shown stays.
+    pub(crate) fn rest(&mut self) -> Result<(), Stop> {
+        if !self.random.once_in(3) {
+            return Ok(());
+        }
+        self.lose_power()?;
+        self.see_shop(
+            &SHOW,
+            "after a loss of power between two commands the shop is another one",
+        )
+    }
+
+    /// A `play` was killed: the image may not be on the disk until the next command has begun. That one is stopped, too. Power may go
+    /// only if it has made its log.
+    pub(crate) fn settle(&mut self) -> Result<(), Stop> {
+        let plan = draw_strike(&mut self.random, 2000, 24, Strike::Stops);
+        let input = self.machine.copy_of(b"")?;
+        let ended = self.run(&SERVE, input, 1, plan)?;
+        if ended.is_stopped && self.has_log() {
+            self.lose_power()?;
+        }
+        self.look(&SERVE)?;
+        Ok(())
+    }
+
     /// What comes after a run of a command that works over a log.
     pub(crate) fn fall_if_stopped(&mut self, ended: &Ended) -> Result<(), Stop> {
         if ended.is_stopped {
-            return self.fall(true);
+            self.fall(true)?;
         }
         Ok(())
     }

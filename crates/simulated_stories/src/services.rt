@@ -101,7 +101,7 @@ impl<P: Program> Story<'_, P> {
         if is_logged {
             self.recover()?;
         } else {
-            self.look(&SERVE)?;
+            self.settle()?;
         }
         self.find(shop, lines)
     }

@@ -114,8 +114,14 @@ impl<'p, P: Program> Story<'p, P> {
         see(ended.status == 0, "no shop is made")
     }
 
-    /// Plays the next step.
+    /// Plays the next step, after which power may go.
     pub fn step(&mut self) -> Result<(), Stop> {
+        self.act()?;
+        self.rest()
+    }
+
+    /// Does something.
+    fn act(&mut self) -> Result<(), Stop> {
         match self.random.below(24) {
             0..=7 => self.serve(),
             8 | 9 => self.play_sync(),
