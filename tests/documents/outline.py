@@ -21,6 +21,7 @@ NAMES = {
     "Tests": r"tests_",
     "Tools": r"test_|benchmarks$",
     "Example": r"example_",
+    "Simulator": r"simulat(ed_|or$)",
 }
 
 

@@ -20,7 +20,13 @@ from records import chosen  # noqa: E402
 from spec_files import ends_head  # noqa: E402
 
 # the rows of the table, by the headings of crates.txt
-KINDS = {"Product": "the product", "Tests": "tests", "Tools": "tools, examples", "Example": "tools, examples"}
+KINDS = {
+    "Product": "the product",
+    "Tests": "tests",
+    "Tools": "tools, examples",
+    "Example": "tools, examples",
+    "Simulator": "the simulator",
+}
 
 
 def code_and_contract(text):
@@ -91,7 +97,7 @@ def figures(shows):
     refused, seen = (sum(1 for it in mutants if it.tried and it.tried.word == word) for word in ("refused", "seen"))
     for_rows = sum(1 for it in mutants if it.row)
     return [
-        (r"(?:\| (?:the product|tests|tools, examples) \|[^\n]*\n)+", printed),
+        (r"(?:\| (?:the product|tests|tools, examples|the simulator) \|[^\n]*\n)+", printed),
         (r"Beside a line of the product's code stand [^\n]*\n",
          f"Beside a line of the product's code stand {contract / code:.1f} lines of contracts, {definitions / code:.1f} of definitions and "
          f"{proofs / code:.1f} of proofs.\n"),

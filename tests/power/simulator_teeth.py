@@ -1,0 +1,51 @@
+#!/usr/bin/env python3
+"""Tries the simulator itself: each step that the program may not leave out is left out, and the simulator has to find that.
+
+    tests/power/simulator_teeth.py [--amount SEEDS] [--simulator PATH]
+
+A step is a call that changes something, after a call of another kind: for example a sync of the folder after a file was renamed. The
+machine in memory can leave one out: it returns, and does nothing. For the program that is as if the line of the step stood in no source.
+The simulator plays the seeds 1, 2, ... until it finds something wrong. The table that is printed says for each step which seed found
+it. HARMLESS has the steps that needn't be found, each with the reason. The status is 1 if another one isn't found, or if one of HARMLESS
+is."""
+
+import re
+import sys
+from concurrent.futures import ThreadPoolExecutor
+from os import sched_getaffinity
+from pathlib import Path
+
+sys.dont_write_bytecode = True
+sys.path.insert(0, str(Path(__file__).resolve().parents[1] / "lib"))
+from simulators import add_words, played, simulator_of
+from trial import conduct
+
+ACT = re.compile(r"(\d+): (.*), after: (.*)")
+FOUND = re.compile(r"seed (\d+), step (\d+): (.*)")
+
+# what can't be left out: without a file there is nothing to go on with
+NO_STEPS = ("the beginning", "make a file")
+HARMLESS: dict[tuple[str, str], str] = {}
+
+
+def main(given):
+    simulator = simulator_of(given)
+    listed = played(simulator, "--seed", 1, "--seeds", given.amount, "--acts").stdout
+    steps = [it.groups() for it in map(ACT.fullmatch, listed.splitlines()) if it and it[2] not in NO_STEPS]
+
+    def tried(step):
+        return step, FOUND.search(played(simulator, "--seed", 1, "--seeds", given.amount, "--without", step[0]).stdout)
+
+    right = wrong = 0
+    with ThreadPoolExecutor(len(sched_getaffinity(0))) as pool:
+        for (_, act, before), found in pool.map(tried, steps):
+            why = HARMLESS.get((act, before))
+            is_right = bool(found) == (why is None)
+            right, wrong = right + is_right, wrong + (not is_right)
+            said = f"seed {found[1]}: {found[3]}" if found else f"not found: {why or 'IT HAS TO BE'}"
+            print(f"| {act} | {before} | {said} |", flush=True)
+    return right, wrong
+
+
+if __name__ == "__main__":
+    conduct(main, add_words, wants_program=False)
