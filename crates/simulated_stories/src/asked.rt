@@ -3,7 +3,7 @@ use std::env;
 use std::rt::Env;
 
 /// How many stories are played if no word says it.
-const SEEDS: u64 = 40;
+const SEEDS: u64 = 12;
 
 /// Which stories are played.
 #[derive(Clone, Copy)]
@@ -16,6 +16,9 @@ pub(crate) struct Asked {
     pub(crate) hours: u64,
     /// Whether each run is printed.
     pub(crate) shows: bool,
+    /// Whether it is printed how many events of each kind were played. The gate's run has no words, and prints nothing that changes with
+    /// the number of the program's calls.
+    pub(crate) counts: bool,
     /// Which call isn't made, if one isn't; and whether the numbers of calls are printed.
     pub(crate) without: Option<usize>,
     pub(crate) lists: bool,
@@ -27,6 +30,7 @@ const USUAL: Asked = Asked {
     seeds: SEEDS,
     hours: 0,
     shows: false,
+    counts: false,
     without: None,
     lists: false,
 };
@@ -62,6 +66,7 @@ fn number_in(word: &String) -> Option<u64> {
 /// What these words ask for. None if they are no such words.
 fn read_all(words: &[String]) -> Option<Asked> {
     let mut asked = USUAL;
+    asked.counts = words.len() > 1;
     let mut is_number = true;
     for (at, word) in words.iter().enumerate() {
         if is_number {

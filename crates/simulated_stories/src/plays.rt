@@ -58,6 +58,7 @@ fn print_end<R: Print>(rt: &R, seed: u64, step: u64, stop: Stop) -> io::Result<(
 /// What was played.
 #[derive(Clone, Copy)]
 struct Played {
+    stories: u64,
     counts: Counts,
     acts: Acts,
 }
@@ -75,6 +76,7 @@ fn play_seed<R: Print + AllocGlobal, P: Program>(
         story.leave_out(number);
     }
     let ended = play_steps(rt, &mut story, seed, asked.shows)?;
+    all.stories = all.stories.saturating_add(1);
     all.counts.add_all(&story.counts());
     all.acts.add_all(&story.acts());
     match ended {
@@ -159,11 +161,17 @@ where
         return Ok(2);
     };
     let mut all = Played {
+        stories: 0,
         counts: Counts::NONE,
         acts: Acts::ALL,
     };
     let is_right = play_all(rt, program, &asked, &mut all)?;
-    print_counts(rt, &all.counts)?;
+    if is_right {
+        println!(rt; "{} stories: the program did nothing wrong", all.stories)?;
+    }
+    if asked.counts {
+        print_counts(rt, &all.counts)?;
+    }
     if asked.lists {
         print_acts(rt, &all.acts)?;
     }
