@@ -1,13 +1,12 @@
 #!/usr/bin/env python3
-"""Tries the simulator itself: each step that the program may not leave out is left out, and the simulator has to find that.
+"""Tries the simulator itself: each step of a log's life is left out in turn, and the table that is printed says which seed found that.
 
     tests/power/simulator_teeth.py [--amount SEEDS] [--simulator PATH]
 
 A step is a call that changes something, after a call of another kind: for example a sync of the folder after a file was renamed. The
 machine in memory can leave one out: it returns, and does nothing. For the program that is as if the line of the step stood in no source.
-The simulator plays the seeds 1, 2, ... until it finds something wrong. The table that is printed says for each step which seed found
-it. HARMLESS has the steps that needn't be found, each with the reason. The status is 1 if another one isn't found, or if one of HARMLESS
-is."""
+The simulator plays the seeds 1, 2, ... until it finds something wrong. The status is 1 if a step of MUST isn't found. Of the others
+some needn't be found, since another step does the same later."""
 
 import re
 import sys
@@ -25,7 +24,8 @@ FOUND = re.compile(r"seed (\d+), step (\d+): (.*)")
 
 # what can't be left out: without a file there is nothing to go on with
 NO_STEPS = ("the beginning", "make a file")
-HARMLESS: dict[tuple[str, str], str] = {}
+# the steps that were found, each with the kind of call before it
+MUST = {("write the mark", "sync the log")}
 
 
 def main(given):
@@ -39,10 +39,9 @@ def main(given):
     right = wrong = 0
     with ThreadPoolExecutor(len(sched_getaffinity(0))) as pool:
         for (_, act, before), found in pool.map(tried, steps):
-            why = HARMLESS.get((act, before))
-            is_right = bool(found) == (why is None)
-            right, wrong = right + is_right, wrong + (not is_right)
-            said = f"seed {found[1]}: {found[3]}" if found else f"not found: {why or 'IT HAS TO BE'}"
+            lacks = not found and (act, before) in MUST
+            right, wrong = right + (not lacks), wrong + lacks
+            said = f"seed {found[1]}, step {found[2]}: {found[3]}" if found else "IT HAS TO BE FOUND" if lacks else "not found"
             print(f"| {act} | {before} | {said} |", flush=True)
     return right, wrong
 
