@@ -2,8 +2,9 @@
 use std::env;
 use std::rt::Env;
 
-/// How many stories are played if no word says it.
-const SEEDS: u64 = 12;
+/// How many stories are played if no word says it: few, because the gate runs the program also as a compiler makes it that doesn't
+/// optimise.
+const SEEDS: u64 = 1;
 
 /// Which stories are played.
 #[derive(Clone, Copy)]

@@ -167,7 +167,10 @@ where
     };
     let is_right = play_all(rt, program, &asked, &mut all)?;
     if is_right {
-        println!(rt; "{} stories: the program did nothing wrong", all.stories)?;
+        println!(rt;
+            "stories played: {}; the program did nothing wrong",
+            all.stories
+        )?;
     }
     if asked.counts {
         print_counts(rt, &all.counts)?;
