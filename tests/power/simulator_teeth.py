@@ -25,7 +25,33 @@ FOUND = re.compile(r"seed (\d+), step (\d+): (.*)")
 # what can't be left out: without a file there is nothing to go on with
 NO_STEPS = ("the beginning", "make a file")
 # the steps that were found, each with the kind of call before it
-MUST = {("write the mark", "sync the log")}
+MUST = {
+    ("sync the log", "the beginning"),
+    ("remove a name", "sync the folder"),
+    ("rename a file", "sync the folder"),
+    ("write IMAGE", "sync the folder"),
+    ("write the mark", "sync the folder"),
+    ("remove a name", "sync IMAGE"),
+    ("write IMAGE", "sync IMAGE"),
+    ("write the log", "sync IMAGE"),
+    ("write IMAGE", "sync the log"),
+    ("write the log", "sync the log"),
+    ("write the mark", "sync the log"),
+    ("write the log in the making", "sync the log in the making"),
+    ("give a second name", "sync another file"),
+    ("write another file", "sync another file"),
+    ("set a length", "make a file"),
+    ("sync the folder", "remove a name"),
+    ("sync the folder", "rename a file"),
+    ("remove a name", "give a second name"),
+    ("sync IMAGE", "write IMAGE"),
+    ("sync the log", "write the log"),
+    ("sync the log in the making", "write the log in the making"),
+    ("write the mark", "write the log in the making"),
+    ("sync another file", "write another file"),
+    ("sync the log", "write the mark"),
+    ("sync the log in the making", "write the mark"),
+}
 
 
 def main(given):
