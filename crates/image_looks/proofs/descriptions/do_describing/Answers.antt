@@ -5,7 +5,7 @@ use Rattle.std.specs.Io.KnownBytes.{Appends}
 use Rattle.image_looks.specs.EachImage.{AreHandedOn, IsReadAt}
 use Rattle.image_looks.specs.Descriptions.{IsDescribedFrom, heading_of}
 use Rattle.image_looks.proofs.EachTold.{cut-off, several-told, several-weaker}
-use Rattle.opened_files.specs.declared.extents.Extent.TheVariants.{Disk}
+use Rattle.image_looks.specs.Extents.{form_extent}
 use Rattle.image_looks.proofs.descriptions.do_describing.Goals as goal
 
 pub returns-in_err-greatest : goal.returns-in_err-greatest
@@ -15,7 +15,7 @@ returns-in_err-greatest g c =
 
 pub returns : goal.returns
 returns g c =
-    let reads = IsReadAt g.R.HostFiles.rights g.R.HostFiles.stands c.args.rt.now Disk in
+    let reads = IsReadAt g.R.HostFiles.rights g.R.HostFiles.stands c.args.rt.now (form_extent c.args.form) in
     let paths = map (λ path. path.now) c.args.paths.now in
     let told = g.W.Write.contents in
     let below = c.print_heading.new.out in

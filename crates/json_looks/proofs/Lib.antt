@@ -1,0 +1,2 @@
+pub mod Depths
+pub mod Gathered
