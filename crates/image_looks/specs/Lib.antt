@@ -10,3 +10,4 @@ pub mod Overviews
 pub mod Plans
 pub mod Reports
 pub mod SheetPages
+pub mod WiderMaps
