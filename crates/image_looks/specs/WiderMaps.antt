@@ -33,9 +33,9 @@ line_if is line = if is then line else []
 -- the lines of an image that has these tracks: DolphinDOS keeps the map from byte AC on, SpeedDOS from C0 on, PrologicDOS from 90 on
 unfoldable pub lines_of : (image : List ℕ) → List ℕ
 lines_of image =
-    line_if (is_map image 172) (codes "MAP40 DOLPHINDOS\n")
-    ++ (line_if (is_map image 192) (codes "MAP40 SPEEDDOS\n")
-    ++ line_if (is_map image 144) (codes "MAP40 PROLOGICDOS\n"))
+    line_if (is_map image 172) (codes "DOLPHINDOS 36-40\n")
+    ++ (line_if (is_map image 192) (codes "SPEEDDOS 36-40\n")
+    ++ line_if (is_map image 144) (codes "PROLOGICDOS 36-40\n"))
 
 -- an image with fewer tracks has none
 abbrev pub maps_text : (image : List ℕ) → List ℕ

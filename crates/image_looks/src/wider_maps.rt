@@ -95,9 +95,9 @@ fn lines_of_long(alloc: Global, image: &[u8]) -> Result<Vec<u8>, CommandFault>
     ensures err { IfErr result (λ fault. fault ≡ faults.NoMemory) }
 {
     let mut lines = Vec::new(alloc);
-    add_line(&mut lines, image, 0xAC, b"MAP40 DOLPHINDOS\n")?;
-    add_line(&mut lines, image, 0xC0, b"MAP40 SPEEDDOS\n")?;
-    add_line(&mut lines, image, 0x90, b"MAP40 PROLOGICDOS\n")?;
+    add_line(&mut lines, image, 0xAC, b"DOLPHINDOS 36-40\n")?;
+    add_line(&mut lines, image, 0xC0, b"SPEEDDOS 36-40\n")?;
+    add_line(&mut lines, image, 0x90, b"PROLOGICDOS 36-40\n")?;
     Ok(lines)
 }
 

@@ -117,11 +117,7 @@ fn add_misread(places: &mut Vec<Place>, image: &[u8], place: Place) -> Result<()
 }
 
 /// Those of these blocks that weren't read. The only error is `NoMemory`.
-fn misread_among(
-    alloc: Global,
-    image: &[u8],
-    blocks: &[Place],
-) -> Result<Vec<Place>, CommandFault>
+fn misread_among(alloc: Global, image: &[u8], blocks: &[Place]) -> Result<Vec<Place>, CommandFault>
     ensures ok { IfOk result (λ places. places.items ≡ filter (errors.is_misread image.now) blocks.now) }
     ensures err { IfErr result (λ fault. fault ≡ faults.NoMemory) }
 {
