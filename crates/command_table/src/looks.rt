@@ -83,8 +83,8 @@ sound. --json goes before --csv, and both before --all and --as-is.
 With --as-is it takes an image of 40 or 42 tracks, or with error bytes, too, and
 checks its first 35 tracks. After that it prints a line for each sector that the
 drive couldn't read, ERROR 23 17/4 \"MENU\", and for each file that goes on beyond
-track 35, BEYOND 17/4 \"MENU\". Then the status isn't 0. SPEEDDOS 36-40 names a
-map of these tracks that SpeedDOS keeps in 18/0; DolphinDOS and PrologicDOS, too.
+track 35, BEYOND 17/4 \"MENU\". Then the status isn't 0. SPEEDDOS 36-40 says that
+SpeedDOS keeps a map of these tracks in 18/0; DOLPHINDOS and PROLOGICDOS, too.
 
 Exit status:
   0  OK
