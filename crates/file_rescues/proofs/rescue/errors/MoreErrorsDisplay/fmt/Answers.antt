@@ -1,5 +1,5 @@
 -- One block more was written.
-use Rattle.std.proofs.Common.{◌++◌, [], ap, arith, get_or, refl, sym, take, true, ◌∙◌}
+use Rattle.std.proofs.Common.{◌++◌, ◌∷◌, [], ap, arith, get_or, refl, sym, take, true, ◌∙◌}
 use Rattle.std.proofs.lemmas.Grind.{put_two}
 use Rattle.std.proofs.lemmas.List.{flat_map_more, take_more}
 use Rattle.std.specs.Prelude.{codes, flat_map, ℕ, List}
@@ -16,4 +16,5 @@ loop-place-preserved g c = λ plain.
     put_two g.W.Write.write_str_gives c.args.f.now c.loop-place.f c.write.new.self _ _ _ so_far
     (c.in_ok-write.ensures.writes so_far.plain (refl {a = true}))
     (flat_map_more one [] (take i places) c.place-item.result
-    ∙ ap (flat_map one) (sym (take_more places i _ (omega arith) ∙ ap (λ (p : Place). take i places ++ p ∷ []) c.place-item.is)))
+    ∙ ap (flat_map one) (sym (take_more places i c.place-item.result (omega (arith, c.loop-place-test.true))
+    ∙ ap (λ (p : Place). take i places ++ p ∷ []) (sym c.place-item.is))))
