@@ -1,9 +1,12 @@
 -- How deep the objects nest.
 use Rattle.std.proofs.Common.{◌≤◌, ◌++◌, ◌∷◌, [], ℕ, zero, suc, List, None, Option, Some, arith, map}
+use Rattle.d64_image.specs.Images.{Sector}
 use Rattle.disk_layout.specs.declared.slot.Slot.{Slot}
 use Rattle.geos_files.specs.Entries.{geos_entry}
 use Rattle.geos_files.specs.declared.entries.GeosEntry.{GeosEntry}
 use Rattle.json_looks.specs.Entries.{count_if, entry_data, geos_members, record_length_of}
+use Rattle.json_looks.specs.FreeCounts.{free_data, track_data}
+use Rattle.json_looks.specs.Listings.{list_data}
 use Rattle.json_looks.specs.Objects.{up_to}
 use Rattle.serde_json.specs.Data.{Data, depth, items_depth}
 use Rattle.serde_json.specs.View.{items_of}
@@ -49,4 +52,20 @@ pub entry-flat : (s : Slot) → depth (entry_data s) ≤ 2
 entry-flat s =
     let geos = geos-flat s (geos_entry s) in
     let length = count-flat (record_length_of s) in
+    omega arith
+
+-- a directory
+pub list-flat : (name : List ℕ) (bytes : Sector) (entries : List Slot) → depth (list_data name bytes entries) ≤ 127
+list-flat name bytes entries =
+    let inner = items-flat 2 (map entry_data entries) (mapped-flat 2 entry_data entry-flat entries) in
+    omega arith
+
+track-flat : (bytes : Sector) (track : ℕ) → AreFlat 1 (track_data bytes track ∷ [])
+track-flat bytes track = (omega arith, tt)
+
+-- the free sectors
+pub free-flat : (name : List ℕ) (bytes : Sector) → depth (free_data name bytes) ≤ 127
+free-flat name bytes =
+    let each : ℕ → List Data = λ track. track_data bytes track ∷ [] in
+    let inner = items-flat 1 (up_to 35 each) (numbered-flat 1 each (track-flat bytes) 35) in
     omega arith

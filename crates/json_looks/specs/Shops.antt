@@ -47,14 +47,18 @@ abbrev pub till_items : State → ℕ → List Data
 till_items state n = up_to n (λ till. till_item till (option_map (told_of till) (state.ledger.kept till))
     (option_map (told_of till) (state.prior till)))
 
--- an image of this name that is a shop's: its cards, its tills, and how far new cards may go
-abbrev pub shop_data : (name : List ℕ) → (top : ℕ) → State → Data
-shop_data name top state =
-    object (member (codes "cards") (array (items_of (card_items state 10160)))
+-- an image of this name with these cards and tills, and how far new cards may go
+abbrev pub shop_with : (name : List ℕ) → (top : ℕ) → (cards tills : List Data) → Data
+shop_with name top cards tills =
+    object (member (codes "cards") (array (items_of cards))
     (member (codes "name") (string name)
     (member (codes "refused") null
-    (member (codes "tills") (array (items_of (till_items state 64)))
+    (member (codes "tills") (array (items_of tills))
     (member (codes "top") (count top) no_members)))))
+
+-- an image of this name that is a shop's: its cards and its tills
+abbrev pub shop_data : (name : List ℕ) → (top : ℕ) → State → Data
+shop_data name top state = shop_with name top (card_items state 10160) (till_items state 64)
 
 -- the image is a shop's, and what is shown of that was printed as such an object
 pub record IsShown {W : Type 0} (contents : W → Option (List ℕ)) (name image : List ℕ) (old new : W) : Type 0 where

@@ -1,6 +1,12 @@
 //! Entries of the directory, as objects.
-ghost use Rattle.std.specs.Prelude.{◌≡◌, IfOk, map, option_map};
+ghost use Rattle.std.specs.Int.{bit_at};
+ghost use Rattle.std.specs.Prelude.{◌≡◌, ◌%◌, IfOk, map, nat_eq, nat_le, string_bytes};
+ghost use Rattle.damaged_files.specs.reached.Names.{name_of};
+ghost use Rattle.damaged_files.specs.reached.Types.{type_name as name_of_type};
+ghost use Rattle.disk_layout.specs.Directory.{type_byte};
+ghost use Rattle.disk_layout.specs.Layout.{count_field};
 ghost use Rattle.json_looks.specs.Entries.{entry_data, record_length_of};
+ghost use Rattle.line_text.specs.bytes.Texts.{text_of};
 ghost use Rattle.serde_json.specs.View.{view};
 
 use crate::geos_types::geos_value;
@@ -22,26 +28,60 @@ fn record_length(slot: &Slot) -> Option<u8>
     }
 }
 
+/// Whether the entry is closed.
+fn is_closed(slot: &Slot) -> bool
+    ensures { result ≡ nat_le 128 (type_byte slot.now) }
+{
+    slot.bytes[2] >= 128
+}
+
+/// Whether the entry is locked.
+fn is_locked(slot: &Slot) -> bool
+    ensures { result ≡ nat_eq (bit_at (type_byte slot.now) 6) 1 }
+{
+    (slot.bytes[2] >> 6) & 1 == 1
+}
+
+/// The entry's block count as stored.
+fn block_count(slot: &Slot) -> u16
+    ensures { result ≡ count_field slot.now }
+{
+    EntryView::new(&slot.bytes).block_count()
+}
+
+/// The name of the entry's type, closed or not.
+fn kind_name(slot: &Slot) -> &'static str
+    ensures { result.now ≡ name_of_type (type_byte slot.now % 64) }
+{
+    type_name(slot.bytes[2] % 64)
+}
+
+/// The name of an entry, as it can be typed.
+fn typed_name(alloc: Global, slot: &Slot) -> Result<String, AllocError>
+    ensures { IfOk result (λ name. string_bytes name ≡ text_of (name_of slot.now)) }
+{
+    match format!(in alloc; "{}", Text(entry_name(slot))) {
+        Ok(name) => Ok(name),
+        Err(_) => Err(AllocError),
+    }
+}
+
 /// The object of an entry: its name, its type, and what its bytes say.
 fn entry_value(alloc: Global, slot: &Slot) -> Result<Value, AllocError>
     ensures { IfOk result (λ value. view value ≡ entry_data slot.now) }
 {
-    let Ok(name) = format!(in alloc; "{}", Text(entry_name(slot))) else {
-        return Err(AllocError);
-    };
+    let name = typed_name(alloc, slot)?;
     let geos = geos_value(alloc, slot)?;
-    let entry = EntryView::new(&slot.bytes);
-    let byte = entry.type_byte();
     json!(in alloc; {
-        "blocks": entry.block_count(),
-        "closed": byte >= 128,
+        "blocks": block_count(slot),
+        "closed": is_closed(slot),
         "geos": geos,
-        "locked": (byte >> 6) & 1 == 1,
+        "locked": is_locked(slot),
         "name": name,
         "record_length": record_length(slot),
         "sector": slot.bytes[4],
         "track": slot.bytes[3],
-        "type": type_name(byte % 64)
+        "type": kind_name(slot)
     })
 }
 

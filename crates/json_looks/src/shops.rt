@@ -3,7 +3,7 @@ ghost use Rattle.std.specs.Prelude.{◌≡◌, ◌≢◌, ◌++◌, IfErr, IfOk,
 ghost use Rattle.command_faults.specs.declared.faults.CommandFault.TheVariants as faults;
 ghost use Rattle.host_session.specs.shop.Shop.{IsShop, Shop};
 ghost use Rattle.json_looks.specs.Objects.{IsObjectFault, IsObjectPrinted};
-ghost use Rattle.json_looks.specs.Shops.{IsShown, card_data, card_item, card_items, shop_data, till_item, till_items, told_data};
+ghost use Rattle.json_looks.specs.Shops.{IsShown, card_data, card_item, card_items, shop_data, shop_with, till_item, till_items, told_data};
 ghost use Rattle.serde_json.specs.View.{view};
 ghost use Rattle.shop_commands.specs.Shops.{IsShowFault};
 
@@ -97,10 +97,10 @@ fn add_till(
 ) -> Result<(), AllocError>
     ensures { OnOk result (map view values.new.items ≡ map view values.old.items ++ till_item till kept prior) }
 {
-    if kept.is_none() {
+    let Some(told) = kept else {
         return Ok(());
-    }
-    let last = told_value(alloc, kept)?;
+    };
+    let last = told_value(alloc, Some(told))?;
     let prior = told_value(alloc, prior)?;
     values.push(json!(in alloc; {"last": last, "prior": prior, "till": till})?)?;
     Ok(())
@@ -124,6 +124,25 @@ fn till_values<D: Sectors>(alloc: Global, session: &Session<D>) -> Result<Vec<Va
     Ok(values)
 }
 
+/// The object of an image: how far new cards may go, and these cards and tills.
+fn shop_of(
+    alloc: Global,
+    name: &str,
+    top: u16,
+    cards: Vec<Value>,
+    tills: Vec<Value>,
+) -> Result<Value, AllocError>
+    ensures { IfOk result (λ value. view value ≡ shop_with name.now top (map view cards.items) (map view tills.items)) }
+{
+    json!(in alloc; {
+        "cards": cards,
+        "name": name,
+        "refused": null,
+        "tills": tills,
+        "top": top
+    })
+}
+
 /// The object of an image: how far new cards may go, the cards, and the last requests of the tills.
 fn shop_value<D: Sectors>(
     alloc: Global,
@@ -136,13 +155,7 @@ fn shop_value<D: Sectors>(
 {
     let cards = card_values(alloc, session)?;
     let tills = till_values(alloc, session)?;
-    json!(in alloc; {
-        "cards": cards,
-        "name": name,
-        "refused": null,
-        "tills": tills,
-        "top": session.top()
-    })
+    shop_of(alloc, name, session.top(), cards, tills)
 }
 
 /// Prints the object of an open shop.
@@ -153,6 +166,7 @@ fn print_shop<D: Sectors, W: Write>(
     out: &mut W,
 ) -> Result<(), CommandFault>
     requires alive { session.now.dead ≡ false }
+    requires is_shop { (s : Shop) × IsShop (D.history.image session.now.disk) s }
     ensures ok { (s : Shop) → IsShop (D.history.image session.now.disk) s
         → OnOk result (IsObjectPrinted W.contents (shop_data name.now s.top s.state) out.old out.new) }
     ensures err { IfErr result IsObjectFault }

@@ -167,14 +167,14 @@ pub(crate) fn showing<'a>(
 ) -> Result<Job<'a>, JobFault>
     ensures { IsShowingJob (rows_of (found_of matches.now)) what object result }
 {
-    if !is_given(matches, "json") {
-        return viewing(alloc, matches, what);
-    }
     let Some(images) = values_of(matches, "IMAGE") else {
         // A parse without an image is refused.
         return Err(JobFault::Words(Error::from(AllocError)));
     };
-    described(alloc, ImageForm::Shown(object), images)
+    if is_given(matches, "json") {
+        return described(alloc, ImageForm::Shown(object), images);
+    }
+    viewing(alloc, matches, what)
 }
 
 /// How a plan is to be printed.

@@ -28,11 +28,11 @@ shown-met rows what object images r given told (inl (all, same, items)) =
 shown-met rows what object images r given told (inr none) = inr (inr none)
 
 pub returns-then-is_given : goal.returns-then-is_given
-returns-then-is_given c = inl (?, c.viewing.ensures)
+returns-then-is_given c =
+    let rows = rows_of (found_of c.args.matches.now) in
+    shown-met rows c.args.what c.args.object c.in-Some.images.now c.described.result (sym c.is_given.ensures ∙ c.if-is_given.true)
+    (given-values c.values_of.result c.in-Some.images (all_of (codes "IMAGE") rows) c.in-Some.is c.values_of.ensures)
+    c.described.ensures
 
 pub returns : goal.returns
-returns c =
-    let rows = rows_of (found_of c.args.matches.now) in
-    shown-met rows c.args.what c.args.object c.in-Some.images.now c.described.result ?
-    (given-values c.values_of.result c.in-Some.images (all_of (codes "IMAGE") rows) c.in-Some.is
-    c.values_of.ensures) c.described.ensures
+returns c = inl (sym c.is_given.ensures ∙ c.if-is_given.false, c.viewing.ensures)
