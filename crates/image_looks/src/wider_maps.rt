@@ -1,5 +1,5 @@
 //! Maps of tracks 36 to 40, which systems of other drives keep in 18/0.
-ghost use Rattle.std.specs.Prelude.{◌≡◌, ◌≤◌, ◌++◌, IfErr, IfOk, OnOk, length};
+ghost use Rattle.std.specs.Prelude.{◌≡◌, ◌<◌, ◌≤◌, ◌++◌, IfErr, IfOk, OnOk, length};
 ghost use Rattle.command_faults.specs.declared.faults.CommandFault.TheVariants as faults;
 ghost use Rattle.image_looks.specs.WiderMaps as maps;
 ghost use Rattle.image_looks.specs.WiderMaps.{lines_of, maps_text};
