@@ -3,8 +3,8 @@
 
     tests/package/release.py
 
-Each file there is in SHA256SUMS and has that sum, and VERDICTS, if it is there, is of the program that BUILT_FROM names. Where BUILT_FROM names the files here, the released program passes the session of
-the README. Where it names this kit too, the program that `rt ci` just built has the same bytes, and so has the one in the package for
+Each file there is in SHA256SUMS and has that sum, and VERDICTS, if it is there, is of the program that BUILT_FROM names. Where BUILT_FROM
+names the files here, the released program passes the session of the README. Where it names this kit too, the program that `rt ci` just built has the same bytes, and so has the one in the package for
 Debian. Without a release of these files nothing is compared. The last line says what was done; the status is 1 at a difference."""
 
 import hashlib
