@@ -78,7 +78,8 @@ sound. --json goes before --csv, and both before --all and --as-is.
 With --as-is it takes an image of 40 or 42 tracks, or with error bytes, too, and
 checks its first 35 tracks. After that it prints a line for each sector that the
 drive couldn't read, ERROR 23 17/4 \"MENU\", and for each file that goes on beyond
-track 35, BEYOND 17/4 \"MENU\". Then the status isn't 0.
+track 35, BEYOND 17/4 \"MENU\". Then the status isn't 0. SPEEDDOS 36-40 says that
+SpeedDOS keeps a map of these tracks in 18/0; DOLPHINDOS and PROLOGICDOS, too.
 
 Exit status:
   0  OK
@@ -125,7 +126,7 @@ It draws a damaged disk too, as far as its links can be followed:
   a  a block of the file with letter a  !  the sector of the fault
   A  a side sector of that file
 If the image has 40 or 42 tracks, or error bytes, it draws the first 35 tracks,
-and prints ERROR and BEYOND at the end, as check --as-is does.
+and prints ERROR, BEYOND and SPEEDDOS at the end, as check --as-is does.
 With several images each line begins with the image's name, also for an image
 that is refused. The exit status is then the highest of all.
 

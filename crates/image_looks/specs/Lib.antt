@@ -11,3 +11,4 @@ pub mod Plans
 pub mod Reports
 pub mod SheetPages
 pub mod ShownObjects
+pub mod WiderMaps

@@ -15,7 +15,7 @@ use Rattle.image_looks.specs.Extents.{extent_of, form_extent}
 use Rattle.image_looks.specs.Extracts.{IsExtractedTo}
 use Rattle.opened_files.specs.Extents.{taken_as}
 use Rattle.opened_files.specs.HostFiles.{OfImage, RunEnds}
-use Rattle.opened_files.specs.declared.extents.Extent.TheVariants.{FirstTracks}
+use Rattle.opened_files.specs.declared.extents.Extent.TheVariants.{FirstTracks, Whole}
 use Rattle.image_looks.specs.Looks.{IsLook}
 use Rattle.image_looks.specs.Overviews.{IsOverviewOf}
 use Rattle.image_looks.specs.SheetPages.{IsSheetPrinted}
@@ -55,4 +55,4 @@ module _ {H F W : Type 0} (rights : Rights H) (stands : H → List ℕ → Stand
   abbrev pub IsExtractedFrom : Choice → (path folder : List ℕ) → W → W → JobEnd → Type 0
   IsExtractedFrom choice path folder old new end = OfImage rights stands host path
       (λ all. RunEnds old new end ((at : List ℕ) × ((folder ≡ at) ⊎ (folder ≡ at ++ codes "/"))
-      × IsExtractedTo remains traces contents host choice at (taken_as FirstTracks all) old new end))
+      × IsExtractedTo remains traces contents host choice at (taken_as Whole all) old new end))

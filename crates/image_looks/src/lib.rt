@@ -13,6 +13,7 @@ mod overviews;
 mod plans;
 mod reporting;
 mod sheets;
+mod wider_maps;
 
 pub use comparisons::{comparing_run, do_comparing};
 pub use descriptions::{ImageForm, do_describing};

@@ -4,6 +4,7 @@ ghost use Rattle.opened_files.specs.Rights.{MayLook};
 
 use crate::job_files::{first_file, image_of};
 use crate::jobs::Job;
+use crate::made_paths::tell_ten_of_first;
 use crate::read_again::text_again;
 use crate::text_warnings::takes_no_file;
 use image_edits::Edit;
@@ -123,7 +124,7 @@ fn tell_long<R: HostFiles, E: Write>(rt: &R, job: &Job<'_>, err: &mut E) -> bool
 fn tell_unread<R: HostFiles + AllocGlobal, E: Write>(rt: &R, job: &Job<'_>, err: &mut E)
     requires { MayExplain R.rights rt.now job.now }
 {
-    if tell_long(rt, job, err) {
+    if tell_long(rt, job, err) || tell_ten_of_first(rt, job, err) {
         return;
     }
     match job {
