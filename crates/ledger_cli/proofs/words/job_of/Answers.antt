@@ -56,11 +56,11 @@ returns-in-None c = record {
 pub returns-in-list : goal.returns-in-list
 returns-in-list c =
     let rows = rows_of (found_of c.in-Some.found.now) in
-    let shown = subst (λ (what : Look). IsShowingJob rows what (objects.List c.is_given.result) c.showing.result)
+    let shown = subst (λ (what : Look). IsShowingJob rows what (objects.List c.is_given-as_is.result) c.showing.result)
     c.disk_look-what.ensures c.showing.ensures in
-    let met = showing-met c.parsed_subcommand.result _ c.in-Some.name c.in-Some.found _ (objects.List c.is_given.result)
+    let met = showing-met c.parsed_subcommand.result _ c.in-Some.name c.in-Some.found _ (objects.List c.is_given-as_is.result)
     c.showing.result c.parsed_subcommand.ensures c.in-Some.is c.in-list.is
-    (λ plain. list-met rows _ c.name_form.result refl c.name_form.ensures plain) c.is_given.ensures shown in
+    (λ plain. list-met rows _ c.name_form.result refl c.name_form.ensures plain) c.is_given-as_is.ensures shown in
     record { job = met.0; fit = met.1 }
 
 pub returns-in-check : goal.returns-in-check
@@ -78,12 +78,12 @@ returns-in-plan c =
 pub returns-in-show : goal.returns-in-show
 returns-in-show c =
     let rows = rows_of (found_of c.in-Some.found.now) in
-    let object = objects.Show c.loss.result c.is_given-in-show.result in
-    let shown = subst (λ (what : Look). IsShowingJob rows what object c.showing-in-show.result) c.disk_look.ensures
+    let object = objects.Show c.loss-loss.result c.is_given-as_is-in-show.result in
+    let shown = subst (λ (what : Look). IsShowingJob rows what object c.showing-in-show.result) c.disk_look-what-in-show.ensures
     c.showing-in-show.ensures in
     let met = showing-met c.parsed_subcommand.result _ c.in-Some.name c.in-Some.found _ object c.showing-in-show.result
     c.parsed_subcommand.ensures c.in-Some.is c.in-show.is
-    (λ plain. show-met rows _ c.loss.result refl c.loss.ensures plain) (c.loss.ensures, c.is_given-in-show.ensures) shown in
+    (λ plain. show-met rows _ c.loss-loss.result refl c.loss-loss.ensures plain) (c.loss-loss.ensures, c.is_given-as_is-in-show.ensures) shown in
     record { job = met.0; fit = met.1 }
 
 pub returns-in-play : goal.returns-in-play
@@ -110,7 +110,7 @@ returns-in-dry c = record {
 pub returns-in-serve : goal.returns-in-serve
 returns-in-serve c = record {
   job = met-has c.parsed_subcommand.result _ c.in-Some.name c.in-Some.found _ _ c.parsed_subcommand.ensures c.in-Some.is c.in-serve.is
-      (c.value_of-image.ensures, c.loss-in-serve.ensures);
+      (c.value_of-image.ensures, c.loss.ensures);
   fit = tt;
 }
 
@@ -280,8 +280,8 @@ returns-in-title c =
 
 pub returns-in-map : goal.returns-in-map
 returns-in-map c =
-    let met = viewing-met c.parsed_subcommand.result _ c.in-Some.name c.in-Some.found looks.Map c.viewing-in-map.result
-    c.parsed_subcommand.ensures c.in-Some.is c.in-map.is tt tt c.viewing-in-map.ensures in
+    let met = viewing-met c.parsed_subcommand.result _ c.in-Some.name c.in-Some.found looks.Map c.viewing.result
+    c.parsed_subcommand.ensures c.in-Some.is c.in-map.is tt tt c.viewing.ensures in
     record { job = met.0; fit = met.1 }
 
 pub returns-in-picture : goal.returns-in-picture
