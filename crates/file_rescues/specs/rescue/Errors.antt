@@ -19,7 +19,6 @@ abbrev pub place_error_text : Place → Option ℕ → List ℕ
 place_error_text p None = []
 place_error_text p (Some e) = place_text p ++ (codes ":" ++ error_number e)
 
--- the same of a block of an image
 abbrev pub misread_text : (image : List ℕ) → Place → List ℕ
 misread_text image p = place_error_text p (error_of image p)
 
