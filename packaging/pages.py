@@ -285,7 +285,7 @@ def man_page(program, words, version, name, commit):
     lines += [".SH FILES", ".TP", f".I /usr/share/doc/{escaped(name)}",
               "The folder of the pages that are named here, for example docs/KEEPERS.md. Its folder examples/disks has the disks of the",
               f"examples. In the tarball it is share/doc/{escaped(name)}."]
-    lines += [".SH VERSION", f"{escaped(version)}, of commit {commit}.", ".SH SEE ALSO", ".BR ledger\\-shop (1)"]
+    lines += [".SH VERSION", f"{escaped(version)}, of the commit", ".br", f"{commit}.", ".SH SEE ALSO", ".BR ledger\\-shop (1)"]
     return "\n".join(lines) + "\n"
 
 
