@@ -1,5 +1,6 @@
 """What is kept of trials, and the pages that are made of it and of tests/trials.toml: tests/README.md, and the table of docs/TRIALS.md."""
 
+import fcntl
 import re
 from dataclasses import dataclass
 from pathlib import Path
@@ -70,9 +71,11 @@ def runs() -> dict[str, Run]:
 
 
 def keep(run: Run) -> None:
-    """Keeps a run, in the place of an earlier one of the same trial."""
-    kept = {**runs(), run.name: run}
-    RECORD.write_text("".join(f"{kept[it]}\n" for it in sorted(kept)))
+    """Keeps a run, in the place of an earlier one of the same trial; runs of `./trials` side by side wait for each other here."""
+    with open(RECORD, "a") as lock:
+        fcntl.flock(lock, fcntl.LOCK_EX)
+        kept = {**runs(), run.name: run}
+        RECORD.write_text("".join(f"{kept[it]}\n" for it in sorted(kept)))
 
 
 def named(group: str, name: str) -> str:

@@ -37,6 +37,7 @@ STEPS = {
     'mark': 'IMAGE is written before the mark is synced',
     'image': 'the log is removed before IMAGE is synced',
     'removed': 'the folder is not synced after the removal',
+    'settled': 'IMAGE is not synced at the beginning',
     'begin': 'the folder is not synced at the beginning',
     'made': 'the new log is named before it is synced',
     'replaced': 'the log of a replacement is named before it is synced',
@@ -377,8 +378,9 @@ class World:
 
     def land(self):
         disk, without = self.disk, self.without
-        disk.sync(self.image)
-        yield
+        if without != 'settled':
+            disk.sync(self.image)
+            yield
         if without != 'begin':
             disk.sync_folder()
             yield
