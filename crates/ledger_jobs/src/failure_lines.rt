@@ -124,7 +124,7 @@ fn tell_long<R: HostFiles, E: Write>(rt: &R, job: &Job<'_>, err: &mut E) -> bool
 fn tell_unread<R: HostFiles + AllocGlobal, E: Write>(rt: &R, job: &Job<'_>, err: &mut E)
     requires { MayExplain R.rights rt.now job.now }
 {
-    if tell_long(rt, job, err) || tell_ten_of_first(rt, job, err) {
+    if tell_long(rt, job, err) {
         return;
     }
     match job {
@@ -149,6 +149,9 @@ pub(crate) fn tell_files<R: HostFiles + AllocGlobal, E: Write>(
 )
     requires { MayExplain R.rights rt.now job.now }
 {
+    if tell_ten_of_first(rt, job, err) {
+        return;
+    }
     if let Some(failure) = cause {
         let said = match failure.error.kind() {
             ErrorKind::WouldBlock => UNWAITED,

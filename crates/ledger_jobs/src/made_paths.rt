@@ -76,8 +76,8 @@ fn tell_ten<E: Write>(err: &mut E, path: &str) {
     );
 }
 
-/// Prints that nothing can be put in the place of a job's first file, since ten names are taken that killed runs left. Returns
-/// whether it is so.
+/// Prints that an image can't be made at the path of a job's first file, where nothing stands, since ten names are taken that killed
+/// runs left. Returns whether it is so.
 pub(crate) fn tell_ten_of_first<R: HostFiles + AllocGlobal, E: Write>(
     rt: &R,
     job: &Job<'_>,
@@ -89,7 +89,7 @@ pub(crate) fn tell_ten_of_first<R: HostFiles + AllocGlobal, E: Write>(
         return false;
     }
     match path_of_first(rt, job) {
-        Some(path) if has_no_aside(rt, path) => {
+        Some(path) if !stands(rt, path) && has_no_aside(rt, path) => {
             tell_ten(err, path);
             true
         }
