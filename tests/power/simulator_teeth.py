@@ -5,8 +5,8 @@
 
 A step is a call that changes something, after a call of another kind: for example a sync of the folder after a file was renamed. The
 machine in memory can leave one out: it returns, and does nothing. For the program that is as if the line of the step stood in no source.
-The simulator plays the seeds 1, 2, ... until it finds something wrong. The status is 1 if a step of MUST isn't found. Of the others
-some needn't be found, since another step does the same later."""
+The simulator plays the seeds 1, 2, ... until it finds something wrong. The status is 1 if a step of MUST isn't found, and if a step
+that isn't found has no reason: in COVERED, why it does no harm to leave that step out alone, or in RARE, which faults have to meet."""
 
 import re
 import sys
@@ -52,6 +52,39 @@ MUST = {
     ("sync the log", "write the mark"),
     ("sync the log in the making", "write the mark"),
 }
+# the steps that do harm if they are left out, but only if two faults meet, so that some dozens of stories needn't find them
+RARE = {
+    ("sync IMAGE", "the beginning"): "a `play` is killed before it syncs IMAGE, and power goes when the next service's log has just got its name",
+    ("sync the folder", "the beginning"): "a service is killed when it has just removed its log, a `play` writes IMAGE, and power brings the log back",
+    ("sync IMAGE", "sync the folder"): "a `play` is killed before it syncs IMAGE, and power goes when the next change's log has just got its name",
+    ("sync the folder", "sync IMAGE"): "a change is killed when its log has just got its name, and power goes while the next service lands that log",
+    ("sync the log in the making", "set a length"): "power goes while zeros are written, and leaves a log in the making of another length",
+    ("sync the folder", "sync the log in the making"): "a log in the making was left, and power keeps the next one's renaming, but not its name before",
+}
+# after which calls a name is removed only because the call failed
+FAILED = (
+    "make a file",
+    "set a length",
+    "rename a file",
+    "write another file",
+    "sync another file",
+    "write the log in the making",
+    "sync the log in the making",
+    "write the mark",
+)
+# the steps that do no harm if they alone are left out
+COVERED = {
+    ("write the mark", "sync IMAGE"): "no commit was made, so the log gives its base, which IMAGE is: a log beside its base needs no mark",
+    ("sync IMAGE", "sync the log"): "nothing of IMAGE was written since its last sync, in this run or at its beginning",
+    ("sync the folder", "make a file"): "the sync after the image has its name brings the same removals to the disk, and nothing is reported before",
+    ("write another file", "sync the folder"): "this write spoils an image that is written over; a new file has no name yet, and is written whole",
+    ("set a length", "write another file"): "the writes alone give a new file its length; the call shortens a longer file that is written over",
+    ("sync another file", "set a length"): "the file gets its name only after a further sync, which brings these writes to the disk too",
+    **{
+        ("remove a name", it): "a call failed: what was being made has no name of its own, and the next command removes it or takes a free name"
+        for it in FAILED
+    },
+}
 
 
 def main(given):
@@ -65,9 +98,10 @@ def main(given):
     right = wrong = 0
     with ThreadPoolExecutor(len(sched_getaffinity(0))) as pool:
         for (_, act, before), found in pool.map(tried, steps):
-            lacks = not found and (act, before) in MUST
+            reason = None if (act, before) in MUST else {**COVERED, **RARE}.get((act, before))
+            lacks = not found and not reason
             right, wrong = right + (not lacks), wrong + lacks
-            said = f"seed {found[1]}, step {found[2]}: {found[3]}" if found else "IT HAS TO BE FOUND" if lacks else "not found"
+            said = f"seed {found[1]}, step {found[2]}: {found[3]}" if found else reason or "IT HAS TO BE FOUND"
             print(f"| {act} | {before} | {said} |", flush=True)
     return right, wrong
 
