@@ -23,6 +23,7 @@ fn byte_at(image: &[u8], at: usize) -> u8
 }
 
 /// Whether the four bytes from `at` on are a track's entry: how many of its 17 sectors are free, and a bit for each.
+#[tactic(auto, unfolding(crate::specs::WiderMaps::is_entry))]
 fn is_entry(image: &[u8], at: usize) -> bool
     requires size { 196608 ≤ length image.now }
     requires at { at < 252 }
@@ -38,29 +39,33 @@ fn is_entry(image: &[u8], at: usize) -> bool
 }
 
 /// Whether these five entries are those of tracks.
+#[tactic(auto, unfolding(crate::specs::WiderMaps::are_entries))]
 fn are_entries(image: &[u8], at: usize) -> bool
     requires size { 196608 ≤ length image.now }
     requires at { at < 236 }
     ensures { result ≡ maps.are_entries image.now at }
 {
-    is_entry(image, at)
-        && is_entry(image, at + 4)
-        && is_entry(image, at + 8)
-        && is_entry(image, at + 12)
-        && is_entry(image, at + 16)
+    let first = is_entry(image, at);
+    let second = is_entry(image, at + 4);
+    let third = is_entry(image, at + 8);
+    let fourth = is_entry(image, at + 12);
+    let fifth = is_entry(image, at + 16);
+    first && (second && (third && (fourth && fifth)))
 }
 
 /// Whether a sector is free by one of these five entries.
+#[tactic(auto, unfolding(crate::specs::WiderMaps::has_free))]
 fn has_free(image: &[u8], at: usize) -> bool
     requires size { 196608 ≤ length image.now }
     requires at { at < 236 }
     ensures { result ≡ maps.has_free image.now at }
 {
-    byte_at(image, at) > 0
-        || byte_at(image, at + 4) > 0
-        || byte_at(image, at + 8) > 0
-        || byte_at(image, at + 12) > 0
-        || byte_at(image, at + 16) > 0
+    let first = byte_at(image, at) > 0;
+    let second = byte_at(image, at + 4) > 0;
+    let third = byte_at(image, at + 8) > 0;
+    let fourth = byte_at(image, at + 12) > 0;
+    let fifth = byte_at(image, at + 16) > 0;
+    first || (second || (third || (fourth || fifth)))
 }
 
 /// Whether a map of tracks 36 to 40 stands from `at` on.

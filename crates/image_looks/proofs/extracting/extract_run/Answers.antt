@@ -1,5 +1,5 @@
 -- What was gathered, what was seen before, and how it was told.
-use Rattle.std.proofs.Common.{◌≡◌, ℕ, List, Result, Ok, Err, ap, inl, inr, map, refl, subst, ◌∙◌, ◌++◌}
+use Rattle.std.proofs.Common.{◌≡◌, ℕ, List, Option, Result, Ok, Err, ap, inl, inr, map, refl, subst, ◌∙◌, ◌++◌}
 use Rattle.std.specs.Prelude.{IfErr, IfOk, MatchResult}
 use Rattle.std.proofs.lemmas.Result.{err_from_is_err_and}
 use Rattle.command_faults.specs.declared.faults.CommandFault.{CommandFault}
@@ -23,7 +23,7 @@ unseen image _ none = absurd none
 pub returns-in_err-missing : goal.returns-in_err-missing
 returns-in_err-missing g c =
     let p = err_from_is_err_and c.from_residual.result c.from_residual.ensures.1 in
-    inl (c.in_err-missing.field-0.0, unseen _ _ c.in_err-missing.ensures.err, p.1 ∙ ap Err p.2, refl)
+    inl (c.in_err-missing.field-0.0, unseen c.args.image.now _ c.in_err-missing.ensures.err, p.1 ∙ ap Err p.2, refl)
 
 pub returns-in_err-lack : goal.returns-in_err-lack
 returns-in_err-lack g c =
@@ -47,10 +47,16 @@ returns-in-Ok g c = inr (
   subst (λ (disk : List ℕ). IsSeen disk c.in_ok-lack.lack) c.disk_in.ensures c.in_ok-lack.ensures.ok,
   c.in_ok-missing.ensures.ok,
   inl (
-    subst (λ (missing : List ℕ). IsExtractTold g.W.Write.contents (refusal_of c.extract_image-ended.result c.in_ok-lack.lack)
-        (extracted_text c.in_ok-lack.lack ++ missing) missing c.args.out.now c.tell_extracted.new.out c.tell_extracted.result)
-        c.as_slice.ensures.value
-        (rw (← c.extract_refusal.ensures) c.tell_extracted.ensures),
+    subst (λ (text : List ℕ). IsExtractTold g.W.Write.contents (refusal_of c.extract_image-ended.result c.in_ok-lack.lack) text
+        c.in_ok-missing.missing.items c.args.out.now c.tell_extracted.new.out c.tell_extracted.result)
+        (c.as_slice-in-Ok.ensures.value ∙ c.in_ok-text.ensures.ok
+        ∙ ap (λ (m : List ℕ). extracted_text c.in_ok-lack.lack ++ m) c.as_slice.ensures.value)
+        (subst (λ (m : List ℕ). IsExtractTold g.W.Write.contents (refusal_of c.extract_image-ended.result c.in_ok-lack.lack)
+        c.as_slice-in-Ok.result.now m c.args.out.now c.tell_extracted.new.out c.tell_extracted.result)
+        c.as_slice-in-Ok-2.ensures.value
+        (subst (λ (r : Option CommandFault). IsExtractTold g.W.Write.contents r c.as_slice-in-Ok.result.now
+        c.as_slice-in-Ok-2.result.now c.args.out.now c.tell_extracted.new.out c.tell_extracted.result)
+        c.extract_refusal.ensures c.tell_extracted.ensures)),
     c.in-Ok.ensures.made,
   ),
 )
