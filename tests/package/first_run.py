@@ -55,7 +55,7 @@ eval "$SAYS"
 ROWS = """#!/bin/sh
 eval "${ROWS:-echo '2 passed, 0 failed'}"
 """
-# as ./trials it says that one passed, each of the two times that it is called
+# as ./trials it says that one passed, each of the three times that it is called
 TRIALS = "#!/bin/sh\necho '1 passed, 0 failed, 2 left out'\n"
 BUILT = "#!/bin/sh\necho \"built: $*\"\n"
 OTHER_FILES = "no release here is of these files"
@@ -216,31 +216,31 @@ def try_tests(here):
         here.tell(f"./test: {what}", good, ran)
 
     well = "echo '3 passed, 0 failed'"
-    says("all passed", well, "8 passed, 0 failed", part="it passes the README's session")
-    says("one failed", "echo '2 passed, 1 failed'; exit 1", "7 passed, 1 failed", part="2 passed, 1 failed\n")
-    says("a row failed", well, "7 passed, 1 failed", rows="echo '1 passed, 1 failed'; exit 1")
-    says("no row was played", well, "6 passed, 1 failed", rows="exit 1", part="the rows ended with status 1")
-    says("the kit was killed", "kill -9 $$", "5 passed, 1 failed", part="status 137")
-    says("it stopped without its last line", "echo '3 passed, 0 failed of x'", "5 passed, 1 failed")
-    says("its status is wrong", f"{well}; exit 2", "8 passed, 1 failed", part="status 2")
-    says("another program was built", well, "7 passed, 1 failed", builds=PROGRAM + "\n", part="built another program")
+    says("all passed", well, "9 passed, 0 failed", part="it passes the README's session")
+    says("one failed", "echo '2 passed, 1 failed'; exit 1", "8 passed, 1 failed", part="2 passed, 1 failed\n")
+    says("a row failed", well, "8 passed, 1 failed", rows="echo '1 passed, 1 failed'; exit 1")
+    says("no row was played", well, "7 passed, 1 failed", rows="exit 1", part="the rows ended with status 1")
+    says("the kit was killed", "kill -9 $$", "6 passed, 1 failed", part="status 137")
+    says("it stopped without its last line", "echo '3 passed, 0 failed of x'", "6 passed, 1 failed")
+    says("its status is wrong", f"{well}; exit 2", "9 passed, 1 failed", part="status 2")
+    says("another program was built", well, "8 passed, 1 failed", builds=PROGRAM + "\n", part="built another program")
     here.write("releases/more", "")
-    says("a file is in no sum", well, "7 passed, 1 failed", part="more")
+    says("a file is in no sum", well, "8 passed, 1 failed", part="more")
     (here.folder / "releases/more").unlink()
     here.write("README.md", FILES["README.md"].replace("CARD 1,2", "CARD 1,3"))
-    says("the README shows another session", well, "7 passed, 1 failed", part="prints otherwise")
+    says("the README shows another session", well, "8 passed, 1 failed", part="prints otherwise")
     here.write("README.md", FILES["README.md"])
     here.write("crates/low/src/lib.rt", "changed\n")
-    says("the release is of other files", well, "8 passed, 0 failed", builds=BUILT, part="nothing was compared")
+    says("the release is of other files", well, "9 passed, 0 failed", builds=BUILT, part="nothing was compared")
     text = (here.folder / "releases/BUILT_FROM").read_text()
     here.write("releases/BUILT_FROM", text + "\n")
-    says("a file's sum is wrong", well, "7 passed, 1 failed", part="hasn't the sum")
+    says("a file's sum is wrong", well, "8 passed, 1 failed", part="hasn't the sum")
     here.write("crates/low/src/lib.rt", FILES["crates/low/src/lib.rt"])
     here.write("releases/BUILT_FROM", text.replace("kit 1", "kit 2"))
     here.sum_up()
-    says("the release is of another kit", well, "8 passed, 0 failed", builds=BUILT, part="the kit here isn't kit 2")
+    says("the release is of another kit", well, "9 passed, 0 failed", builds=BUILT, part="the kit here isn't kit 2")
     shutil.rmtree(here.folder / "releases")
-    says("there is no release", well, "8 passed, 0 failed", builds=BUILT, part="there is none here")
+    says("there is no release", well, "9 passed, 0 failed", builds=BUILT, part="there is none here")
     environment = {**os.environ, "PATH": f"{here.kit}:{os.environ['PATH']}", "BUILDS": BUILT, "SAYS": f"echo first; sleep 2; {well}"}
     with subprocess.Popen([here.folder / "test"], env=environment, stdout=subprocess.PIPE, text=True) as started:
         began = time.monotonic()
