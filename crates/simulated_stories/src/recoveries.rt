@@ -26,7 +26,7 @@ impl<P: Program> Story<'_, P> {
     }
 
     /// Power goes.
-    fn lose_power(&mut self) -> Result<(), Stop> {
+    pub(crate) fn lose_power(&mut self) -> Result<(), Stop> {
         self.counts.add(Event::PowerLoss, 1);
         match self.machine.lose_power(&mut self.random) {
             Ok(()) => Ok(()),
