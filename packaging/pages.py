@@ -229,7 +229,8 @@ def rows_of(heading):
 def explained_words(program, name):
     """The words that the program prints for roff, each with what it means."""
     faults, refusals = "## Faults", "## When something is refused"
-    table_of_faults, _, _ = section(faults, "##").partition("\nThese drawings")
+    # the drawings after the table, and the paragraph that introduces them, aren't for a terminal
+    table_of_faults, _, _ = section(faults, "##").partition("\nThe drawings")
     lines = [".SH FAULTS", "What", ".B check", "prints, with the sector where it is:", *blocks(table_of_faults, name)]
     lines += [".SH DIAGNOSTICS", *blocks(section(refusals, "###"), name)]
     for heading in ADVICE:
