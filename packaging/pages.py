@@ -229,7 +229,8 @@ def rows_of(heading):
 def explained_words(program, name):
     """The words that the program prints for roff, each with what it means."""
     faults, refusals = "## Faults", "## When something is refused"
-    table_of_faults, _, _ = section(faults, "##").partition("\nThese drawings")
+    # the drawings after the table, and the paragraph that introduces them, aren't for a terminal
+    table_of_faults, _, _ = section(faults, "##").partition("\nThe drawings")
     lines = [".SH FAULTS", "What", ".B check", "prints, with the sector where it is:", *blocks(table_of_faults, name)]
     lines += [".SH DIAGNOSTICS", *blocks(section(refusals, "###"), name)]
     for heading in ADVICE:
@@ -285,7 +286,7 @@ def man_page(program, words, version, name, commit):
     lines += [".SH FILES", ".TP", f".I /usr/share/doc/{escaped(name)}",
               "The folder of the pages that are named here, for example docs/KEEPERS.md. Its folder examples/disks has the disks of the",
               f"examples. In the tarball it is share/doc/{escaped(name)}."]
-    lines += [".SH VERSION", f"{escaped(version)}, of commit {commit}.", ".SH SEE ALSO", ".BR ledger\\-shop (1)"]
+    lines += [".SH VERSION", f"{escaped(version)}, of the commit", ".br", f"{commit}.", ".SH SEE ALSO", ".BR ledger\\-shop (1)"]
     return "\n".join(lines) + "\n"
 
 

@@ -48,7 +48,7 @@ WORDS = {
 }
 
 # words in comments of low crates that were seen too late to prove all crates above again: each goes with the next change of its crate
-POSTPONED = {("crates/image_log/src/life/replacing.rt", "'Of' (name the subject first)")}
+POSTPONED = set()
 
 
 def documents():

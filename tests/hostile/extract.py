@@ -36,7 +36,7 @@ from drawn import DIRECTORY, INDEX, MAP, PLACES, SIZE, name_text, sign, start
 from trial import conduct, need
 
 KINDS = ("DEL", "SEQ", "PRG", "USR", "REL")
-HEADING = "number,file,name,text,type,closed,locked,blocks,found,length,bytes,fault,shared,sha256".split(",")
+HEADING = "number,file,name,text,type,closed,locked,blocks,found,length,bytes,fault,shared,errors,sha256".split(",")
 
 
 class Differs(Exception):
@@ -109,15 +109,20 @@ def file_name(number, name, ending):
     return f"{number:02}-{kept}{ending}"
 
 
+def error_text(error):
+    """What the index says of an error byte."""
+    return str(error + 18) if 2 <= error <= 11 else "74" if error == 15 else f"BYTE{error}"
+
+
 def shown(byte):
     """A byte of a name as a C64 shows it; a carriage return as it is typed."""
     return '"' if byte == 34 else sign(byte)
 
 
 class Wanted:
-    """The files that an image has to give, the faults in the order in which they are reported, and the chains."""
+    """The files that an image has to give, the faults in the order in which they are reported, and the chains. It may have error bytes."""
 
-    def __init__(self, image, deleted=False, scan=False):
+    def __init__(self, image, deleted=False, scan=False, errors=b""):
         sectors, fault = directory(image)
         if scan:
             others = [(18, number) for number in range(1, 19) if (18, number) not in sectors]
@@ -135,8 +140,9 @@ class Wanted:
             shared = next((block for block in blocks if owned[block] > 1), None)
             data = geos.cvt(image, slot) if geos.is_geos(slot) else self.data(image, blocks, last)
             art = is_art(slot)
-            rows.append(self.row(number, slot, 0, 0, "", None, "") if art else
-                        self.row(number, slot, len(blocks), len(data), ended, shared, hashlib.sha256(data).hexdigest()))
+            rows.append(self.row(number, slot, 0, 0, "", None, "", "") if art else
+                        self.row(number, slot, len(blocks), len(data), ended, shared, self.misread(blocks, errors),
+                                 hashlib.sha256(data).hexdigest()))
             if art:
                 rows[-1][1] = ""
             else:
@@ -212,14 +218,20 @@ class Wanted:
         return "".join(f'{number},"{name_text(record.rstrip(bytes(1)))}"\n' for number, record in enumerate(records, 1)).encode()
 
     @staticmethod
-    def row(number, slot, blocks, count, ended, shared, digest):
+    def misread(blocks, errors):
+        """Those blocks that weren't read, and how."""
+        found = [(block, errors[INDEX[block]]) for block in blocks if errors]
+        return " ".join(f"{place[0]}/{place[1]}:{error_text(error)}" for place, error in found if error != 1)
+
+    @staticmethod
+    def row(number, slot, blocks, count, ended, shared, misread, digest):
         name, kind = slot[5:21].rstrip(b"\xa0"), slot[2]
         low = kind % 16
         ending = ".cvt" if geos.is_geos(slot) else "." + KINDS[low].lower() if low < 5 else ".bin"
         return [str(number), file_name(number, name, ending), name_text(name), "".join(map(shown, name)),
                 KINDS[low] if low < 5 else "???", "yes" if kind >= 128 else "no", "yes" if kind >> 6 & 1 else "no",
                 str(slot[30] + 256 * slot[31]), str(blocks), str(slot[23]) if low == 4 else "", str(count), ended,
-                f"{shared[0]}/{shared[1]}" if shared else "", digest]
+                f"{shared[0]}/{shared[1]}" if shared else "", misread, digest]
 
 
 def extracted(program, folder, image, *flags):

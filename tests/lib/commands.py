@@ -63,6 +63,7 @@ WANTED = {"--tills", "--length", "--type", "--name", "--id"}
 COMMANDS = [
     command(LOOKS, f"list {IMAGE}"),
     command(LOOKS, f"list {IMAGE} --text"),
+    command(LOOKS, f"list {IMAGE} --json"),
     command(LOOKS, f"check {IMAGE}"),
     command(LOOKS, f"check {IMAGE} --all"),
     command(LOOKS, f"check {IMAGE} --json"),
@@ -76,8 +77,10 @@ COMMANDS = [
     command(LOOKS, f"picture {IMAGE} --sheet"),
     command(LOOKS, f"picture {IMAGE} {IMAGE} --compare"),
     command(LOOKS, f"free {IMAGE}"),
+    command(LOOKS, f"free {IMAGE} --json"),
     command(LOOKS, f"sector {IMAGE} 17/0"),
     command(LOOKS, f"show {IMAGE}"),
+    command(LOOKS, f"show {IMAGE} --json"),
     command(LOOKS, f"records {IMAGE} STOCK"),
     command(LOOKS, f"records {IMAGE} STOCK --text"),
     command(LOOKS, f"records {IMAGE} STOCK --fields"),
@@ -122,7 +125,8 @@ COMMANDS = [
 ]
 
 # these print why an image is refused, where others report it on standard error
-PRINT_REFUSALS = ("check --json", "check --csv", "plan", "plan --json", "plan --csv", "picture --sheet")
+PRINT_REFUSALS = ("list --json", "check --json", "check --csv", "plan", "plan --json", "plan --csv", "free --json", "show --json",
+                  "picture --sheet")
 
 
 def those_that(*does):

@@ -3,8 +3,8 @@
 
     tests/package/release.py
 
-Each file there is in SHA256SUMS and has that sum. Where BUILT_FROM names the files here, the released program passes the session of
-the README. Where it names this kit too, the program that `rt ci` just built has the same bytes, and so has the one in the package for
+Each file there is in SHA256SUMS and has that sum, and VERDICTS, if it is there, is of the program that BUILT_FROM names. Where BUILT_FROM
+names the files here, the released program passes the session of the README. Where it names this kit too, the program that `rt ci` just built has the same bytes, and so has the one in the package for
 Debian. Without a release of these files nothing is compared. The last line says what was done; the status is 1 at a difference."""
 
 import hashlib
@@ -52,6 +52,17 @@ def compare_sums():
     return len(sums)
 
 
+def compare_verdicts(built_from):
+    """What the gate passed is said of this program, and nothing failed."""
+    file = RELEASE / "VERDICTS"
+    if not file.exists():
+        return
+    said = dict(line.split(": ", 1) for line in file.read_text().splitlines())
+    for word in ("tree", "program"):
+        want(said.get(word) == built_from[word], f"VERDICTS is of another {word} than BUILT_FROM")
+    want(said.get("all, with the release", "").endswith(" passed, 0 failed"), "VERDICTS says that something failed")
+
+
 def in_tarball(file, path):
     with tarfile.open(fileobj=io.BytesIO(file)) as tarball:
         return tarball.extractfile(path).read()
@@ -92,6 +103,7 @@ def main():
     if not compare_sums():
         return "there is none here"
     built_from = dict(line.split(": ", 1) for line in (RELEASE / "BUILT_FROM").read_text().splitlines())
+    compare_verdicts(built_from)
     name = f"{built_from['version']} has its sums"
     if printed("tools/tree_sum") != built_from["tree"]:
         return f"{name}; it isn't of the files here, so nothing was compared"

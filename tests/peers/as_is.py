@@ -9,16 +9,22 @@ changed link, or it is cut. Of each image:
 
 - `list --as-is` has the names, types and block counts that c1541 (of VICE) has in its directory;
 - `check --as-is`, with --all and among several images, prints what `check` prints of the first 35 tracks alone, and then the lines that a
-  reader of images in Python finds (tests/lib/missing.py); so do `map` and `picture`;
+  reader of images in Python finds (tests/lib/missing.py), and which systems have a map of tracks 36 to 40 in 18/0; so do `map` and,
+  without the last, `picture`;
+- `extract` makes the files and the index of the reader of tests/hostile/extract.py, with each file's blocks that weren't read, and ends
+  as of the first 35 tracks alone, with the lines after what it prints;
 - without the flag it is `IMAGE SIZE`, and so it is with the flag if the image is cut;
 - each run takes less than 24 MB, and leaves the image as it was. (A program of `rt try` isn't limited, since it takes more to start.)
 
 Not part of the gate."""
 
+import csv
 import functools
+import io
 import random
 import re
 import resource
+import shutil
 import subprocess
 import sys
 import tempfile
@@ -26,8 +32,9 @@ from html import unescape
 from pathlib import Path
 
 sys.dont_write_bytecode = True
-sys.path.insert(0, str(Path(__file__).resolve().parents[1] / "lib"))
+sys.path[:0] = [str(Path(__file__).resolve().parents[1] / it) for it in ("lib", "hostile")]
 from drawn import PLACES, SIZE, start
+from extract import HEADING, Wanted
 from missing import missing_lines
 from trial import at, check, conduct, need
 
@@ -86,6 +93,31 @@ def odd(draw, tracks, image):
     return whole, errors, True
 
 
+def maps_of(whole):
+    """A line for each system that keeps a map of tracks 36 to 40 in 18/0, of an image that has these tracks."""
+    lines = ""
+    for name, at in (("DOLPHINDOS", 0xAC), ("SPEEDDOS", 0xC0), ("PROLOGICDOS", 0x90)):
+        entries = [whole[it:it + 4] for it in range(start((18, 0)) + at, start((18, 0)) + at + 20, 4)]
+        if len(whole) >= BYTES[40] and any(it[0] for it in entries) and all(
+                it[3] <= 1 and it[0] == sum(byte.bit_count() for byte in it[1:]) for it in entries):
+            lines += f"{name} 36-40\n"
+    return lines
+
+
+def take_out(program, folder, path, alone, errors, lines, what):
+    """Takes the files out of an image, and compares what came of it with those of its first 35 tracks alone."""
+    status, out, err = run(program, "extract", alone, folder / "alone", folder=folder)
+    wanted = (status, out, err) if err else (1 if lines else status, out + lines, "")
+    check(run(program, "extract", path, folder / "out", folder=folder) == wanted, f"{what}: extract: not {wanted}")
+    made = Wanted(alone.read_bytes(), errors=errors)
+    got = {it.name: it.read_bytes() for it in (folder / "out").iterdir()}
+    rows = list(csv.reader(io.StringIO(got.pop("index.csv").decode(), newline="")))
+    check(rows == [HEADING, *made.rows], f"{what}: the index is {rows}, not {made.rows}")
+    check(got == made.files, f"{what}: the files")
+    for made in ("alone", "out"):
+        shutil.rmtree(folder / made)
+
+
 def names_of_c1541(folder, image):
     """The entries that c1541 has in its directory: block count, name and type."""
     said = subprocess.run(["c1541", "-attach", image, "-dir"], cwd=folder, capture_output=True).stdout.decode("latin-1")
@@ -114,29 +146,30 @@ def look_at(program, folder, draw, number):
         return
     front = whole[:SIZE]
     alone.write_bytes(front)
-    lines = "" if len(whole) == SIZE else missing_lines(front, errors)
+    lines, maps = "" if len(whole) == SIZE else missing_lines(front, errors), maps_of(whole)
     if len(whole) != SIZE:
         for word in ("check", "list", "show"):
             check(run(program, word, path, folder=folder) == (1, "", "IMAGE SIZE\n"), f"{what}: {word}")
     for words in (("check",), ("check", "--all")):
         status, out, err = run(program, *words, alone, folder=folder)
-        wanted = (status or (1 if lines else 0), out + lines, err)
+        wanted = (status or (1 if lines else 0), out + lines + maps, err)
         check(run(program, *words, "--as-is", path, folder=folder) == wanted, f"{what}: {words}: not {wanted}")
     status, out, err = run(program, "list", alone, folder=folder)
     check(run(program, "list", "--as-is", path, folder=folder) == (status, out, err), f"{what}: list")
     if front[start((18, 0)):start((18, 1)) + 256] == image[start((18, 0)):start((18, 1)) + 256]:
         check(names_of_list(out) == plain, f"{what}: list has {names_of_list(out)}, c1541 {plain}")
     among = run(program, "check", "--as-is", path.name, alone.name, folder=folder)[1]
-    check("".join(f"odd.d64: {line}\n" for line in lines.splitlines()) in among, f"{what}: among several: {among}")
+    check("".join(f"odd.d64: {line}\n" for line in (lines + maps).splitlines()) in among, f"{what}: among several: {among}")
     status, out, err = run(program, "map", alone, folder=folder)
     if status < 2 and not err:
-        wanted = (status or (1 if lines else 0), out + lines, "")
+        wanted = (status or (1 if lines else 0), out + lines + maps, "")
         check(run(program, "map", path, folder=folder) == wanted, f"{what}: map")
         status, out, _ = run(program, "picture", path, folder=folder)
         block = re.search(r"<pre>(.*)</pre>\n\Z", out, re.DOTALL)
         check((unescape(block[1]) if block else "") == lines, f"{what}: picture")
     else:
         check(run(program, "map", path, folder=folder) == (status, out, err), f"{what}: map")
+    take_out(program, folder, path, alone, errors if len(whole) != SIZE else b"", lines, what)
     check(path.read_bytes() == whole, f"{what}: the image was changed")
 
 

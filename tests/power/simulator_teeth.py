@@ -6,7 +6,7 @@
 A step is a call that changes something, after a call of another kind: for example a sync of the folder after a file was renamed. The
 machine in memory can leave one out: it returns, and does nothing. For the program that is as if the line of the step stood in no source.
 The simulator plays the seeds 1, 2, ... until it finds something wrong. The status is 1 if a step of MUST isn't found, and if a step
-that isn't found has no reason: in COVERED, why it does no harm to leave that step out alone, or in RARE, which faults have to meet."""
+that isn't found has no reason in COVERED, which says why it does no harm to leave that step out alone."""
 
 import re
 import sys
@@ -51,15 +51,13 @@ MUST = {
     ("sync another file", "write another file"),
     ("sync the log", "write the mark"),
     ("sync the log in the making", "write the mark"),
-}
-# the steps that do harm if they are left out, but only if two faults meet, so that some dozens of stories needn't find them
-RARE = {
-    ("sync IMAGE", "the beginning"): "a `play` is killed before it syncs IMAGE, and power goes when the next service's log has just got its name",
-    ("sync the folder", "the beginning"): "a service is killed when it has just removed its log, a `play` writes IMAGE, and power brings the log back",
-    ("sync IMAGE", "sync the folder"): "a `play` is killed before it syncs IMAGE, and power goes when the next change's log has just got its name",
-    ("sync the folder", "sync IMAGE"): "a change is killed when its log has just got its name, and power goes while the next service lands that log",
-    ("sync the log in the making", "set a length"): "power goes while zeros are written, and leaves a log in the making of another length",
-    ("sync the folder", "sync the log in the making"): "a log in the making was left, and power keeps the next one's renaming, but not its name before",
+    # these by the faults that meet at a story's end
+    ("sync IMAGE", "the beginning"),
+    ("sync the folder", "the beginning"),
+    ("sync IMAGE", "sync the folder"),
+    ("sync the folder", "sync IMAGE"),
+    ("sync the log in the making", "set a length"),
+    ("sync the folder", "sync the log in the making"),
 }
 # after which calls a name is removed only because the call failed
 FAILED = (
@@ -98,7 +96,7 @@ def main(given):
     right = wrong = 0
     with ThreadPoolExecutor(len(sched_getaffinity(0))) as pool:
         for (_, act, before), found in pool.map(tried, steps):
-            reason = None if (act, before) in MUST else {**COVERED, **RARE}.get((act, before))
+            reason = None if (act, before) in MUST else COVERED.get((act, before))
             lacks = not found and not reason
             right, wrong = right + (not lacks), wrong + lacks
             said = f"seed {found[1]}, step {found[2]}: {found[3]}" if found else reason or "IT HAS TO BE FOUND"

@@ -51,26 +51,30 @@ may_be_text a = with_rule (with_rule a (flag (codes "text"))) (flag (codes "mixe
 abbrev pub may_be_as_is : App → App
 may_be_as_is a = with_rule a (flag (codes "as-is"))
 
--- list IMAGE.. [--text] [--mixed] [--as-is]
+-- a subcommand that prints an object of JSON for each image, if --json is given
+abbrev pub may_be_json : App → App
+may_be_json a = with_rule a (flag (codes "json"))
+
+-- list IMAGE.. [--json] [--text] [--mixed] [--as-is]
 abbrev pub list : App
-list = may_be_as_is (may_be_text (over_images (codes "list")))
+list = may_be_as_is (may_be_text (may_be_json (over_images (codes "list"))))
 
 -- check IMAGE.. [--json] [--csv] [--all] [--as-is]
 abbrev pub check : App
-check = may_be_as_is (with_rule (with_rule (with_rule (over_images (codes "check")) (flag (codes "json"))) (flag (codes "csv")))
+check = may_be_as_is (with_rule (with_rule (may_be_json (over_images (codes "check"))) (flag (codes "csv")))
     (flag (codes "all")))
 
 -- plan IMAGE.. [--json] [--csv]
 abbrev pub plan : App
-plan = with_rule (with_rule (over_images (codes "plan")) (flag (codes "json"))) (flag (codes "csv"))
+plan = with_rule (may_be_json (over_images (codes "plan"))) (flag (codes "csv"))
 
 -- a subcommand that goes on where a disk has lost a part of a file, or an image its log, if --accept-loss is given
 abbrev pub may_accept_loss : App → App
 may_accept_loss a = with_rule a (flag (codes "accept-loss"))
 
--- show IMAGE [--accept-loss] [--as-is]
+-- show IMAGE.. [--json] [--accept-loss] [--as-is]
 abbrev pub show : App
-show = may_be_as_is (may_accept_loss (over_image (codes "show")))
+show = may_be_as_is (may_accept_loss (may_be_json (over_images (codes "show"))))
 
 -- play IMAGE SCRIPT [--sync] [--accept-loss]
 abbrev pub play : App
@@ -187,9 +191,9 @@ abbrev pub picture : App
 picture = with_rule (with_rule (with_rule (over_images (codes "picture")) (flag (codes "svg"))) (flag (codes "sheet")))
     (flag (codes "compare"))
 
--- free IMAGE
+-- free IMAGE.. [--json]
 abbrev pub free : App
-free = over_image (codes "free")
+free = may_be_json (over_images (codes "free"))
 
 -- sector IMAGE T/S
 abbrev pub sector : App

@@ -1,11 +1,11 @@
 //! The subcommands that look at disks: the words of each, and what help says of it, at most 80 columns wide.
 use crate::subcommands::Subcommand;
-use crate::values::{ANY_IMAGE, ANY_IMAGES, AS_IS, Count, IMAGES, MIXED, TEXT, Value};
+use crate::values::{ANY_IMAGE, ANY_IMAGES, AS_IS, Count, IMAGES, JSON, MIXED, TEXT, Value};
 
 /// The subcommands that look at disks, in the order in which help lists them.
 pub(crate) const LOOKS: &[Subcommand] = &[LIST, CHECK, PLAN, MAP, PICTURE, FREE, SECTOR];
 
-/// `list IMAGE.. [--text] [--mixed] [--as-is]`
+/// `list IMAGE.. [--json] [--text] [--mixed] [--as-is]`
 const LIST: Subcommand = Subcommand {
     name: "list",
     about: "Print the directory of an image, or of several",
@@ -15,6 +15,9 @@ It prints the disk's name, a line for each entry, and how many blocks are free.
 `?` stands for a byte that ASCII lacks; --text and --mixed show its character.
 With several images each line begins with the image's name, also for an image
 that is refused. The exit status is then the highest of all.
+With --json each image has a line, an object: what 18/0 says of the disk, and an
+object for each entry, with the type of a GEOS file. A refused image has its
+name and the reason. --json goes before --text and --mixed.
 With --as-is it takes an image of 40 or 42 tracks, or with error bytes, too, and
 prints the directory of its first 35 tracks.
 
@@ -24,15 +27,7 @@ Exit status:
   3  FILE, NOT READY, NO MEMORY, IN USE
 
 Example: ledger list old.d64",
-    values: &[IMAGES, TEXT, MIXED, AS_IS],
-};
-
-/// The flag that describes images by objects.
-const JSON: Value = Value {
-    name: "json",
-    word: Some("json"),
-    count: Count::Flag,
-    help: "Print a line for each image, an object of JSON",
+    values: &[IMAGES, JSON, TEXT, MIXED, AS_IS],
 };
 
 /// The flag that describes images by rows of a table.
@@ -83,7 +78,8 @@ sound. --json goes before --csv, and both before --all and --as-is.
 With --as-is it takes an image of 40 or 42 tracks, or with error bytes, too, and
 checks its first 35 tracks. After that it prints a line for each sector that the
 drive couldn't read, ERROR 23 17/4 \"MENU\", and for each file that goes on beyond
-track 35, BEYOND 17/4 \"MENU\". Then the status isn't 0.
+track 35, BEYOND 17/4 \"MENU\". Then the status isn't 0. SPEEDDOS 36-40 says that
+SpeedDOS keeps a map of these tracks in 18/0; DOLPHINDOS and PROLOGICDOS, too.
 
 Exit status:
   0  OK
@@ -130,7 +126,7 @@ It draws a damaged disk too, as far as its links can be followed:
   a  a block of the file with letter a  !  the sector of the fault
   A  a side sector of that file
 If the image has 40 or 42 tracks, or error bytes, it draws the first 35 tracks,
-and prints ERROR and BEYOND at the end, as check --as-is does.
+and prints ERROR, BEYOND and SPEEDDOS at the end, as check --as-is does.
 With several images each line begins with the image's name, also for an image
 that is refused. The exit status is then the highest of all.
 
@@ -193,7 +189,7 @@ Example: ledger picture --sheet ./*.d64 > all.html",
     values: &[ANY_IMAGES, SVG, SHEET, COMPARE],
 };
 
-/// `free IMAGE`
+/// `free IMAGE.. [--json]`
 const FREE: Subcommand = Subcommand {
     name: "free",
     about: "Print how many sectors of each track are free",
@@ -201,6 +197,9 @@ const FREE: Subcommand = Subcommand {
 It prints a line for each track, for example TRACK 17 FREE 21, and how many
 blocks are free for files. The numbers are those of the disk's map, right or
 wrong. To free sectors that no file owns, use repair --free.
+With several images each line begins with the image's name, also for an image
+that is refused. The exit status is then the highest of all.
+With --json each image has a line, an object.
 
 Exit status:
   0  the numbers of free sectors were printed
@@ -208,7 +207,7 @@ Exit status:
   3  FILE, NOT READY, NO MEMORY, IN USE
 
 Example: ledger free old.d64",
-    values: &[ANY_IMAGE],
+    values: &[ANY_IMAGES, JSON],
 };
 
 /// A sector of the disk.

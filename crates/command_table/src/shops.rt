@@ -1,6 +1,8 @@
 //! The subcommands that run a shop: the words of each, and what help says of it, at most 80 columns wide.
 use crate::subcommands::Subcommand;
-use crate::values::{ACCEPT_AWAY, ACCEPT_LOSS, AS_IS, Count, IMAGE, NEW_IMAGE, Value};
+use crate::values::{
+    ACCEPT_AWAY, ACCEPT_LOSS, AS_IS, Count, IMAGE, IMAGES, JSON, NEW_IMAGE, Value,
+};
 
 /// The subcommands that run a shop, in the order in which help lists them.
 pub(crate) const SHOPS: &[Subcommand] = &[FORMAT, SHOW, PLAY, DRY, SERVE, COPY];
@@ -40,7 +42,7 @@ Example: ledger format --new shop.d64 --tills 4",
     values: &[NEW_IMAGE, TILLS, ONLY_NEW],
 };
 
-/// `show IMAGE [--accept-loss] [--as-is]`
+/// `show IMAGE.. [--json] [--accept-loss] [--as-is]`
 const SHOW: Subcommand = Subcommand {
     name: "show",
     about: "Print the cards, and the last two requests of each till",
@@ -48,6 +50,9 @@ const SHOW: Subcommand = Subcommand {
 It prints TOP (the highest item number that has room), a CARD for each item, and
 for each till its last two requests as TILL and PRIOR. With --as-is it takes an
 image of 40 or 42 tracks, or with error bytes, too.
+With several images each line begins with the image's name, also for an image
+that is refused. The exit status is then the highest of all.
+With --json each image has a line, an object.
 
 Exit status:
   0  the shop was printed
@@ -57,7 +62,7 @@ Exit status:
   3  FILE, NOT READY, NO MEMORY, IN USE
 
 Example: ledger show shop.d64",
-    values: &[IMAGE, ACCEPT_AWAY, AS_IS],
+    values: &[IMAGES, JSON, ACCEPT_AWAY, AS_IS],
 };
 
 /// The script of a subcommand.

@@ -144,3 +144,11 @@ pub(crate) const AS_IS: Value = Value {
     count: Count::Flag,
     help: "Take an image of 40 or 42 tracks, or with error bytes, too",
 };
+
+/// The flag that describes images by objects.
+pub(crate) const JSON: Value = Value {
+    name: "json",
+    word: Some("json"),
+    count: Count::Flag,
+    help: "Print a line for each image, an object of JSON",
+};

@@ -2,6 +2,7 @@
 pub(crate) mod art;
 pub(crate) mod choices;
 pub(crate) mod deleted;
+pub(crate) mod errors;
 pub(crate) mod extracting;
 pub(crate) mod folders;
 pub(crate) mod geos;

@@ -12,7 +12,7 @@ use Rattle.disk_changes.specs.declared.changes.Change.{Change}
 use Rattle.disk_changes.specs.declared.changes.Change.TheVariants as changes
 use Rattle.disk_changes.specs.declared.changes.Changed.{Changed}
 use Rattle.command_faults.specs.declared.faults.CommandFault.{CommandFault}
-use Rattle.folder_changes.specs.FolderChanges.{GivesChanged, IsLeft, IsMade, IsToldAs, IsUnplaced, KeepsImage}
+use Rattle.folder_changes.specs.FolderChanges.{GivesChanged, HasNotBegun, IsLeft, IsMade, IsToldAs, IsUnplaced}
 use Rattle.command_faults.specs.declared.faults.CommandFault.TheVariants as faults
 use Rattle.image_log.specs.life.Bringing.{RestsAlone, RestsWith}
 use Rattle.image_log.specs.life.Folders.{FolderHistory, LeavesFolders}
@@ -98,7 +98,7 @@ sized what image made is = ⊎_elim (sized-done what image made) (λ w. w.1.asid
 -- nothing is printed of a change that isn't put in place
 pub unplaced : {W D : Type 0} (h : FolderHistory D) (contents : W → Option (List ℕ)) (what : Change) (image : List ℕ) (old new : D)
     (w : W) (fault : CommandFault) → length image ≡ 174848 → IsUnplaced h image old new fault
-    → IsToldAs contents (IsMade h what image old new) (IsLeft h what image old new) (KeepsImage h image old new) w w (Err fault)
+    → IsToldAs contents (IsMade h what image old new) (IsLeft h what image old new) (HasNotBegun h image old new) w w (Err fault)
 unplaced h contents what image old new w faults.NoMemory size same = ((inr (inl size), same), refl)
 unplaced h contents what image old new w faults.File size kept = inl (kept, refl)
 unplaced h contents what image old new w faults.Device size is = refl

@@ -1,5 +1,5 @@
 -- What comes of a change to the image in a folder. Our own.
-use Rattle.std.specs.Prelude.{◌≡◌, ◌≢◌, ◌⊎◌, Err, List, None, Ok, Option, Result, ℕ}
+use Rattle.std.specs.Prelude.{◌≡◌, ◌≢◌, ◌⊎◌, Err, List, None, Ok, Option, Result, true, ℕ}
 use Rattle.std.specs.Io.KnownBytes.{Appends}
 use Rattle.command_faults.specs.Outputs.{HandsPart}
 use Rattle.d64_image.specs.Memory.{disk_image, sectors_in}
@@ -46,6 +46,10 @@ IsChangePrinted what image contents before after result =
 abbrev pub KeepsImage : {D : Type 0} → FolderHistory D → (image : List ℕ) → (old new : D) → Type 0
 KeepsImage h image old new = RestsAlone h old (sectors_in image) → LeavesFolders h old new (IsWith None (sectors_in image))
 
+-- a call of the folder failed before anything of its image was tried
+abbrev pub HasNotBegun : {D : Type 0} → FolderHistory D → (image : List ℕ) → (old new : D) → Type 0
+HasNotBegun h image old new = KeepsImage h image old new × (h.has_failed new ≡ true)
+
 module _ {D : Type 0} (h : FolderHistory D) (what : Change) (image : List ℕ) (old new : D) where
   -- the change was made: if the folder had the image alone, it has the new one alone, and a power loss on the way left one of them
   abbrev pub IsMade : Changed → Type 0
@@ -58,12 +62,12 @@ module _ {D : Type 0} (h : FolderHistory D) (what : Change) (image : List ℕ) (
 
   -- a change to the image in a folder ended so
   abbrev pub IsChangeOver : {W : Type 0} → (W → Option (List ℕ)) → W → W → Result ℕ CommandFault → Type 0
-  IsChangeOver contents before after result = IsToldAs contents IsMade IsLeft (KeepsImage h image old new) before after result
+  IsChangeOver contents before after result = IsToldAs contents IsMade IsLeft (HasNotBegun h image old new) before after result
 
 -- The image that came of a change wasn't put in the place of this one: for lack of memory, and nothing was done; or the folder
 -- failed, before anything of the image was tried, or later.
 abbrev pub IsUnplaced : {D : Type 0} → FolderHistory D → (image : List ℕ) → (old new : D) → CommandFault → Type 0
 IsUnplaced h image old new faults.NoMemory = new ≡ old
-IsUnplaced h image old new faults.File = KeepsImage h image old new
+IsUnplaced h image old new faults.File = HasNotBegun h image old new
 IsUnplaced h image old new faults.Device = Unit {0}
 IsUnplaced h image old new _ = ⊥

@@ -1,12 +1,12 @@
 -- What isn't printed of the disk in an image, and why.
-use Rattle.std.proofs.Common.{◌≡◌, ◌≢◌, ◌∙◌, Bool, List, ap, false, length, refl, subst, sym, take, true, ℕ}
+use Rattle.std.proofs.Common.{◌≡◌, ◌≢◌, ◌∙◌, Bool, List, ap, false, inl, inr, length, refl, subst, sym, take, true, ℕ}
 use Rattle.std.specs.Prelude.{Option, if◌then◌else◌}
 use Rattle.command_faults.specs.declared.faults.CommandFault.{CommandFault}
 use Rattle.command_faults.specs.declared.faults.CommandFault.TheVariants as faults
 use Rattle.damaged_files.proofs.lemmas.reached.Sized.{length-tracks}
 use Rattle.damaged_files.specs.reached.Sizes.{IsImageSize, disk_of, is_image_size}
 use Rattle.disk_layout.specs.declared.faults.Fault.{Fault}
-use Rattle.disk_pictures.specs.Missing.{IsMissingFault}
+use Rattle.disk_pictures.specs.Missing.{IsMissing, IsMissingFault}
 use Rattle.disk_reports.specs.Listings.{IsCheckFault}
 use Rattle.disk_reports.specs.Outcomes.{IsDescribeFault}
 use Rattle.image_looks.specs.Reports.{IsReportFault, IsReported}
@@ -36,6 +36,20 @@ missing-why reports.Faults image faults.NoMemory why = disk-size image why
 missing-why reports.Map image faults.NoMemory why = disk-size image why
 missing-why reports.Picture image faults.NoMemory why = disk-size image why
 missing-why report image _ why = absurd why
+
+-- nor is it printed if there is no memory for the lines
+pub memory-why : (report : Report) (image : List ℕ) → IsImageSize (length image)
+    → IsReportFault report (disk_of image) faults.NoMemory
+memory-why reports.Verdict image size = disk-size image size
+memory-why reports.Among image size = disk-size image size
+memory-why reports.Faults image size = disk-size image size
+memory-why reports.Map image size = disk-size image size
+memory-why reports.Picture image size = disk-size image size
+
+-- an image of which that is known has one of the six sizes
+pub missing-size : (image lines : List ℕ) → IsMissing image lines → IsImageSize (length image)
+missing-size image lines (inl (size, none)) = subst IsImageSize (sym size) refl
+missing-size image lines (inr (other, beside)) = beside.size
 
 -- what isn't checked isn't described
 pub check-why : (disk : List ℕ) (fault : CommandFault) → IsCheckFault disk fault → IsDescribeFault disk fault

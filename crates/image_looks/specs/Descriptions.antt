@@ -1,5 +1,5 @@
 -- What comes of images that are described. All of it is our own.
-use Rattle.std.specs.Prelude.{◌≡◌, ◌⊎◌, ℕ, List, Option, Ok, Err}
+use Rattle.std.specs.Prelude.{◌≡◌, ◌⊎◌, ℕ, List, [], None, Option, Ok, Err}
 use Rattle.std.specs.Io.KnownBytes.{Appends}
 use Rattle.command_faults.specs.declared.faults.CommandFault.{CommandFault}
 use Rattle.disk_reports.specs.Descriptions.{heading_text, refusal_text}
@@ -10,6 +10,8 @@ use Rattle.image_looks.specs.declared.descriptions.ImageForm.{ImageForm}
 use Rattle.image_looks.specs.declared.descriptions.ImageForm.TheVariants as forms
 use Rattle.disk_layout.specs.declared.faults.Fault.{Fault}
 use Rattle.image_looks.specs.EachImage.{Loaded}
+use Rattle.image_looks.specs.ShownObjects.{IsShownAs, IsShownFault}
+use Rattle.json_looks.specs.Objects.{IsObjectPrinted, refused_data}
 use Rattle.opened_files.specs.Ends.{end_status}
 use Rattle.command_faults.specs.Faults.{command_status, command_text}
 
@@ -17,12 +19,15 @@ use Rattle.command_faults.specs.Faults.{command_status, command_text}
 abbrev pub heading_of : ImageForm → List ℕ
 heading_of (forms.Described form) = heading_text form
 heading_of (forms.Planned form) = plan_heading form
+heading_of (forms.Shown object) = []
 
 -- an image at this path that is refused was printed: by why, and by the size that the system says
 abbrev pub IsRefusalPrinted : {W : Type 0} → (W → Option (List ℕ)) → ImageForm → List ℕ → CommandFault → W → W → Type 0
 IsRefusalPrinted contents (forms.Described form) path refusal old new =
     (size : Option ℕ) × Appends (contents old) (contents new) (refusal_text form path size (command_text refusal))
 IsRefusalPrinted contents (forms.Planned form) path refusal old new = IsPlanRefusal contents form path refusal old new
+IsRefusalPrinted contents (forms.Shown object) path refusal old new =
+    IsObjectPrinted contents (refused_data path (command_text refusal)) old new
 
 -- and its status is that of the refusal
 abbrev pub IsRefusalDescribed : {W : Type 0} → (W → Option (List ℕ)) → ImageForm → List ℕ → CommandFault → W → W → ℕ → Type 0
@@ -33,11 +38,14 @@ IsRefusalDescribed contents form path refusal old new status =
 abbrev pub IsOneDescribed : {W : Type 0} → (W → Option (List ℕ)) → ImageForm → (path image : List ℕ) → W → W → Option Fault → Type 0
 IsOneDescribed contents (forms.Described form) path image old new found = IsDescribed contents form path image old new found
 IsOneDescribed contents (forms.Planned form) path image old new found = IsPlanOf contents form path image old new found
+IsOneDescribed contents (forms.Shown object) path image old new found =
+    (found ≡ None) × IsShownAs contents object path image old new
 
 -- why it isn't
 abbrev pub IsDescribingFault : ImageForm → (image : List ℕ) → CommandFault → Type 0
 IsDescribingFault (forms.Described form) image fault = IsDescribeFault image fault
 IsDescribingFault (forms.Planned form) image fault = IsPlanFault image fault
+IsDescribingFault (forms.Shown object) image fault = IsShownFault object image fault
 
 -- an image at this path that has these bytes was described, with the status of its check
 abbrev pub IsImageDescribed : {W : Type 0} → (W → Option (List ℕ)) → ImageForm → List ℕ → (image : List ℕ) → W → W → ℕ → Type 0

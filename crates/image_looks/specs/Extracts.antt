@@ -1,9 +1,11 @@
 -- What comes of taking all files out of an image. All of it is our own.
-use Rattle.std.specs.Prelude.{◌≡◌, ◌⊎◌, ◌++◌, [], ⊤, List, ℕ, IsOk, MatchResult, None, Ok, Err, Option, Result, Some, codes, map}
+use Rattle.std.specs.Prelude.{◌≡◌, ◌⊎◌, ◌++◌, [], ⊤, List, ℕ, IsOk, MatchResult, None, Ok, Err, Option, Result, Some, codes, length, map}
 use Rattle.std.specs.Io.KnownBytes.{Appends}
 use Rattle.damaged_files.specs.cut.Told.{shortfall_text}
+use Rattle.damaged_files.specs.reached.Sizes.{IsImageSize, disk_of}
 use Rattle.damaged_files.specs.declared.cut.shortfalls.Shortfall.{Shortfall}
 use Rattle.disk_layout.specs.declared.faults.Fault.{Fault}
+use Rattle.disk_pictures.specs.Missing.{IsMissing}
 use Rattle.file_rescues.specs.declared.rescue.mem_folder.MemFile.{MemFile}
 use Rattle.file_rescues.specs.rescue.Folders.{NewFile}
 use Rattle.file_rescues.specs.rescue.Memory.{file_in}
@@ -12,6 +14,7 @@ use Rattle.file_rescues.specs.declared.rescue.choices.Choice.{Choice}
 use Rattle.image_file.specs.Remains.{Remains}
 use Rattle.image_file.specs.paths.Traces.{Traces}
 use Rattle.image_looks.specs.NewFolders.{AreMadeAt}
+use Rattle.image_looks.specs.Reports.{reported_end}
 use Rattle.line_text.specs.Handed.{AppendsPart}
 use Rattle.command_faults.specs.declared.faults.CommandFault.{CommandFault}
 use Rattle.command_faults.specs.declared.faults.CommandFault.TheVariants as faults
@@ -28,33 +31,41 @@ abbrev pub refusal_of : Result (Option Fault) CommandFault → Option Shortfall 
 refusal_of (Ok found) lack = refusal_found found lack
 refusal_of (Err fault) lack = Some fault
 
--- what is printed if they are; and what a file lacks
+-- what is printed if they are: that, and what a file lacks
 abbrev pub extracted_text : Option Shortfall → List ℕ
 extracted_text None = codes "EXTRACTED\n"
 extracted_text (Some lack) = codes "EXTRACTED\n" ++ (shortfall_text lack ++ codes "\n")
 
--- How it is reported whether the job is refused. If it isn't, that is printed, or the output failed
-abbrev pub IsExtractTold : {W : Type 0} → (W → Option (List ℕ)) → Option CommandFault → Option Shortfall → W → W → JobEnd → Type 0
-IsExtractTold contents (Some refusal) lack old new end = (end ≡ Err refusal) × (new ≡ old)
-IsExtractTold contents None lack old new end =
-    ((end ≡ Ok None) × Appends (contents old) (contents new) (extracted_text lack))
-    ⊎ ((end ≡ Err faults.File) × AppendsPart (contents old) (contents new) (extracted_text lack))
+-- How it is reported whether the job is refused. If it isn't, this text is printed, or the output failed. If it was printed, the
+-- job ends as these lines say
+abbrev pub IsExtractTold : {W : Type 0} → (W → Option (List ℕ)) → Option CommandFault → (text missing : List ℕ) → W → W → JobEnd
+    → Type 0
+IsExtractTold contents (Some refusal) text missing old new end = (end ≡ Err refusal) × (new ≡ old)
+IsExtractTold contents None text missing old new end =
+    ((end ≡ reported_end None missing) × Appends (contents old) (contents new) text)
+    ⊎ ((end ≡ Err faults.File) × AppendsPart (contents old) (contents new) text)
 
 -- a folder wasn't made, for this reason
 abbrev pub IsUnmade : CommandFault → Type 0
 IsUnmade fault = (fault ≡ faults.File) ⊎ ((fault ≡ faults.PathExists) ⊎ (fault ≡ faults.NoMemory))
 
--- The chosen files of the image were gathered, or not all for a fault. If they were, the folder was made with them (`Made`), whatever
--- is reported of them: what is seen of files that lack something. Or it couldn't be made, and nothing was printed. Or there was
--- no memory to see that, and nothing was done.
+-- nothing was begun: there was no memory to see what an image lacks, or it has the size of none
+abbrev pub IsUnseen : (image : List ℕ) → CommandFault → Type 0
+IsUnseen image fault = (fault ≡ faults.NoMemory) ⊎ ((fault ≡ faults.ImageSize) × ¬ (IsImageSize (length image)))
+
+-- The chosen files of the disk in the image were gathered, or not all for a fault. If they were, the folder was made with them
+-- (`Made`), whatever is reported of them: what is seen of files that lack something, and what isn't on that disk. Or it couldn't be
+-- made, and nothing was printed. Or that couldn't be seen, and nothing was done.
 abbrev pub IsExtractRun : {W : Type 0} → (Made : List MemFile → Type 0) → (Failed : Type 0) → (W → Option (List ℕ)) → Choice
     → (image : List ℕ) → W → W → JobEnd → Type 0
 IsExtractRun Made Failed contents choice image old new end =
-    ((end ≡ Err faults.NoMemory) × (new ≡ old))
-    ⊎ ((ended : Result (Option Fault) CommandFault) × (lack : Option Shortfall) × (files : List MemFile)
+    ((fault : CommandFault) × IsUnseen image fault × (end ≡ Err fault) × (new ≡ old))
+    ⊎ ((ended : Result (Option Fault) CommandFault) × (lack : Option Shortfall) × (missing : List ℕ) × (files : List MemFile)
     × MatchResult ended (IsExtracted {F = List NewFile} (λ all. Some all) choice image [] (map file_in files))
-    (IsExtractFault {F = List NewFile} (λ all. Some all) choice image [] (map file_in files)) × IsSeen image lack
-    × ((IsExtractTold contents (refusal_of ended lack) lack old new end × (IsOk ended → Made files))
+    (IsExtractFault {F = List NewFile} (λ all. Some all) choice image [] (map file_in files)) × IsSeen (disk_of image) lack
+    × IsMissing image missing
+    × ((IsExtractTold contents (refusal_of ended lack) (extracted_text lack ++ missing) missing old new end
+    × (IsOk ended → Made files))
     ⊎ (IsOk ended × Failed × (fault : CommandFault) × (end ≡ Err fault) × IsUnmade fault × (new ≡ old))))
 
 -- the files of an image were made so in a folder of a host

@@ -10,3 +10,5 @@ pub mod Overviews
 pub mod Plans
 pub mod Reports
 pub mod SheetPages
+pub mod ShownObjects
+pub mod WiderMaps

@@ -11,11 +11,11 @@ use Rattle.std.specs.Io.KnownBytes.{Appends}
 use Rattle.image_looks.specs.Descriptions.{IsDescribedFrom, heading_of}
 use Rattle.image_looks.specs.EachImage.{AreHandedOn, IsSeveralEnd, IsReadAt}
 use Rattle.opened_files.specs.Ends.{JobEnd}
-use Rattle.image_looks.specs.Extents.{extent_of}
+use Rattle.image_looks.specs.Extents.{extent_of, form_extent}
 use Rattle.image_looks.specs.Extracts.{IsExtractedTo}
 use Rattle.opened_files.specs.Extents.{taken_as}
 use Rattle.opened_files.specs.HostFiles.{OfImage, RunEnds}
-use Rattle.opened_files.specs.declared.extents.Extent.TheVariants.{Disk, FirstTracks}
+use Rattle.opened_files.specs.declared.extents.Extent.TheVariants.{FirstTracks, Whole}
 use Rattle.image_looks.specs.Looks.{IsLook}
 use Rattle.image_looks.specs.Overviews.{IsOverviewOf}
 use Rattle.image_looks.specs.SheetPages.{IsSheetPrinted}
@@ -42,7 +42,7 @@ module _ {H W : Type 0} (rights : Rights H) (stands : H → List ℕ → Stands)
   abbrev pub AreDescribed : ImageForm → List (List ℕ) → W → W → JobEnd → Type 0
   AreDescribed form paths old new end = IsSeveralEnd (λ greatest. (below : W)
       × Appends (contents old) (contents below) (heading_of form)
-      × AreHandedOn (IsReadAt rights stands host Disk) (IsDescribedFrom contents form) contents paths below new greatest) end
+      × AreHandedOn (IsReadAt rights stands host (form_extent form)) (IsDescribedFrom contents form) contents paths below new greatest) end
 
   -- what is asked of each of them was printed after a name
   abbrev pub AreOverviewed : Look → List (List ℕ) → W → W → JobEnd → Type 0
@@ -55,4 +55,4 @@ module _ {H F W : Type 0} (rights : Rights H) (stands : H → List ℕ → Stand
   abbrev pub IsExtractedFrom : Choice → (path folder : List ℕ) → W → W → JobEnd → Type 0
   IsExtractedFrom choice path folder old new end = OfImage rights stands host path
       (λ all. RunEnds old new end ((at : List ℕ) × ((folder ≡ at) ⊎ (folder ≡ at ++ codes "/"))
-      × IsExtractedTo remains traces contents host choice at (taken_as FirstTracks all) old new end))
+      × IsExtractedTo remains traces contents host choice at (taken_as Whole all) old new end))

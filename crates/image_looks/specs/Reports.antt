@@ -1,5 +1,5 @@
 -- What is printed of the disk in an image, and what isn't on that disk. Our own.
-use Rattle.std.specs.Prelude.{◌⊎◌, ◌≡◌, ◌≢◌, ℕ, Bool, List, [], ◌∷◌, None, Option, Some, Ok, Err, false, if◌then◌else◌, length, true}
+use Rattle.std.specs.Prelude.{◌⊎◌, ◌≡◌, ◌≢◌, ℕ, Bool, List, [], ◌∷◌, ◌++◌, None, Option, Some, Ok, Err, false, if◌then◌else◌, length, true}
 use Rattle.std.specs.Io.KnownBytes.{Appends}
 use Rattle.command_faults.specs.declared.faults.CommandFault.{CommandFault}
 use Rattle.command_faults.specs.declared.faults.CommandFault.TheVariants as faults
@@ -12,6 +12,7 @@ use Rattle.disk_pictures.specs.Outcomes.{IsMapPrinted, IsPictureFault, IsPicture
 use Rattle.disk_reports.specs.AllFaults.{AreListed}
 use Rattle.disk_reports.specs.Outcomes.{IsCheckedAmong, IsDescribeFault}
 use Rattle.disk_reports.specs.Texts.{verdict_text}
+use Rattle.image_looks.specs.WiderMaps.{maps_text}
 use Rattle.image_looks.specs.declared.reporting.Report.{Report}
 use Rattle.image_looks.specs.declared.reporting.Report.TheVariants as reports
 use Rattle.opened_files.specs.Ends.{JobEnd}
@@ -27,9 +28,9 @@ abbrev pub on_page : Report → Bool
 on_page reports.Picture = true
 on_page _ = false
 
--- the lines as they are printed: on a page as HTML
-abbrev pub told_as : Report → List ℕ → List ℕ
-told_as report lines = if on_page report then missing_block lines else lines
+-- the lines as they are printed: on a page as HTML, and in text with these after them
+abbrev pub told_as : Report → (lines maps : List ℕ) → List ℕ
+told_as report lines maps = if on_page report then missing_block lines else lines ++ maps
 
 -- why this isn't printed of a disk
 abbrev pub IsReportFault : Report → (disk : List ℕ) → CommandFault → Type 0
@@ -51,14 +52,14 @@ module _ {W : Type 0} (contents : W → Option (List ℕ)) where
   IsReported reports.Map disk old new found = IsMapPrinted contents disk old new found
   IsReported reports.Picture disk old new found = IsPicturePrinted contents disk old new found
 
-  -- This was printed of the disk in an image, and after it the lines of what isn't on that disk.
+  -- This was printed of the disk in an image, and after it the lines of what isn't on that disk, and of maps of more tracks.
   pub record IsReportedWith (report : Report) (image : List ℕ) (old new : W) (end : JobEnd) : Type 0 where
     pub found : Option Fault
     pub lines : List ℕ
     pub between : W
     pub disk : IsReported report (disk_of image) old between found
     pub missing : IsMissing image lines
-    pub told : Appends (contents between) (contents new) (told_as report lines)
+    pub told : Appends (contents between) (contents new) (told_as report lines (maps_text image))
     pub ended : end ≡ reported_end found lines
 
   -- that, or why it wasn't, and unless the output failed nothing was printed

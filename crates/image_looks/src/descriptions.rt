@@ -1,15 +1,18 @@
-//! Images that are read, each described in a line of its own: what is known of it, or what can be done for it.
+//! Images that are read, each described in a line of its own: what is known of it, what can be done for it, or what a look at it
+//! shows.
 ghost use Rattle.std.specs.Prelude.{◌≡◌, ◌≢◌, All, IfOk, map, IfErr, OnOk};
 ghost use Rattle.std.specs.Io.KnownBytes.{Appends};
 ghost use Rattle.command_faults.specs.declared.faults.CommandFault.TheVariants as faults;
 ghost use Rattle.image_looks.specs.Descriptions.{IsDescribedFrom, IsDescribingFault, IsImageDescribed, IsOneDescribed};
 ghost use Rattle.image_looks.specs.Descriptions.{IsRefusalDescribed, IsRefusalPrinted, heading_of as heading_text};
 ghost use Rattle.image_looks.specs.EachImage.{IsCutOff, as_loaded};
+ghost use Rattle.image_looks.specs.Extents.{form_extent};
 ghost use Rattle.image_looks.specs.LookRuns.{AreDescribed};
 ghost use Rattle.opened_files.specs.Rights.{MayLook, MayReadImage};
 ghost use Rattle.image_looks.specs.declared.descriptions.ImageForm.TheVariants as forms;
 
 use crate::each_image::{PrintsImage, print_each, several_end};
+use crate::objects::{ImageObject, show_object, show_refused};
 use crate::plans::{plan_against, plan_of};
 use command_faults::CommandFault;
 use disk_layout::Fault;
@@ -29,6 +32,20 @@ pub enum ImageForm {
     Described(DescriptionForm),
     /// By what can be done for each.
     Planned(PlanForm),
+    /// By an object of what a look prints of each.
+    Shown(ImageObject),
+}
+
+impl ImageForm {
+    /// Which images are described so.
+    fn extent(self) -> Extent
+        ensures { result ≡ form_extent self }
+    {
+        match self {
+            ImageForm::Shown(object) => object.extent(),
+            _ => Extent::Disk,
+        }
+    }
 }
 
 /// What stands before the first image.
@@ -38,6 +55,7 @@ fn heading_of(form: ImageForm) -> &'static [u8]
     match form {
         ImageForm::Described(form) => heading(form),
         ImageForm::Planned(form) => plan_heading(form),
+        ImageForm::Shown(_) => b"",
     }
 }
 
@@ -93,6 +111,7 @@ where
             size_of(rt, path),
             out,
         ),
+        ImageForm::Shown(_) => show_refused(rt.alloc(), path, refusal, out),
     }
 }
 
@@ -130,6 +149,7 @@ fn describe_one<W: Write>(
     match form {
         ImageForm::Described(form) => describe_image(alloc, form, path.as_bytes(), image, out),
         ImageForm::Planned(form) => plan_of(alloc, form, path, image, out),
+        ImageForm::Shown(object) => show_object(alloc, object, path, image, out),
     }
 }
 
@@ -228,6 +248,6 @@ where
     ensures { AreDescribed R.rights R.stands W.contents rt.now form (map (λ path. path.now) paths.now) out.old out.new result }
 {
     print_heading(form, out)?;
-    let greatest = print_each(rt, &Listed(form), Extent::Disk, paths, out)?;
+    let greatest = print_each(rt, &Listed(form), form.extent(), paths, out)?;
     several_end(greatest, out)
 }

@@ -1,7 +1,5 @@
 //! All files of an image, taken out to a folder that is new.
 ghost use Rattle.std.specs.Prelude.{◌≡◌, ◌++◌, IfErr, IfOk, IfSome, IsErr, IsOk, OnOk, codes, true};
-ghost use Rattle.std.specs.Io.KnownBytes.{Appends};
-ghost use Rattle.line_text.specs.Handed.{AppendsPart};
 ghost use Rattle.command_faults.specs.declared.faults.CommandFault.TheVariants as faults;
 ghost use Rattle.image_looks.specs.Extracts.{IsExtractRun, IsExtractTold, IsExtractedTo, IsUnmade, extracted_text, refusal_found, refusal_of};
 ghost use Rattle.image_looks.specs.LookRuns.{IsExtractedFrom};
@@ -11,13 +9,14 @@ ghost use Rattle.opened_files.specs.HostFiles.{IsUnbegun, OfImage, RunEnds};
 ghost use Rattle.opened_files.specs.Rights.{MayFill, MayFillAt, MayReadImage};
 
 use crate::new_folders::{FolderPlace, GatheredFiles, SystemFolder};
-use arrayvec::ArrayVec;
+use crate::reporting::reported_end;
 use command_faults::CommandFault;
-use damaged_files::Shortfall;
+use damaged_files::{Shortfall, disk_in};
 use disk_layout::Fault;
+use disk_pictures::missing_lines;
 use file_rescues::{Choice, extract_image};
 use image_file::{EndedFile, HostFiles, Locks};
-use opened_files::{Extent, image_as, run_end, short_refusal, shortfall_in};
+use opened_files::{Extent, image_as, short_refusal, shortfall_in};
 use shop_commands::print_whole;
 use std::alloc::Global;
 use std::fs::OpenFile;
@@ -47,34 +46,46 @@ fn extract_refusal(
     }
 }
 
-/// Prints `EXTRACTED`, and what a file lacks, if one lacks something.
-fn print_extracted<W: Write>(lack: Option<Shortfall>, out: &mut W) -> Result<(), CommandFault>
-    ensures ok { OnOk result (Appends (W.contents out.old) (W.contents out.new) (extracted_text lack)) }
-    ensures err { IfErr result (λ fault.
-        (fault ≡ faults.File) × AppendsPart (W.contents out.old) (W.contents out.new) (extracted_text lack)) }
+/// Adds that all files are made, and what one lacks, if one lacks something.
+fn add_extracted(text: &mut Vec<u8>, lack: Option<Shortfall>) -> io::Result<()>
+    ensures { OnOk result (text.new.items ≡ text.old.items ++ extracted_text lack) }
 {
-    let Some(lack) = lack else {
-        return print_whole(out, b"EXTRACTED\n");
-    };
-    let mut text = ArrayVec::<u8, 40>::new();
-    if writeln!(text, "EXTRACTED\n{lack}").is_err() {
-        return Err(CommandFault::File);
+    match lack {
+        None => write!(text, "EXTRACTED\n"),
+        Some(lack) => write!(text, "EXTRACTED\n{lack}\n"),
     }
-    print_whole(out, text.as_slice())
 }
 
-/// Prints `EXTRACTED`, and what a file lacks, unless the job is refused. Returns how it ended.
+/// That all files are made, what one lacks, and these lines, which say what isn't on the disk of the image. `NoMemory`.
+fn extracted_lines(
+    alloc: Global,
+    lack: Option<Shortfall>,
+    missing: &[u8],
+) -> Result<Vec<u8>, CommandFault>
+    ensures ok { IfOk result (λ text. text.items ≡ extracted_text lack ++ missing.now) }
+    ensures err { IfErr result (λ fault. fault ≡ faults.NoMemory) }
+{
+    let mut text = Vec::new(alloc);
+    if add_extracted(&mut text, lack).is_err() || text.extend_from_slice(missing).is_err() {
+        return Err(CommandFault::NoMemory);
+    }
+    Ok(text)
+}
+
+/// Prints this text, unless the job is refused. Returns how it ended, where these lines say what isn't on the disk of the image.
 fn tell_extracted<W: Write>(
     refused: Option<CommandFault>,
-    lack: Option<Shortfall>,
+    text: &[u8],
+    missing: &[u8],
     out: &mut W,
 ) -> Result<Option<Fault>, CommandFault>
-    ensures { IsExtractTold W.contents refused lack out.old out.new result }
+    ensures { IsExtractTold W.contents refused text.now missing.now out.old out.new result }
 {
     if let Some(refusal) = refused {
         return Err(refusal);
     }
-    run_end(print_extracted(lack, out))
+    print_whole(out, text)?;
+    reported_end(None, missing)
 }
 
 /// Makes a folder with the files that were gathered; none if they weren't all. `Exists` if something stands in its place,
@@ -100,10 +111,14 @@ fn make_gathered<P: FolderPlace>(
     }
 }
 
-/// Makes the chosen files of an image in a new folder, as `extract_image` does, and prints `EXTRACTED` if all are whole. `FEWER`
-/// and a sector follow if a file of a sound disk has fewer blocks than its entry says, and ends there. Otherwise nothing is
-/// printed. `Keep` has the first fault of a file or of the directory, or why the files aren't made. `Short`: a file of a sound
-/// disk is cut short. `Exists` if something stands in the folder's place. `File` if the folder failed, or the output; `NoMemory`.
+/// Makes the chosen files of the disk in an image of 35, 40 or 42 tracks in a new folder, as `extract_image` does, and prints
+/// `EXTRACTED` if all are whole. `FEWER` and a sector follow if a file of a sound disk has fewer blocks than its entry says, and ends
+/// there; and a line for each sector that a drive couldn't read, and for each file that goes on past track 35. Otherwise nothing is
+/// printed.
+///
+/// `Trimmed`: all were made, and such lines were printed. `Layout` has the first fault of a file or of the directory. `Short`: a file
+/// of a sound disk is cut short. `PathExists` if something stands in the folder's place. `File` if the folder failed, or the output.
+/// `ImageSize` and `NoMemory`.
 pub fn extract_run<P: FolderPlace, W: Write>(
     alloc: Global,
     choice: Choice,
@@ -114,11 +129,18 @@ pub fn extract_run<P: FolderPlace, W: Write>(
     ensures { IsExtractRun (λ files. P.IsMade place.now files) (P.HasFailed place.now) W.contents choice image.now
         out.old out.new result }
 {
-    let lack = shortfall_in(alloc, image)?;
+    let missing = missing_lines(alloc, image)?;
+    let lack = shortfall_in(alloc, disk_in(image))?;
+    let text = extracted_lines(alloc, lack, missing.as_slice())?;
     let mut gathered = GatheredFiles::new(alloc);
     let ended = extract_image(alloc, choice, image, &mut gathered);
     match make_gathered(&ended, &gathered, place) {
-        Ok(()) => tell_extracted(extract_refusal(ended, lack), lack, out),
+        Ok(()) => tell_extracted(
+            extract_refusal(ended, lack),
+            text.as_slice(),
+            missing.as_slice(),
+            out,
+        ),
         Err(fault) => Err(fault),
     }
 }
@@ -139,9 +161,9 @@ where
     requires image { MayReadImage R.rights rt.now path.now }
     requires folder { MayFill R.rights rt.now folder.now }
     ensures { OfImage R.rights R.stands rt.now path.now (λ all. RunEnds out.old out.new result (IsExtractedTo
-        F.EndedFile.remains R.traces W.contents rt.now choice folder.now (taken_as extents.FirstTracks all) out.old out.new result)) }
+        F.EndedFile.remains R.traces W.contents rt.now choice folder.now (taken_as extents.Whole all) out.old out.new result)) }
 {
-    let image = image_as(rt, Extent::FirstTracks, path)?;
+    let image = image_as(rt, Extent::Whole, path)?;
     let place = SystemFolder::new(rt, folder);
     extract_run(rt.alloc(), choice, image.as_slice(), &place, out)
 }

@@ -5,8 +5,10 @@ ghost use Rattle.command_faults.specs.declared.faults.CommandFault.TheVariants a
 ghost use Rattle.disk_pictures.specs.Missing.{IsMissing};
 ghost use Rattle.disk_reports.specs.AllFaults.{AreListed};
 ghost use Rattle.disk_reports.specs.Outcomes.{IsDescribeFault};
+ghost use Rattle.image_looks.specs.WiderMaps.{maps_text};
 ghost use Rattle.image_looks.specs.Reports.{IsReportEnd, IsReportFault, IsReported, on_page, reported_end as end_of, told_as};
 
+use crate::wider_maps::wider_maps;
 use command_faults::{CommandFault, flush};
 use damaged_files::disk_in;
 use disk_layout::Fault;
@@ -72,31 +74,53 @@ fn is_page(report: Report) -> bool
     matches!(report, Report::Picture)
 }
 
-/// Prints lines, as text or for a page.
-fn print_either<W: Write>(report: Report, lines: &[u8], out: &mut W) -> Result<(), CommandFault>
-    ensures ok { OnOk result (Appends (W.contents out.old) (W.contents out.new) (told_as report lines.now)) }
+/// Prints lines as they are.
+fn print_plain<W: Write>(lines: &[u8], out: &mut W) -> Result<(), CommandFault>
+    ensures ok { OnOk result (Appends (W.contents out.old) (W.contents out.new) lines.now) }
     ensures err { IfErr result (λ fault. fault ≡ faults.File) }
 {
-    if is_page(report) {
-        return print_missing_block(lines, out);
-    }
     match out.write_all(lines) {
         Ok(()) => Ok(()),
         Err(_) => Err(CommandFault::File),
     }
 }
 
-/// The same, and hands on what the output held back.
-fn print_lines<W: Write>(report: Report, lines: &[u8], out: &mut W) -> Result<(), CommandFault>
-    ensures ok { OnOk result (Appends (W.contents out.old) (W.contents out.new) (told_as report lines.now)) }
+/// Prints lines for a page, or as text, in which these others follow.
+fn print_either<W: Write>(
+    report: Report,
+    lines: &[u8],
+    maps: &[u8],
+    out: &mut W,
+) -> Result<(), CommandFault>
+    ensures ok { OnOk result (Appends (W.contents out.old) (W.contents out.new) (told_as report lines.now maps.now)) }
     ensures err { IfErr result (λ fault. fault ≡ faults.File) }
 {
-    print_either(report, lines, out)?;
+    if is_page(report) {
+        return print_missing_block(lines, out);
+    }
+    print_plain(lines, out)?;
+    print_plain(maps, out)
+}
+
+/// The same, and hands on what the output held back.
+fn print_lines<W: Write>(
+    report: Report,
+    lines: &[u8],
+    maps: &[u8],
+    out: &mut W,
+) -> Result<(), CommandFault>
+    ensures ok { OnOk result (Appends (W.contents out.old) (W.contents out.new) (told_as report lines.now maps.now)) }
+    ensures err { IfErr result (λ fault. fault ≡ faults.File) }
+{
+    print_either(report, lines, maps, out)?;
     flush(out)
 }
 
 /// How a look ends that found this fault or none, where these lines say what isn't on the disk.
-fn reported_end(found: Option<Fault>, lines: &[u8]) -> Result<Option<Fault>, CommandFault>
+pub(crate) fn reported_end(
+    found: Option<Fault>,
+    lines: &[u8],
+) -> Result<Option<Fault>, CommandFault>
     ensures { result ≡ end_of found lines.now }
 {
     match found {
@@ -106,25 +130,29 @@ fn reported_end(found: Option<Fault>, lines: &[u8]) -> Result<Option<Fault>, Com
     }
 }
 
-/// Prints this of the disk in an image, and then these lines, which say what isn't on that disk.
+/// Prints this of the disk in an image, and then these lines, which say what isn't on that disk, and which systems of other drives
+/// have a map of more tracks on it.
 fn report_with<W: Write>(
     alloc: Global,
     report: Report,
     image: &[u8],
     lines: &[u8],
+    maps: &[u8],
     out: &mut W,
 ) -> Result<Option<Fault>, CommandFault>
-    requires { IsMissing image.now lines.now }
+    requires missing { IsMissing image.now lines.now }
+    requires maps { maps.now ≡ maps_text image.now }
     ensures { IsReportEnd W.contents report image.now out.old out.new result }
 {
     let found = report_disk(alloc, report, disk_in(image), out)?;
-    print_lines(report, lines, out)?;
+    print_lines(report, lines, maps, out)?;
     reported_end(found, lines)
 }
 
 /// Prints this of the disk in an image of 35, 40 or 42 tracks, with error bytes or without. Then follows a line for each of its sectors that
-/// a drive couldn't read, and for each file that goes on past track 35; none of an image that is a disk alone. Returns the first
-/// fault that a check finds.
+/// a drive couldn't read, and for each file that goes on past track 35; none of an image that is a disk alone. In text there is also
+/// one for each system of another drive whose map of tracks 36 to 40 stands in 18/0 of a longer image. Returns the first fault that a
+/// check finds.
 ///
 /// `Trimmed`: the check found no fault, and there are such lines. `ImageSize`, `NoMemory`, and for a drawing `Layout`: nothing was
 /// printed. `File` if the output failed, which may then have a part.
@@ -137,5 +165,6 @@ pub(crate) fn report_image<W: Write>(
     ensures { IsReportEnd W.contents report image.now out.old out.new result }
 {
     let lines = missing_lines(alloc, image)?;
-    report_with(alloc, report, image, lines.as_slice(), out)
+    let maps = wider_maps(alloc, image)?;
+    report_with(alloc, report, image, lines.as_slice(), maps.as_slice(), out)
 }

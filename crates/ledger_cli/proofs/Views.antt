@@ -10,10 +10,11 @@ use Rattle.disk_reports.specs.declared.texts.NameForm.{NameForm}
 use Rattle.image_looks.specs.declared.kinds.DiskLook.TheVariants as disks
 use Rattle.image_looks.specs.declared.kinds.Look.{Look}
 use Rattle.image_looks.specs.declared.kinds.Look.TheVariants as looks
+use Rattle.image_looks.specs.declared.objects.ImageObject.{ImageObject}
 use Rattle.ledger_cli.specs.Flags.{is_given}
-use Rattle.ledger_cli.specs.Images.{IsCheckJob, IsLookJob, IsPlanJob}
+use Rattle.ledger_cli.specs.Images.{IsCheckJob, IsLookJob, IsPlanJob, IsShowingJob}
 use Rattle.ledger_cli.specs.Forms.{loss_in, name_form_in}
-use Rattle.ledger_cli.specs.Looks.{IsAlone, IsAskedBy, IsOne, check_in, description_in, disk_look_in, word_of}
+use Rattle.ledger_cli.specs.Looks.{IsAlone, IsAskedBy, IsObjectAsked, IsOne, IsPlain, check_in, description_in, disk_look_in, object_word, word_of}
 use Rattle.ledger_cli.specs.Jobs.{IsJob, IsNoJob}
 use Rattle.ledger_cli.specs.declared.faults.JobFault.{JobFault}
 use Rattle.ledger_cli.proofs.Parses.{met-has}
@@ -23,20 +24,20 @@ abbrev IsOfMany : Look → Type 0
 IsOfMany (looks.List form) = ⊤
 IsOfMany looks.Check = ⊤
 IsOfMany looks.Faults = ⊤
-IsOfMany (looks.AsIs (disks.List form)) = ⊤
-IsOfMany (looks.AsIs disks.Check) = ⊤
-IsOfMany (looks.AsIs disks.Faults) = ⊤
+IsOfMany (looks.Show loss) = ⊤
+IsOfMany (looks.AsIs what) = ⊤
 IsOfMany looks.Map = ⊤
+IsOfMany looks.Free = ⊤
 IsOfMany _ = ⊥
 
 alone : (what : Look) (rows : List Row) → IsOfMany what → IsOne rows → IsAlone what rows
 alone (looks.List form) rows many one = one
 alone looks.Check rows many one = one
 alone looks.Faults rows many one = one
-alone (looks.AsIs (disks.List form)) rows many one = one
-alone (looks.AsIs disks.Check) rows many one = one
-alone (looks.AsIs disks.Faults) rows many one = one
+alone (looks.Show loss) rows many one = one
+alone (looks.AsIs what) rows many one = one
 alone looks.Map rows many one = one
+alone looks.Free rows many one = one
 alone _ rows many one = absurd many
 
 -- what prints this of one image or of several is the job of the subcommand that was met, or there was no memory
@@ -67,17 +68,38 @@ check-met rows false false given asked plain = rw (given, asked) (refl, tt, (ask
 
 -- and so is a directory
 pub list-met : (rows : List Row) (whole : Bool) (form : NameForm) → is_given (codes "as-is") rows ≡ whole → form ≡ name_form_in rows
+    → IsPlain rows
     → (word_of (disk_look_in (disks.List form) rows) ≡ codes "list") × IsOfMany (disk_look_in (disks.List form) rows)
     × IsAskedBy (disk_look_in (disks.List form) rows) rows
-list-met rows true form asked is = rw asked (refl, tt, (asked, is))
-list-met rows false form asked is = rw asked (refl, tt, (asked, is))
+list-met rows true form asked is plain = rw asked (refl, tt, (asked, (is, plain)))
+list-met rows false form asked is plain = rw asked (refl, tt, (asked, (is, plain)))
 
 -- and a shop
 pub show-met : (rows : List Row) (whole : Bool) (loss : Loss) → is_given (codes "as-is") rows ≡ whole → loss ≡ loss_in rows
-    → (word_of (disk_look_in (disks.Show loss) rows) ≡ codes "show") × IsAlone (disk_look_in (disks.Show loss) rows) rows
+    → IsPlain rows
+    → (word_of (disk_look_in (disks.Show loss) rows) ≡ codes "show") × IsOfMany (disk_look_in (disks.Show loss) rows)
     × IsAskedBy (disk_look_in (disks.Show loss) rows) rows
-show-met rows true loss asked is = rw asked (refl, tt, (asked, is))
-show-met rows false loss asked is = rw asked (refl, tt, (asked, is))
+show-met rows true loss asked is plain = rw asked (refl, tt, (asked, (is, plain)))
+show-met rows false loss asked is plain = rw asked (refl, tt, (asked, (is, plain)))
+
+-- what prints this of images, or shows each as an object, is the job of the subcommand that was met
+pub showing-met : (o : Option (Bor Text × Bor ArgMatches)) (found : Option (Text × List Row)) (name : Bor Text)
+    (at : Bor ArgMatches) (what : Look) (object : ImageObject) (r : Result Job JobFault)
+    → option_map (λ (p : Bor Text × Bor ArgMatches). (p.0.now, rows_of (found_of p.1.now))) o ≡ found
+    → o ≡ Some (name, at) → name.now ≡ object_word object
+    → (IsPlain (rows_of (found_of at.now)) → (word_of what ≡ object_word object) × IsOfMany what
+    × IsAskedBy what (rows_of (found_of at.now)))
+    → IsObjectAsked object (rows_of (found_of at.now))
+    → IsShowingJob (rows_of (found_of at.now)) what object r → MatchResult r (IsJob found) (IsNoJob [] found) × IfOk r IsFit
+showing-met o found name at what object r told some is asks by (inl (plain, job)) =
+    let asked = asks plain in
+    viewing-met o found name at what r told some (is ∙ sym asked.0) asked.1 asked.2 job
+showing-met o found name at what object r told some is asks by (inr (inl (images, same, are))) =
+    let P : Result Job JobFault → Type 0 = λ j. MatchResult j (IsJob found) (IsNoJob [] found) × IfOk j IsFit in
+    subst P (sym same) (met-has o found name at (object_word object) _ told some is (by, are), tt)
+showing-met o found name at what object r told some is asks by (inr (inr (e, same, kind))) =
+    let P : Result Job JobFault → Type 0 = λ j. MatchResult j (IsJob found) (IsNoJob [] found) × IfOk j IsFit in
+    subst P (sym same) (kind, tt)
 
 -- what checks images, or describes each, is the job of `check`
 pub checking-met : (o : Option (Bor Text × Bor ArgMatches)) (found : Option (Text × List Row)) (name : Bor Text)

@@ -14,7 +14,8 @@ use Rattle.image_looks.specs.declared.descriptions.ImageForm.TheVariants as form
 use Rattle.image_looks.specs.declared.kinds.Look.{Look}
 use Rattle.image_looks.specs.declared.kinds.Look.TheVariants as looks
 use Rattle.ledger_cli.specs.declared.faults.JobFault.{JobFault}
-use Rattle.ledger_cli.specs.Looks.{IsForOne, IsOne, check_in, description_in, plan_in}
+use Rattle.image_looks.specs.declared.objects.ImageObject.{ImageObject}
+use Rattle.ledger_cli.specs.Looks.{IsForOne, IsOne, IsPlain, check_in, description_in, plan_in}
 use Rattle.ledger_cli.specs.Flags.{is_given}
 use Rattle.ledger_jobs.specs.declared.jobs.Job.TheVariants as jobs
 use Rattle.ledger_cli.specs.declared.faults.JobFault.TheVariants as faults
@@ -96,6 +97,19 @@ IsPlanJob rows result =
     ((images : Vec (Bor Text) Global) × (result ≡ Ok (jobs.Describe (forms.Planned (plan_in rows)) images))
     × ArePlanned rows (plan_in rows) (vec_items images))
     ⊎ ((e : Error) × (result ≡ Err (faults.Words e)) × HasKind [] e)
+
+-- an object of JSON is asked for of each of these images, in their order
+abbrev pub AreShown : List Row → List (Bor Text) → Type 0
+AreShown rows images = (is_given (codes "json") rows ≡ true)
+    × (map (λ image. image.now) images ≡ values (codes "IMAGE") rows)
+
+-- the job, or why there is none, of a subcommand that prints this of one image or of several, or with --json an object of each
+abbrev pub IsShowingJob : List Row → Look → ImageObject → Result Job JobFault → Type 0
+IsShowingJob rows what object result =
+    (IsPlain rows × IsLookJob rows what result)
+    ⊎ (((images : Vec (Bor Text) Global) × (result ≡ Ok (jobs.Describe (forms.Shown object) images))
+    × AreShown rows (vec_items images))
+    ⊎ ((e : Error) × (result ≡ Err (faults.Words e)) × HasKind [] e))
 
 -- the sheet of these images; or there are too many for it, or there was no memory
 abbrev pub IsSheet : List (Bor Text) → Result Job JobFault → Type 0

@@ -13,8 +13,8 @@ use Rattle.opened_files.specs.Names.{IsNameOf, name_bytes}
 use Rattle.ledger_cli.specs.declared.faults.JobFault.{JobFault}
 use Rattle.ledger_cli.specs.Numbers.{tills_in, length_in, place_in}
 use Rattle.ledger_cli.specs.Forms.{AreColumns, choice_in, effect_in, loss_in, unowned_in}
-use Rattle.ledger_cli.specs.Images.{AreCompared, AreDescribed, AreImages, AreOnSheet, ArePlanned, IsNoPicture}
-use Rattle.ledger_cli.specs.Looks.{IsAlone, IsAskedBy, word_of}
+use Rattle.ledger_cli.specs.Images.{AreCompared, AreDescribed, AreImages, AreOnSheet, ArePlanned, AreShown, IsNoPicture}
+use Rattle.ledger_cli.specs.Looks.{IsAlone, IsAskedBy, IsObjectAsked, object_word, word_of}
 use Rattle.ledger_cli.specs.Names.{HasNoName, HasNoNewName, HasName, HasNewName, IsIdOf, HasNoId, HasNoFileCopying, HasNoRenaming, copy_name, entry_type_in, type_in}
 use Rattle.ledger_cli.specs.Flags.{is_given}
 use Rattle.ledger_cli.specs.Positions.{HasNoColumns}
@@ -100,6 +100,8 @@ IsJob found (jobs.Describe (forms.Described form) images) = Has found (codes "ch
     (λ rows. AreDescribed rows form (vec_items images))
 IsJob found (jobs.Describe (forms.Planned form) images) = Has found (codes "plan")
     (λ rows. ArePlanned rows form (vec_items images))
+IsJob found (jobs.Describe (forms.Shown object) images) = Has found (object_word object)
+    (λ rows. IsObjectAsked object rows × AreShown rows (vec_items images))
 IsJob found (jobs.Sheet images) = Has found (codes "picture") (λ rows. AreOnSheet rows (vec_items images))
 IsJob found (jobs.Compare before after) = Has found (codes "picture") (λ rows. AreCompared rows before.now after.now)
 IsJob found (jobs.Trim image) = Has found (codes "trim") (λ rows. image.now ≡ value (codes "IMAGE") rows)

@@ -12,6 +12,8 @@ use Rattle.image_looks.specs.declared.kinds.DiskLook.{DiskLook}
 use Rattle.image_looks.specs.declared.kinds.DiskLook.TheVariants as disks
 use Rattle.image_looks.specs.declared.kinds.Look.{Look}
 use Rattle.image_looks.specs.declared.kinds.Look.TheVariants as looks
+use Rattle.image_looks.specs.declared.objects.ImageObject.{ImageObject}
+use Rattle.image_looks.specs.declared.objects.ImageObject.TheVariants as objects
 use Rattle.ledger_cli.specs.Flags.{is_given}
 use Rattle.ledger_cli.specs.Forms.{IsRecordForm, byte_form_in, candidates_in, loss_in, name_form_in}
 use Rattle.ledger_cli.specs.Numbers.{place_in}
@@ -74,12 +76,16 @@ plan_of (Some forms.Csv) = plans.Csv
 abbrev pub plan_in : List Row → PlanForm
 plan_in rows = plan_of (description_in rows)
 
--- the values and the flags ask for this of a disk; with --json or --csv `check` describes images in place of it
+-- no objects of JSON are asked for
+abbrev pub IsPlain : List Row → Type 0
+IsPlain rows = is_given (codes "json") rows ≡ false
+
+-- the values and the flags ask for this of a disk; with --json or --csv images are described in place of it
 abbrev pub IsDiskAsked : DiskLook → List Row → Type 0
-IsDiskAsked (disks.List form) rows = form ≡ name_form_in rows
+IsDiskAsked (disks.List form) rows = (form ≡ name_form_in rows) × IsPlain rows
 IsDiskAsked disks.Check rows = (description_in rows ≡ None) × (is_given (codes "all") rows ≡ false)
 IsDiskAsked disks.Faults rows = (description_in rows ≡ None) × (is_given (codes "all") rows ≡ true)
-IsDiskAsked (disks.Show loss) rows = loss ≡ loss_in rows
+IsDiskAsked (disks.Show loss) rows = (loss ≡ loss_in rows) × IsPlain rows
 
 -- of a disk alone
 abbrev pub IsAloneAsked : DiskLook → List Row → Type 0
@@ -92,6 +98,7 @@ IsAskedBy looks.Check rows = IsAloneAsked disks.Check rows
 IsAskedBy looks.Faults rows = IsAloneAsked disks.Faults rows
 IsAskedBy (looks.Show loss) rows = IsAloneAsked (disks.Show loss) rows
 IsAskedBy (looks.AsIs what) rows = (is_given (codes "as-is") rows ≡ true) × IsDiskAsked what rows
+IsAskedBy looks.Free rows = IsPlain rows
 IsAskedBy looks.Picture rows = is_given (codes "svg") rows ≡ false
 IsAskedBy looks.Poster rows = is_given (codes "svg") rows ≡ true
 IsAskedBy (looks.Sector place) rows = place_in rows ≡ Some place
@@ -103,6 +110,18 @@ IsAskedBy (looks.Bytes files.Listing candidates name) rows = IsNameOf (value (co
     × (candidates ≡ candidates_in rows)
 IsAskedBy _ rows = ⊤
 
+-- the subcommand that shows images as this object
+abbrev pub object_word : ImageObject → Text
+object_word (objects.List as_is) = codes "list"
+object_word objects.Free = codes "free"
+object_word (objects.Show loss as_is) = codes "show"
+
+-- the values and the flags ask for this object
+abbrev pub IsObjectAsked : ImageObject → List Row → Type 0
+IsObjectAsked (objects.List as_is) rows = as_is ≡ is_given (codes "as-is") rows
+IsObjectAsked objects.Free rows = ⊤
+IsObjectAsked (objects.Show loss as_is) rows = (loss ≡ loss_in rows) × (as_is ≡ is_given (codes "as-is") rows)
+
 -- there is one image
 abbrev pub IsOne : List Row → Type 0
 IsOne rows = length (values (codes "IMAGE") rows) < 2
@@ -112,17 +131,14 @@ abbrev pub IsForOne : List Row → Type 0
 IsForOne rows = (is_given (codes "sheet") rows ≡ false) × (is_given (codes "compare") rows ≡ false) × IsOne rows
 
 -- where several images may be given of which this is printed, there is one
-abbrev pub IsDiskAlone : DiskLook → List Row → Type 0
-IsDiskAlone (disks.Show loss) rows = ⊤
-IsDiskAlone _ rows = IsOne rows
-
--- the same of each look
 abbrev pub IsAlone : Look → List Row → Type 0
 IsAlone (looks.List form) rows = IsOne rows
 IsAlone looks.Check rows = IsOne rows
 IsAlone looks.Faults rows = IsOne rows
-IsAlone (looks.AsIs what) rows = IsDiskAlone what rows
+IsAlone (looks.Show loss) rows = IsOne rows
+IsAlone (looks.AsIs what) rows = IsOne rows
 IsAlone looks.Map rows = IsOne rows
+IsAlone looks.Free rows = IsOne rows
 IsAlone looks.Picture rows = IsForOne rows
 IsAlone looks.Poster rows = IsForOne rows
 IsAlone _ rows = ⊤

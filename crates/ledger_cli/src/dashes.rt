@@ -1,5 +1,8 @@
 //! `-` in place of a path: standard input, where a file is read.
+ghost use Rattle.std.specs.Prelude.{◌≡◌};
 ghost use Rattle.image_edits.specs.Edits.{IsFitEdit};
+ghost use Rattle.ledger_cli.specs.Dashes.{AreReadAs, IsEditRead, IsJobRead, is_written_dash};
+ghost use Rattle.ledger_cli.specs.Dashes as dashes;
 ghost use Rattle.ledger_jobs.specs.Jobs.{IsFit};
 
 use image_edits::{Edit, Effect};
@@ -9,33 +12,48 @@ use opened_files::STANDARD_INPUT;
 /// The word that stands for standard input. A file of this name is written `./-`.
 const DASH: &str = "-";
 
+/// Whether a path is that word.
+fn is_dash(path: &str) -> bool
+    ensures { result ≡ dashes.is_dash path.now }
+{
+    path == DASH
+}
+
 /// Whether a job makes, replaces or changes a file whose path is `-`. Standard input is read, and no file is made of that
 /// name by mistake.
-pub(crate) fn writes_dash(job: &Job<'_>) -> bool {
+pub(crate) fn writes_dash(job: &Job<'_>) -> bool
+    ensures { result ≡ is_written_dash job.now }
+{
     match job {
-        Job::Format { image, .. } | Job::FormatNew { image, .. } | Job::New { image, .. } => *image
-            == DASH,
-        Job::Play { image, .. } | Job::PlayLogged { image, .. } | Job::Serve { image, .. } => *image
-            == DASH,
+        Job::Format { image, .. } | Job::FormatNew { image, .. } | Job::New { image, .. } => {
+            is_dash(image)
+        }
+        Job::Play { image, .. } | Job::PlayLogged { image, .. } | Job::Serve { image, .. } => {
+            is_dash(image)
+        }
         Job::Change {
             image,
             effect: Effect::Written,
             ..
-        } => *image == DASH,
-        Job::Copy { copy, .. } | Job::Salvage { copy, .. } => *copy == DASH,
-        Job::Extract { folder, .. } => *folder == DASH,
+        } => is_dash(image),
+        Job::Copy { copy, .. } | Job::Salvage { copy, .. } => is_dash(copy),
+        Job::Extract { folder, .. } => is_dash(folder),
         _ => false,
     }
 }
 
 /// The path under which a file is read that is named so.
-fn read_path(path: &str) -> &str {
-    if path == DASH { STANDARD_INPUT } else { path }
+fn read_path(path: &str) -> &str
+    ensures { result.now ≡ dashes.read_path path.now }
+{
+    if is_dash(path) { STANDARD_INPUT } else { path }
 }
 
 /// The same of several files.
-fn read_paths<'a>(mut paths: Vec<&'a str>) -> Vec<&'a str> {
-    for path in paths.as_mut_slice() {
+fn read_paths<'a>(mut paths: Vec<&'a str>) -> Vec<&'a str>
+    ensures { AreReadAs paths.entry result }
+{
+    for path in paths.iter_mut() {
         *path = read_path(path);
     }
     paths
@@ -44,7 +62,8 @@ fn read_paths<'a>(mut paths: Vec<&'a str>) -> Vec<&'a str> {
 /// The change whose file is read under this path.
 fn read_edit(edit: Edit<'_>) -> Edit<'_>
     requires { IsFitEdit edit }
-    ensures { IsFitEdit result }
+    ensures fit { IsFitEdit result }
+    ensures read { IsEditRead edit.entry result }
 {
     match edit {
         Edit::Put {
@@ -88,6 +107,7 @@ fn read_edit(edit: Edit<'_>) -> Edit<'_>
 pub(crate) fn read_dashes(job: Job<'_>) -> Job<'_>
     requires { IsFit job }
     ensures fit { IsFit result }
+    ensures read { IsJobRead job.entry result }
 {
     match job {
         Job::Look { image, what } => Job::Look {

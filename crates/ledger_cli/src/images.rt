@@ -2,7 +2,7 @@
 ghost use Rattle.std.specs.Prelude.{◌≡◌};
 ghost use Rattle.clap.specs.Words.{found_of, rows_of};
 ghost use Rattle.ledger_cli.specs.Images.{IsCheckJob, IsDescribing, IsLookJob, IsComparing, IsPictureJob};
-ghost use Rattle.ledger_cli.specs.Images.{IsPlanJob, IsSeveral, IsSheet, picture_job, has_two_forms as two_forms};
+ghost use Rattle.ledger_cli.specs.Images.{IsPlanJob, IsSeveral, IsSheet, IsShowingJob, picture_job, has_two_forms as two_forms};
 ghost use Rattle.ledger_cli.specs.Looks.{description_in, plan_in};
 
 use crate::faults::JobFault;
@@ -11,7 +11,7 @@ use crate::values::{is_given, value_of, values_of};
 use clap::{ArgMatches, Error};
 use disk_pictures::MOST_TILES;
 use disk_reports::{DescriptionForm, PlanForm};
-use image_looks::{ImageForm, Look};
+use image_looks::{ImageForm, ImageObject, Look};
 use ledger_jobs::Job;
 use std::alloc::{AllocError, Global};
 
@@ -156,6 +156,25 @@ pub(crate) fn checking<'a>(alloc: Global, matches: &ArgMatches<'a>) -> Result<Jo
         return Err(JobFault::Words(Error::from(AllocError)));
     };
     described(alloc, ImageForm::Described(form), images)
+}
+
+/// The job that prints this of one image, or of several, or with --json an object of each.
+pub(crate) fn showing<'a>(
+    alloc: Global,
+    matches: &ArgMatches<'a>,
+    what: Look,
+    object: ImageObject,
+) -> Result<Job<'a>, JobFault>
+    ensures { IsShowingJob (rows_of (found_of matches.now)) what object result }
+{
+    let Some(images) = values_of(matches, "IMAGE") else {
+        // A parse without an image is refused.
+        return Err(JobFault::Words(Error::from(AllocError)));
+    };
+    if is_given(matches, "json") {
+        return described(alloc, ImageForm::Shown(object), images);
+    }
+    viewing(alloc, matches, what)
 }
 
 /// How a plan is to be printed.

@@ -9,6 +9,14 @@ fn commands_for(word: &str) -> Option<&'static str> {
         "hexdump" => Some("`sector` and `bytes`"),
         "read" => Some("`bytes`"),
         "write" => Some("`put`"),
+        "attach" | "detach" => Some("an image's path, after each command,"),
+        "convert" => Some("`trim` or `extract`"),
+        "cp" => Some("`copy-file` or `copy`"),
+        "hash" | "md5" | "sha1" => Some("`check --json`"),
+        "mkdir" | "n0" => Some("`new`"),
+        "mv" | "ren" => Some("`rename`"),
+        "type" | "cat" => Some("`bytes --text`"),
+        "version" => Some("`--version`"),
         _ => None,
     }
 }

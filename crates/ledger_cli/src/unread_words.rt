@@ -59,7 +59,10 @@ fn looks_at_each(words: &[String]) -> bool {
     let [_, command, rest @ ..] = words else {
         return false;
     };
-    if !matches!(command.as_str(), "check" | "list" | "plan") {
+    if !matches!(
+        command.as_str(),
+        "check" | "free" | "list" | "plan" | "show"
+    ) {
         return false;
     }
     for word in rest {

@@ -9,7 +9,7 @@ use crate::faults::JobFault;
 use crate::file_copies::copying_file;
 use crate::file_types::entry_type_named;
 use crate::forms::{byte_form, choice, disk_look, loss, name_form, repairing};
-use crate::images::{checking, picturing, planning, viewing};
+use crate::images::{checking, picturing, planning, showing, viewing};
 use crate::names::{
     deleting, empty_disk, locking, making, putting, renaming, sorting, storing, taking_file,
     taking_records, titling, undeleting,
@@ -21,7 +21,7 @@ use clap::{ArgMatches, Error};
 use command_table::ledger_command;
 use disk_changes::Lock;
 use file_rescues::FileForm;
-use image_looks::{DiskLook, Look};
+use image_looks::{DiskLook, ImageObject, Look};
 use ledger_jobs::Job;
 use std::alloc::{AllocError, Global};
 
@@ -44,14 +44,16 @@ fn job_of<'a>(alloc: Global, matches: &ArgMatches<'a>) -> Result<Job<'a>, JobFau
         },
         "list" => {
             let what = disk_look(found, DiskLook::List(name_form(found)));
-            viewing(alloc, found, what)
+            let as_is = is_given(found, "as-is");
+            showing(alloc, found, what, ImageObject::List { as_is })
         }
         "check" => checking(alloc, found),
         "plan" => planning(alloc, found),
-        "show" => Ok(Job::Look {
-            what: disk_look(found, DiskLook::Show(loss(found))),
-            image,
-        }),
+        "show" => {
+            let (loss, as_is) = (loss(found), is_given(found, "as-is"));
+            let what = disk_look(found, DiskLook::Show(loss));
+            showing(alloc, found, what, ImageObject::Show { loss, as_is })
+        }
         "play" => Ok(playing(found, image, script)),
         "serve" => Ok(Job::Serve {
             image,
@@ -85,10 +87,7 @@ fn job_of<'a>(alloc: Global, matches: &ArgMatches<'a>) -> Result<Job<'a>, JobFau
         "map" => viewing(alloc, found, Look::Map),
         "picture" => picturing(alloc, found),
         "dry" => Ok(Job::Dry { script }),
-        "free" => Ok(Job::Look {
-            what: Look::Free,
-            image,
-        }),
+        "free" => showing(alloc, found, Look::Free, ImageObject::Free),
         "sector" => match place_of(value_of(found, "T/S")) {
             Some(place) => Ok(Job::Look {
                 what: Look::Sector(place),

@@ -1,8 +1,8 @@
 -- What files of a job may be read for a person.
 use Rattle.std.specs.Prelude.{None, Option, Some, IfSome, option_map}
 use Rattle.image_file.specs.paths.Rights.{Rights}
-use Rattle.ledger_jobs.specs.JobRights.{MayExplain, MayReadAgain, first_file, text_file}
-use Rattle.opened_files.specs.Rights.{MayReadImage}
+use Rattle.ledger_jobs.specs.JobRights.{MayExplain, MayReadAgain, first_file, made_path, source_file, text_file}
+use Rattle.opened_files.specs.Rights.{MayLookAside, MayReadImage}
 use Rattle.ledger_jobs.specs.declared.jobs.Job.{Job}
 use Rattle.ledger_jobs.specs.declared.jobs.Job.TheVariants as jobs
 
@@ -53,3 +53,66 @@ read-text rights host (jobs.Compare before after) may = tt
 read-text rights host (jobs.Sheet images) may = may.1
 read-text rights host (jobs.Describe form images) may = may.1
 read-text rights host (jobs.Several what images) may = may.1
+
+-- and the image of which it copies a file
+pub read-source : {H : Type 0} (rights : Rights H) (host : H) (job : Job) → MayExplain rights host job
+    → IfSome (source_file job) (MayReadImage rights host)
+read-source rights host (jobs.Format image tills) may = may.2
+read-source rights host (jobs.FormatNew image tills) may = may.2
+read-source rights host (jobs.New image name id) may = may.2
+read-source rights host (jobs.Look image what) may = may.2
+read-source rights host (jobs.Change image effect edit) may = may.2
+read-source rights host (jobs.Play image script loss) may = may.2
+read-source rights host (jobs.PlayLogged image script loss) may = may.2
+read-source rights host (jobs.Dry script) may = may.2
+read-source rights host (jobs.Serve image loss) may = may.2
+read-source rights host (jobs.Copy image copy) may = may.2
+read-source rights host (jobs.Salvage log copy) may = may.2
+read-source rights host (jobs.Extract choice image folder) may = may.2
+read-source rights host (jobs.Trim image) may = may.2
+read-source rights host (jobs.Compare before after) may = tt
+read-source rights host (jobs.Sheet images) may = may.2
+read-source rights host (jobs.Describe form images) may = may.2
+read-source rights host (jobs.Several what images) may = may.2
+
+-- and look at the path of what it makes
+pub look-made : {H : Type 0} (rights : Rights H) (host : H) (job : Job) → MayExplain rights host job
+    → IfSome (made_path job) (MayLookAside rights host)
+look-made rights host (jobs.Format image tills) may = may.4
+look-made rights host (jobs.FormatNew image tills) may = may.4
+look-made rights host (jobs.New image name id) may = may.4
+look-made rights host (jobs.Look image what) may = may.4
+look-made rights host (jobs.Change image effect edit) may = may.4
+look-made rights host (jobs.Play image script loss) may = may.4
+look-made rights host (jobs.PlayLogged image script loss) may = may.4
+look-made rights host (jobs.Dry script) may = may.4
+look-made rights host (jobs.Serve image loss) may = may.4
+look-made rights host (jobs.Copy image copy) may = may.4
+look-made rights host (jobs.Salvage log copy) may = may.4
+look-made rights host (jobs.Extract choice image folder) may = may.4
+look-made rights host (jobs.Trim image) may = may.4
+look-made rights host (jobs.Compare before after) may = tt
+look-made rights host (jobs.Sheet images) may = may.4
+look-made rights host (jobs.Describe form images) may = may.4
+look-made rights host (jobs.Several what images) may = may.4
+
+-- and look beside its first file
+pub look-beside : {H : Type 0} (rights : Rights H) (host : H) (job : Job) → MayExplain rights host job
+    → IfSome (first_file job) (MayLookAside rights host)
+look-beside rights host (jobs.Format image tills) may = may.3
+look-beside rights host (jobs.FormatNew image tills) may = may.3
+look-beside rights host (jobs.New image name id) may = may.3
+look-beside rights host (jobs.Look image what) may = may.3
+look-beside rights host (jobs.Change image effect edit) may = may.3
+look-beside rights host (jobs.Play image script loss) may = may.3
+look-beside rights host (jobs.PlayLogged image script loss) may = may.3
+look-beside rights host (jobs.Dry script) may = may.3
+look-beside rights host (jobs.Serve image loss) may = may.3
+look-beside rights host (jobs.Copy image copy) may = may.3
+look-beside rights host (jobs.Salvage log copy) may = may.3
+look-beside rights host (jobs.Extract choice image folder) may = may.3
+look-beside rights host (jobs.Trim image) may = may.3
+look-beside rights host (jobs.Compare before after) may = may.2
+look-beside rights host (jobs.Sheet images) may = may.3
+look-beside rights host (jobs.Describe form images) may = may.3
+look-beside rights host (jobs.Several what images) may = may.3

@@ -5,7 +5,7 @@ use Rattle.ledger_jobs.specs.declared.jobs.Job.TheVariants as jobs
 use Rattle.image_file.specs.paths.Rights.{MayRead, Rights}
 use Rattle.image_edits.specs.declared.edit.Edit.TheVariants as edits
 use Rattle.image_edits.specs.EditRights.{MayEdit, MayReadSource}
-use Rattle.opened_files.specs.Rights.{MayLook, MayReadImage, MayReadText, MayChangeImage, MayMakeImage, MayFillAt}
+use Rattle.opened_files.specs.Rights.{MayLook, MayLookAside, MayReadImage, MayReadText, MayChangeImage, MayMakeImage, MayFillAt}
 
 -- the file that a job reads or writes first; none of a job over several images
 abbrev pub first_file : Job → Option (List ℕ)
@@ -24,6 +24,20 @@ first_file (jobs.Extract choice image folder) = Some image.now
 first_file (jobs.Trim image) = Some image.now
 first_file (jobs.Compare before after) = Some before.now
 first_file _ = None
+
+-- the file or the folder that a job makes where nothing stands
+abbrev pub made_path : Job → Option (List ℕ)
+made_path (jobs.FormatNew image tills) = Some image.now
+made_path (jobs.New image name id) = Some image.now
+made_path (jobs.Copy image copy) = Some copy.now
+made_path (jobs.Salvage log copy) = Some copy.now
+made_path (jobs.Extract choice image folder) = Some folder.now
+made_path _ = None
+
+-- the other image, of which a job copies a file
+abbrev pub source_file : Job → Option (List ℕ)
+source_file (jobs.Change image effect (edits.CopyFile from loss name to)) = Some from.now
+source_file _ = None
 
 -- the script that a job plays, or the file of the host whose bytes a change takes
 abbrev pub text_file : Job → Option (List ℕ)
@@ -60,7 +74,10 @@ module _ {H : Type 0} (rights : Rights H) (host : H) where
   abbrev pub MayReadAgain : List ℕ → Type 0
   MayReadAgain path = MayReadText rights host path × MayLook rights host path
 
-  -- what a line for a person below a refusal needs: to read the job's files
+  -- what a line for a person below a refusal needs: to read the job's files, and to look at the path of what it makes
   abbrev pub MayExplain : Job → Type 0
   MayExplain (jobs.Compare before after) = MayReadImage rights host before.now × MayReadImage rights host after.now
+      × MayLookAside rights host before.now
   MayExplain job = IfSome (first_file job) (MayReadImage rights host) × IfSome (text_file job) MayReadAgain
+      × IfSome (source_file job) (MayReadImage rights host) × IfSome (first_file job) (MayLookAside rights host)
+      × IfSome (made_path job) (MayLookAside rights host)

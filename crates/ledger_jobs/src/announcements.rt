@@ -8,13 +8,15 @@ use crate::jobs::Job;
 use crate::refusal_subjects::{CUT_SHORT, FEWER};
 use crate::text_warnings::tell_text;
 use crate::typed_names::warn_of_name;
-use command_faults::CommandFault;
-use damaged_files::Shortfall;
+use arrayvec::ArrayVec;
+use command_faults::{CommandFault, load};
+use damaged_files::{Shortfall, read_so_far};
 use disk_changes::{Remedy, find_remedy, has_geos_sign};
 use disk_layout::{Fault, map_place};
 use image_file::{HostFiles, Locks, ShownPath};
 use image_looks::Look;
 use opened_files::{STANDARD_INPUT, image_of_file, shortfall_in, size_of};
+use std::alloc::Global;
 use std::fs::OpenFile;
 use std::io::{Read, Write};
 
@@ -165,6 +167,47 @@ where
     }
 }
 
+/// How many files the directory of an image names, as far as it can be read. None of what is no image.
+fn count_files(alloc: Global, image: &[u8]) -> Option<usize> {
+    let disk = load(alloc, image).ok()?;
+    let (mut sectors, mut entries) = (ArrayVec::new(), ArrayVec::new());
+    let _ = read_so_far(&disk, &mut sectors, &mut entries);
+    Some(entries.len())
+}
+
+/// How many files the directory of the image at a path names. None also if the image can't be read.
+fn files_at<F, R>(rt: &R, path: &str) -> Option<usize>
+where
+    F: Read + Locks + OpenFile + Drop,
+    R: HostFiles<File = F> + AllocGlobal,
+    requires { MayReadImage R.rights rt.now path.now }
+{
+    if path == STANDARD_INPUT {
+        return None;
+    }
+    let image = image_of_file(rt, path).ok()?;
+    count_files(rt.alloc(), image.as_slice())
+}
+
+/// Prints which file is going to be replaced: how many bytes it has, and how many files, if it is an image.
+fn tell_replaced<F, R, E>(rt: &R, path: &str, err: &mut E)
+where
+    F: Read + Locks + OpenFile + Drop,
+    R: HostFiles<File = F> + AllocGlobal,
+    E: Write,
+    requires { MayReadImage R.rights rt.now path.now }
+{
+    let Some(bytes) = size_of(rt, path) else {
+        return;
+    };
+    let shown = ShownPath(path);
+    let _ = match files_at(rt, path) {
+        Some(1) => writeln!(err, "ledger: replacing {shown}, which has 1 file"),
+        Some(files) => writeln!(err, "ledger: replacing {shown}, which has {files} files"),
+        None => writeln!(err, "ledger: replacing {shown}, which has {bytes} bytes"),
+    };
+}
+
 /// Prints for a person which file a job is going to replace, or that a C64 can't ask for the name that it gives a file. If
 /// a job is going to play an image, it prints where the first file of the image is cut short, if one is. That image is
 /// locked with others that read it while it is read. If a line can't be printed, this isn't reported: nobody reads standard
@@ -177,12 +220,7 @@ where
     requires { MayExplain R.rights rt.now job.now }
 {
     match job {
-        Job::Format { image, .. } => {
-            if let Some(bytes) = size_of(rt, image) {
-                let image = ShownPath(image);
-                let _ = writeln!(err, "ledger: replacing {image}, which has {bytes} bytes");
-            }
-        }
+        Job::Format { image, .. } => tell_replaced(rt, image, err),
         Job::Play { image, .. } | Job::PlayLogged { image, .. } => warn_of_cut(rt, image, err),
         job => warn_of_name(job, err),
     }

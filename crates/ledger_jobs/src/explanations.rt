@@ -1,60 +1,20 @@
 //! The line that a person at a terminal reads below a refusal: which file it is about, what the system said of it, and what
 //! to do.
 ghost use Rattle.ledger_jobs.specs.JobRights.{MayExplain};
-ghost use Rattle.opened_files.specs.Rights.{MayLook};
 
 use crate::announcements::{tell_fault, warn_of_cut};
 use crate::failure_lines::{tell_device, tell_files, tell_of, tell_of_either, tell_of_image};
 use crate::job_files::{first_file, image_of, text_of};
 use crate::jobs::Job;
 use crate::line_lines::tell_line;
+use crate::made_paths::{tell_made, tell_second_name, tell_standing};
 use crate::near_names::tell_name;
 use crate::refusal_subjects::{Advice, LOG_AWAY, said_of_fault, subject_of};
 use crate::size_lines::{missized_of, tell_size};
 use command_faults::CommandFault;
 use image_file::{Failure, HostFiles, Locks};
-use opened_files::size_of;
 use std::fs::OpenFile;
 use std::io::{Read, Write};
-
-const THERE: &str = "it is there already; `format` without `--new` replaces it";
-
-const LOG_ALONE: &str =
-    "its log or a folder is there; a log may be all that is left of a shop (\"man ledger-1541\")";
-
-/// What is said of an image that can't be made at a path, since it or its log is there.
-fn said_of_made<R: HostFiles>(rt: &R, image: &str) -> &'static str
-    requires { MayLook R.rights rt.now image.now }
-{
-    match size_of(rt, image) {
-        Some(_) => THERE,
-        None => LOG_ALONE,
-    }
-}
-
-/// Prints that a file can't be made, since it or its log is there.
-fn tell_made<R: HostFiles, E: Write>(rt: &R, job: &Job<'_>, err: &mut E)
-    requires { MayExplain R.rights rt.now job.now }
-{
-    match job {
-        Job::Copy { copy, .. } | Job::Salvage { copy, .. } => {
-            tell_of(
-                err,
-                copy,
-                "it or its log is there already; choose another name",
-            );
-        }
-        Job::Extract { folder, .. } => {
-            tell_of(err, folder, "it is there already; choose another name");
-        }
-        Job::FormatNew { image, .. } => tell_of(err, image, said_of_made(rt, image)),
-        _ => tell_of(
-            err,
-            image_of(job),
-            "it or its log is there already; choose another name",
-        ),
-    }
-}
 
 /// Prints what a fault of a job's first image means, and what can be done about it. If two images are
 /// compared, it isn't known which one has the fault.
@@ -108,7 +68,10 @@ where
 {
     let image = image_of(job);
     match subject_of(job, refusal) {
-        Advice::Files => tell_files(rt, job, cause, err),
+        Advice::Files => {
+            tell_files(rt, job, cause, err);
+            tell_standing(rt, job, err);
+        }
         Advice::Size => {
             if let Some(image) = missized_of(rt, job) {
                 tell_size(rt, image, err);
@@ -127,6 +90,7 @@ where
         Advice::Text(said) => tell_of(err, text_of(job).unwrap_or(image), said),
         Advice::Line(number) => tell_line(rt, job, number, err),
         Advice::Made => tell_made(rt, job, err),
+        Advice::SecondName => tell_second_name(rt, job, err),
         Advice::Nothing => {}
     }
 }

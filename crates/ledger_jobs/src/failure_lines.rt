@@ -4,6 +4,7 @@ ghost use Rattle.opened_files.specs.Rights.{MayLook};
 
 use crate::job_files::{first_file, image_of};
 use crate::jobs::Job;
+use crate::made_paths::tell_ten_of_first;
 use crate::read_again::text_again;
 use crate::text_warnings::takes_no_file;
 use image_edits::Edit;
@@ -148,6 +149,9 @@ pub(crate) fn tell_files<R: HostFiles + AllocGlobal, E: Write>(
 )
     requires { MayExplain R.rights rt.now job.now }
 {
+    if tell_ten_of_first(rt, job, err) {
+        return;
+    }
     if let Some(failure) = cause {
         let said = match failure.error.kind() {
             ErrorKind::WouldBlock => UNWAITED,

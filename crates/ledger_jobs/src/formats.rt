@@ -4,7 +4,7 @@
 use d64_image::IMAGE_BYTES;
 
 /// The first bytes of files of other formats, and what is said of each.
-const MARKS: [(&[u8], &str); 6] = [
+const MARKS: [(&[u8], &str); 10] = [
     (
         b"PK\x03\x04",
         "it is a zip archive; `unzip` takes the image out",
@@ -16,6 +16,22 @@ const MARKS: [(&[u8], &str); 6] = [
     (
         b"GCR-1541",
         "it is a G64 image; VICE's c1541 takes its files out",
+    ),
+    (
+        b"GCR-1571",
+        "it is a G71 image; VICE's c1541 takes its files out",
+    ),
+    (
+        b"P64-1541",
+        "it is a P64 image; VICE's c1541 takes its files out",
+    ),
+    (
+        b"MNIB-1541-RAW",
+        "it is an NIB image; nibconv (nibtools) makes a D64 image of it",
+    ),
+    (
+        b"C\x15\x41\x64",
+        "it is an X64 image; `tail -c +65 OLD > NEW` leaves its head out",
     ),
     (
         b"C64File\0",
@@ -65,6 +81,8 @@ fn said_of_size(bytes: u64) -> Option<&'static str> {
         ),
         349_696 | 351_062 => Some("a D71 image; cbmconvert puts its files on a disk of 35 tracks"),
         819_200 | 822_400 => Some("a D81 image; cbmconvert puts its files on a disk of 35 tracks"),
+        533_248 => Some("a D80 image; VICE's c1541 takes its files out"),
+        1_066_496 => Some("a D82 image; VICE's c1541 takes its files out"),
         _ => None,
     }
 }

@@ -32,6 +32,19 @@ pub(crate) fn image_of<'a>(job: &Job<'a>) -> &'a str {
     first_file(job).unwrap_or("")
 }
 
+/// The other image, of which a job copies a file.
+pub(crate) fn source_file<'a>(job: &Job<'a>) -> Option<&'a str>
+    ensures { option_map (λ path. path.now) result ≡ specs.source_file job.now }
+{
+    match job {
+        Job::Change { edit, .. } => match edit {
+            Edit::CopyFile { from, .. } => Some(from),
+            _ => None,
+        },
+        _ => None,
+    }
+}
+
 /// The script, the records or the other image that a job reads after its first file.
 pub(crate) fn text_of<'a>(job: &Job<'a>) -> Option<&'a str> {
     match job {

@@ -11,6 +11,7 @@ mod formats;
 mod job_files;
 mod jobs;
 mod line_lines;
+mod made_paths;
 mod meanings;
 mod near_names;
 mod read_again;

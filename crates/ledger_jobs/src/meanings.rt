@@ -190,6 +190,18 @@ const MEANINGS: &[(&str, &str)] = &[
         "the file goes on past track 35, and what is there is left out",
     ),
     (
+        "SPEEDDOS",
+        "a map of tracks 36 to 40 stands in 18/0 as SpeedDOS keeps it",
+    ),
+    (
+        "DOLPHINDOS",
+        "a map of tracks 36 to 40 stands in 18/0 as DolphinDOS keeps it",
+    ),
+    (
+        "PROLOGICDOS",
+        "a map of tracks 36 to 40 stands in 18/0 as PrologicDOS keeps it",
+    ),
+    (
         "TRIMMED",
         "something was left out, which standard error names",
     ),

@@ -17,6 +17,15 @@ pub(crate) const NO_SUCH_FILE: &str = "it has no such file; `ledger list` shows 
 const NO_DELETED_FILE: &str =
     "it has no such deleted file; `extract --deleted` takes out those that it has";
 
+/// What is printed of a name that a drive would take for several files, or for the directory.
+const PATTERN: &str =
+    "it has no file of just this name: $ * and ? stand for themselves here; `ledger list` shows the names";
+
+/// Whether a byte of a name is one by which a drive finds several files, or the directory.
+fn is_of_pattern(byte: &u8) -> bool {
+    matches!(byte, b'$' | b'*' | b'?')
+}
+
 /// What is printed of a job if no name is near.
 fn said_of_none(job: &Job<'_>) -> &'static str {
     match job {
@@ -24,7 +33,10 @@ fn said_of_none(job: &Job<'_>) -> &'static str {
             edit: Edit::Undelete { .. },
             ..
         } => NO_DELETED_FILE,
-        _ => NO_SUCH_FILE,
+        job => match name_of(job) {
+            Some(name) if name.as_bytes().iter().any(is_of_pattern) => PATTERN,
+            _ => NO_SUCH_FILE,
+        },
     }
 }
 

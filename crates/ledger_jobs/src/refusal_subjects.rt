@@ -2,7 +2,6 @@
 
 use crate::cures::{FORMAT, GEOS};
 use crate::jobs::Job;
-use crate::size_lines::SIZE;
 use command_faults::CommandFault;
 use disk_layout::Fault;
 use image_edits::Edit;
@@ -31,6 +30,8 @@ pub(crate) enum Advice {
     Either(&'static str),
     /// A file that is to be made.
     Made,
+    /// The image, which has a second name.
+    SecondName,
     /// Nothing that the refusal's own line leaves open.
     Nothing,
 }
@@ -146,7 +147,7 @@ fn about_fault(fault: CommandFault) -> Advice {
         CommandFault::PathExists => Advice::Made,
         CommandFault::Log => Advice::Image(FOREIGN_LOG),
         CommandFault::LogAway => Advice::Away,
-        CommandFault::TwoNames => Advice::Image(SECOND_NAME),
+        CommandFault::TwoNames => Advice::SecondName,
         CommandFault::Short(_) => Advice::Image(CUT_CHANGE),
         CommandFault::NoProgram => Advice::Image(NO_PROGRAM),
         CommandFault::ShopFile => Advice::Image(SHOP_FILE),
@@ -164,7 +165,6 @@ const NO_SOURCE: &str = "it has no closed PRG, SEQ, USR or REL file of this name
 fn about_copy(from: &str, image: &str, fault: CommandFault) -> Advice {
     match fault {
         CommandFault::NoFile => Advice::Text(NO_SOURCE),
-        CommandFault::ImageSize => Advice::Either(SIZE),
         CommandFault::Layout(fault) => Advice::Either(said_of_fault(fault)),
         CommandFault::Short(_) => Advice::Either(CUT_SHORT),
         CommandFault::InUse if from == image => Advice::Image(ONE_IMAGE),

@@ -5,9 +5,10 @@ ghost use Rattle.opened_files.specs.Rights.{MayReadImage};
 
 use crate::failure_lines::tell_of;
 use crate::formats::said_of_format;
-use crate::job_files::first_file;
+use crate::job_files::{first_file, source_file};
 use crate::jobs::Job;
 use d64_image::IMAGE_BYTES;
+use image_edits::Edit;
 use image_file::{HostFiles, Locks, ShownPath};
 use opened_files::{STANDARD_INPUT, image_of_file, size_of};
 use std::fs::OpenFile;
@@ -15,6 +16,14 @@ use std::io::{Read, Write};
 
 /// How many bytes an image has.
 pub(crate) const SIZE: &str = "an image of 35 tracks without error bytes has 174848";
+
+/// The other image, of which a job copies a file, if its files may be read.
+fn source_to_read<'a, R: HostFiles>(rt: &R, job: &Job<'a>) -> Option<&'a str>
+    requires { MayExplain R.rights rt.now job.now }
+    ensures { IfSome result (λ path. MayReadImage R.rights rt.now path.now) }
+{
+    source_file(job)
+}
 
 /// The image of a job that has another size than a disk: of two the first one, unless it has that size.
 pub(crate) fn missized_of<'a, R: HostFiles>(rt: &R, job: &Job<'a>) -> Option<&'a str>
@@ -29,6 +38,11 @@ pub(crate) fn missized_of<'a, R: HostFiles>(rt: &R, job: &Job<'a>) -> Option<&'a
                 Some(before)
             }
         }
+        Job::Change {
+            image,
+            edit: Edit::CopyFile { .. },
+            ..
+        } if size_of(rt, image) == Some(IMAGE_BYTES as u64) => source_to_read(rt, job),
         _ => first_file(job),
     }
 }

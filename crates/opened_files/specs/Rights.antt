@@ -33,6 +33,10 @@ module _ {H : Type 0} (rights : Rights H) (host : H) where
   abbrev pub MayLook : List ℕ → Type 0
   MayLook path = path ≢ standard_input → May rights host Look path
 
+  -- what stands at a path may be asked, and whether the names are taken under which something is made that gets this path
+  abbrev pub MayLookAside : List ℕ → Type 0
+  MayLookAside path = MayLook path × ((end : List ℕ) → May rights host Look (aside_of path end))
+
   -- an image may be written, and its log kept
   abbrev pub MayChangeImage : List ℕ → Type 0
   MayChangeImage path = MayWrite rights host path × MayKeepLog rights host path

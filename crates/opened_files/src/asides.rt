@@ -1,9 +1,10 @@
 //! Files and folders that are made under another name, and get their own when they are whole.
 ghost use Rattle.std.specs.Prelude.{◌≡◌, IfOk, OnOk, string_bytes};
 ghost use Rattle.std.proofs.Props.{props};
-ghost use Rattle.image_file.specs.paths.Rights.{Make};
-ghost use Rattle.opened_files.specs.Rights.{MayMakeNew, aside_of};
+ghost use Rattle.image_file.specs.paths.Rights.{Look, Make, May};
+ghost use Rattle.opened_files.specs.Rights.{MayLookAside, MayMakeNew, aside_of};
 
+use crate::files::metadata_of;
 use crate::image_logs::is_there;
 use image_file::{HostFiles, Identity, leads_to};
 use std::alloc::Global;
@@ -34,6 +35,44 @@ fn aside_name(alloc: Global, path: &str, end: &str) -> io::Result<String>
     name.push_str(".new")?;
     name.push_str(end)?;
     Ok(name)
+}
+
+/// Whether something has this name, as far as the host says.
+fn is_taken<R: HostFiles>(rt: &R, name: &str) -> bool
+    requires { May R.rights rt.now Look name.now }
+{
+    is_there(rt, name).unwrap_or(false)
+}
+
+/// Whether all ten names are taken under which what gets this path could be made: by runs that were killed, or that go on. The path
+/// itself is one at which something may be made.
+pub fn has_no_aside<R: HostFiles + AllocGlobal>(rt: &R, path: &str) -> bool
+    requires { MayLookAside R.rights rt.now path.now }
+{
+    for end in ENDS {
+        let Ok(name) = aside_name(rt.alloc(), path, end) else {
+            return false;
+        };
+        if !is_taken(rt, name.as_str()) {
+            return false;
+        }
+    }
+    true
+}
+
+/// The name of what was made for this path, if the file at the path still has that name, too: a run was killed before it took the
+/// name away.
+pub fn second_aside<R: HostFiles + AllocGlobal>(rt: &R, path: &str) -> Option<String>
+    requires { MayLookAside R.rights rt.now path.now }
+{
+    let found = metadata_of(rt, path)?;
+    for end in ENDS {
+        let name = aside_name(rt.alloc(), path, end).ok()?;
+        if leads_to(rt, name.as_str(), Identity::sized(&found, found.len())) {
+            return Some(name);
+        }
+    }
+    None
 }
 
 impl<'a, R: HostFiles + AllocGlobal> Aside<'a, R> {

@@ -14,7 +14,7 @@ mod outcomes;
 mod put_images;
 mod readings;
 
-pub use asides::Aside;
+pub use asides::{Aside, has_no_aside, second_aside};
 pub use endings::{Ending, end, tell};
 pub use extents::Extent;
 pub use files::{STANDARD_INPUT, metadata_of, script_to_play, size_of};

@@ -10,12 +10,12 @@ use simulated_shop::Shop;
 
 /// What a command does when nothing happens to it: the image that was there, the one that it makes, and how it ends.
 #[derive(Drop)]
-struct Made {
-    before: Vec<u8>,
-    after: Vec<u8>,
-    ended: Ended,
+pub(crate) struct Made {
+    pub(crate) before: Vec<u8>,
+    pub(crate) after: Vec<u8>,
+    pub(crate) ended: Ended,
     calls: u64,
-    steps: u64,
+    pub(crate) steps: u64,
 }
 
 /// The words with which a change may be refused.
@@ -27,7 +27,7 @@ static REFUSED: [&[u8]; 4] = [
 ];
 
 /// A change that is refused has a reason.
-fn see_refusal(ended: &Ended) -> Result<(), Stop> {
+pub(crate) fn see_refusal(ended: &Ended) -> Result<(), Stop> {
     let mut is_known = ended.status == 0;
     for word in &REFUSED {
         is_known |= ended.status == 1 && ended.err.as_slice() == *word;
@@ -52,7 +52,7 @@ fn is_same(one: &Ended, other: &Ended) -> bool {
 
 impl<P: Program> Story<'_, P> {
     /// What a command makes of files that are as those of the machine.
-    fn made(&self, words: Words) -> Result<Made, Stop> {
+    pub(crate) fn made(&self, words: Words) -> Result<Made, Stop> {
         let twin = self.machine.with_files(&PATHS)?;
         let before = copied(self.program, &twin)?;
         let input = twin.copy_of(b"")?;
@@ -69,7 +69,7 @@ impl<P: Program> Story<'_, P> {
     }
 
     /// The image is the one that was there or the one that the command makes. Whether it is this one.
-    fn see_half(&mut self, made: &Made, is_told: bool) -> Result<bool, Stop> {
+    pub(crate) fn see_half(&mut self, made: &Made, is_told: bool) -> Result<bool, Stop> {
         let image = copied(self.program, &self.machine)?;
         let is_new = image.as_slice() == made.after.as_slice();
         let is_old = image.as_slice() == made.before.as_slice();
@@ -89,6 +89,7 @@ impl<P: Program> Story<'_, P> {
         if !is_lost {
             self.look(&SERVE)?;
         }
+        self.is_untagged = self.has_log();
         Ok(())
     }
 

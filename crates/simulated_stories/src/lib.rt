@@ -8,6 +8,7 @@ mod counts;
 mod hands;
 mod judging;
 mod looks;
+mod meetings;
 mod plays;
 mod recoveries;
 mod runs;

@@ -9,12 +9,26 @@ use std::io;
 use std::rt::Env;
 use std::time::{Clock, Instant};
 
-/// How many steps a story has.
+/// How many steps a story has before the last one, in which faults meet.
 const STEPS: u64 = 24;
+
+/// How many it has.
+const ALL: u64 = 25;
 
 /// Prints what a story has run since it was last asked.
 fn print_notes<R: Print, P: Program>(rt: &R, story: &mut Story<'_, P>) -> io::Result<()> {
     rt.write_all(story.notes().as_slice())
+}
+
+/// Plays a step of a story. One in four stories fills a log.
+fn play_step<P: Program>(story: &mut Story<'_, P>, seed: u64, step: u64) -> Result<(), Stop> {
+    if step > STEPS {
+        return story.meet_faults();
+    }
+    if step == STEPS && seed % 4 == 0 {
+        return story.fill_log();
+    }
+    story.step()
 }
 
 /// Plays the steps of a story. The number of the step at which it ended, and why, if it did.
@@ -27,12 +41,8 @@ fn play_steps<R: Print, P: Program>(
     if let Err(stop) = story.begin() {
         return Ok(Some((0, stop)));
     }
-    for step in 1..=STEPS {
-        let played = if step == STEPS && seed % 4 == 0 {
-            story.fill_log()
-        } else {
-            story.step()
-        };
+    for step in 1..=ALL {
+        let played = play_step(story, seed, step);
         if shows {
             println!(rt; "step {step}:")?;
             print_notes(rt, story)?;

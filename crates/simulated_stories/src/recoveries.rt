@@ -26,7 +26,7 @@ impl<P: Program> Story<'_, P> {
     }
 
     /// Power goes.
-    fn lose_power(&mut self) -> Result<(), Stop> {
+    pub(crate) fn lose_power(&mut self) -> Result<(), Stop> {
         self.counts.add(Event::PowerLoss, 1);
         match self.machine.lose_power(&mut self.random) {
             Ok(()) => Ok(()),
@@ -118,7 +118,7 @@ impl<P: Program> Story<'_, P> {
 
     /// The shop after some first ones of these lines is the one that is found, and the disk is sound.
     pub(crate) fn find(&mut self, shop: &Shop, lines: &[Line]) -> Result<(), Stop> {
-        if self.has_log() && self.random.once_in(3) {
+        if self.has_log() && !self.is_untagged && self.random.once_in(3) {
             self.see_alone(shop, lines)?;
         }
         let Some(found) = self.shown(&SHOW, shop, lines)? else {

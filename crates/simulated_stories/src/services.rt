@@ -36,14 +36,14 @@ fn push(lines: &mut Vec<Line>, line: Line) -> Result<(), Stop> {
 }
 
 /// The lines from there on up to there.
-fn between(lines: &[Line], from: usize, upto: usize) -> &[Line] {
+pub(crate) fn between(lines: &[Line], from: usize, upto: usize) -> &[Line] {
     let upto = upto.min(lines.len());
     &lines[from.min(upto)..upto]
 }
 
 impl<P: Program> Story<'_, P> {
     /// Lines of the tills.
-    fn draw_lines(&mut self) -> Result<Vec<Line>, Stop> {
+    pub(crate) fn draw_lines(&mut self) -> Result<Vec<Line>, Stop> {
         let mut lines = Vec::new(self.alloc);
         let mut shop = self.shop;
         let count = self.random.below(30);
@@ -59,7 +59,7 @@ impl<P: Program> Story<'_, P> {
     }
 
     /// Lines as a text.
-    fn text_of(&self, lines: &[Line]) -> Result<Vec<u8>, Stop> {
+    pub(crate) fn text_of(&self, lines: &[Line]) -> Result<Vec<u8>, Stop> {
         let mut text = Vec::new(self.alloc);
         for line in lines {
             if write_line(&mut text, line).is_err() {
@@ -70,7 +70,7 @@ impl<P: Program> Story<'_, P> {
     }
 
     /// Judges a run to which so many of these lines were handed. If it wasn't done, it is stopped, recovered, and the shop is found.
-    fn judge(
+    pub(crate) fn judge(
         &mut self,
         lines: &[Line],
         handed: usize,

@@ -25,6 +25,8 @@ pub struct Story<'p, P: Program> {
     pub(crate) shop: Shop,
     pub(crate) counts: Counts,
     pub(crate) old: Option<OldCopy>,
+    /// Whether the log beside the image may be that of a change. Such a log doesn't tag the image.
+    pub(crate) is_untagged: bool,
     pub(crate) notes: Vec<u8>,
 }
 
@@ -39,6 +41,7 @@ impl<'p, P: Program> Story<'p, P> {
             shop: Shop::new(4),
             counts: Counts::NONE,
             old: None,
+            is_untagged: false,
             notes: Vec::new(alloc),
         }
     }
@@ -74,6 +77,9 @@ impl<'p, P: Program> Story<'p, P> {
         plan: Plan,
     ) -> Result<Ended, Stop> {
         let ended = run(self.program, &self.machine, words, input, lines, plan);
+        if !self.has_log() {
+            self.is_untagged = false;
+        }
         count_strike(&mut self.counts, &plan, &ended);
         match note(&mut self.notes, words, &plan, &ended) {
             Ok(()) => Ok(ended),

@@ -42,7 +42,7 @@ pub(crate) static CHECK: [&str; 3] = ["ledger", "check", IMAGE];
 
 pub(crate) static COPYING: [&str; 4] = ["ledger", "copy", IMAGE, COPY];
 
-static PUT_A: [&str; 7] = ["ledger", "put", IMAGE, "A", SCRIPT, "--type", "seq"];
+pub(crate) static PUT_A: [&str; 7] = ["ledger", "put", IMAGE, "A", SCRIPT, "--type", "seq"];
 
 static PUT_B: [&str; 7] = ["ledger", "put", IMAGE, "B", SCRIPT, "--type", "prg"];
 
@@ -50,7 +50,7 @@ static RENAME_A: [&str; 5] = ["ledger", "rename", IMAGE, "A", "B"];
 
 static RENAME_B: [&str; 5] = ["ledger", "rename", IMAGE, "B", "C"];
 
-static DELETE_A: [&str; 4] = ["ledger", "delete", IMAGE, "A"];
+pub(crate) static DELETE_A: [&str; 4] = ["ledger", "delete", IMAGE, "A"];
 
 static DELETE_C: [&str; 4] = ["ledger", "delete", IMAGE, "C"];
 
@@ -58,9 +58,11 @@ static DELETE_SHOP: [&str; 4] = ["ledger", "delete", IMAGE, "STOCK"];
 
 static REPAIR: [&str; 3] = ["ledger", "repair", IMAGE];
 
-static TITLE: [&str; 7] = ["ledger", "title", IMAGE, "--name", "OLD SHOP", "--id", "84"];
+pub(crate) static TITLE: [&str; 7] = ["ledger", "title", IMAGE, "--name", "OLD SHOP", "--id", "84"];
 
-static TITLE_BACK: [&str; 7] = ["ledger", "title", IMAGE, "--name", "NEW SHOP", "--id", "26"];
+pub(crate) static TITLE_BACK: [&str; 7] = [
+    "ledger", "title", IMAGE, "--name", "NEW SHOP", "--id", "26",
+];
 
 /// How many commands there are that change the disk, and leave the shop as it is.
 pub(crate) const CHANGES: u64 = 10;

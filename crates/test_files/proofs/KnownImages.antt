@@ -9,7 +9,7 @@ use Rattle.disk_changes.specs.Changes.{IsChanged, IsRefused}
 use Rattle.disk_changes.specs.declared.changes.Change.{Change}
 use Rattle.disk_changes.specs.declared.changes.Changed.{Changed}
 use Rattle.folder_changes.proofs.Changed.{sized, told-weaker}
-use Rattle.folder_changes.specs.FolderChanges.{IsLeft, IsMade, IsToldAs, KeepsImage}
+use Rattle.folder_changes.specs.FolderChanges.{HasNotBegun, IsLeft, IsMade, IsToldAs}
 use Rattle.image_log.specs.declared.life.mem_folder.MemFolder.{MemFolder}
 use Rattle.image_log.specs.life.Bringing.{RestsAlone, RestsWith}
 use Rattle.image_log.specs.life.Folders.{LeavesFolders}
@@ -41,7 +41,7 @@ module _ {E D : Type 0} (inner : E → D) (failed : E → Bool) (of : D → Opti
       told-weaker contents (IsMade (untagged_in inner failed (folder_in of)) what image old new)
       (λ (made : Changed). IsChanged what image made × HasTurned (sectors_in image) (disk_image made.disk))
       (IsLeft (untagged_in inner failed (folder_in of)) what image old new) (IsRefused what image)
-      (KeepsImage (untagged_in inner failed (folder_in of)) image old new) ⊤ before after
+      (HasNotBegun (untagged_in inner failed (folder_in of)) image old new) ⊤ before after
       (λ made m.
       let size = sized what image made m.0 in
       let was = rests inner failed of old found (sectors_in image) (none_there image size not) (at old is) (some size) there in

@@ -5,7 +5,7 @@ use Rattle.d64_image.specs.Memory.{disk_image, sectors_in}
 use Rattle.command_faults.specs.declared.faults.CommandFault.{CommandFault}
 use Rattle.disk_changes.specs.declared.changes.Change.{Change}
 use Rattle.disk_changes.specs.declared.changes.Changed.{Changed}
-use Rattle.folder_changes.specs.FolderChanges.{IsLeft, IsMade, IsToldAs, KeepsImage}
+use Rattle.folder_changes.specs.FolderChanges.{HasNotBegun, IsLeft, IsMade, IsToldAs}
 use Rattle.image_file.specs.paths.Rights.{Use, Write}
 use Rattle.image_file.specs.paths.Traces.{Traces}
 use Rattle.image_log.specs.Files.{FileHistory}
@@ -145,7 +145,7 @@ HasTurned before after = (old : MemFolder) × (new : MemFolder) × RestsAlone un
 abbrev pub IsChangedIn : {D W : Type 0} → FolderHistory D → (IsAt : D → Type 0) → Change → (image : List ℕ)
     → (W → Option (List ℕ)) → W → W → Result ℕ CommandFault → Type 0
 IsChangedIn {D} h IsAt what image contents before after ended = (old : D) × (new : D) × IsAt old
-    × IsToldAs contents (IsMade h what image old new) (IsLeft h what image old new) (KeepsImage h image old new) before after ended
+    × IsToldAs contents (IsMade h what image old new) (IsLeft h what image old new) (HasNotBegun h image old new) before after ended
 
 -- an image was put in the place of all that such a folder had, or not
 abbrev pub IsReplacedIn : {D : Type 0} → FolderHistory D → (IsAt : D → Type 0) → (image : List ℕ) → Result Unit CommandFault

@@ -55,7 +55,7 @@ def accounts_in(folder: Path) -> dict[str, str]:
     for path in sorted(folder.glob("*.account")):
         user, _, password = path.read_text(encoding="ascii").strip().partition(":")
         if not NAME.fullmatch(user) or user != path.name.removesuffix(".account") or not password:
-            sys.exit(f"make_accounts: {path} isn't one line USER:PASSWORD of the user that its name has")
+            sys.exit(f"ledger-shop accounts: {path} isn't one line USER:PASSWORD of the user that its name has")
         accounts[user] = password
     return accounts
 
@@ -187,7 +187,7 @@ def main() -> None:
     if not (given.shop or given.folder.is_dir()):
         parser.error(f"there are no accounts in {given.folder}: --shop and --tills make some")
     accounts = make(given.folder, {given.shop: given.tills} if given.shop else {}, given.screens)
-    print(f"make_accounts: {len(accounts)} accounts in {given.folder}")
+    print(f"ledger-shop accounts: {len(accounts)} accounts in {given.folder}")
 
 
 if __name__ == "__main__":

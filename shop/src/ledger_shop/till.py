@@ -119,7 +119,11 @@ class Broker(wishes.Carrier):
             channel = self.connection.channel()
             bridges = channel.queue_declare(self.queue, passive=True).method.consumer_count
             channel.close()
-        except FAULTS:
+        except FAULTS as fault:
+            # a node that died while it was asked has closed the connection, and nothing may be awaited on that any more
+            if not self.connection.is_open:
+                self.close()
+                self.fault = fault
             return "no answer yet"
         return "no answer yet from the bridge" if bridges else f"no bridge of shop {self.shop} is at the broker"
 

@@ -5,12 +5,15 @@ use crate::sides::readable::{find_readable, lists_more, sides_needed};
 use crate::sides::taken::contains;
 use arrayvec::ArrayVec;
 use d64_image::{MemDisk, Place};
-use disk_layout::{BamView, EntryView, MOST_SIDES, SideView, Slot, map_place};
+use disk_layout::{BamView, DIRECTORY_TRACK, EntryView, MOST_SIDES, SideView, Slot, map_place};
 
-/// The first of these sectors that is free in the map and not among `chosen`.
+/// The first of these sectors that is free in the map and not among `chosen`. Track 18 is left to the directory.
 fn first_free(map: &[u8; 256], unowned: &[Place], chosen: &[Place]) -> Option<Place> {
     for &place in unowned {
-        if BamView::new(map).is_free(place) && !contains(chosen, place) {
+        if place.track() != DIRECTORY_TRACK
+            && BamView::new(map).is_free(place)
+            && !contains(chosen, place)
+        {
             return Some(place);
         }
     }

@@ -1,14 +1,16 @@
-//! Whether two disks have the same chains.
+//! Whether two disks have the same directory and the same chains.
 ghost use Rattle.std.specs.Prelude.{◌≡◌, Contains, IsTrue};
 ghost use Rattle.d64_image.specs.Memory.{disk_image};
 ghost use Rattle.disk_layout.specs.Layout.{File, IsLayout, Layout};
 ghost use Rattle.disk_layout.specs.declared.slot.Slot as entries;
-ghost use Rattle.damaged_files.specs.sides.Compared.{SameChain};
+ghost use Rattle.damaged_files.specs.sides.Compared.{SameChain, SameDirectory};
 
-use crate::sides::sectors::are_same;
+use crate::sides::sectors::{are_same, is_same};
 use arrayvec::ArrayVec;
 use d64_image::{MemDisk, Place};
-use disk_layout::{EntryView, MOST_BLOCKS, Slot, read_directory, walk_chain};
+use disk_layout::{
+    EntryView, MOST_BLOCKS, Slot, directory_start, map_place, read_directory, walk_chain,
+};
 
 /// Whether the chain that an entry has on the second disk is the same on both, with all bytes. `blocks` is room for it.
 fn keeps_chain(
@@ -49,4 +51,16 @@ pub(crate) fn keeps_chains(before: &MemDisk, after: &mut MemDisk) -> bool
 {
     let mut slots = ArrayVec::new();
     read_directory(after, &mut slots).is_ok() && keeps_each(before, after, slots.as_slice())
+}
+
+/// Whether the map and the directory of the second disk are the same on both, with all bytes.
+pub(crate) fn keeps_directory(before: &MemDisk, after: &mut MemDisk) -> bool
+    ensures told { IsTrue result → SameDirectory (disk_image before.now) (disk_image after.old) }
+    ensures after { disk_image after.new ≡ disk_image after.old }
+{
+    let mut sectors = ArrayVec::new();
+    let Ok(_) = walk_chain(after, directory_start(), &mut sectors) else {
+        return false;
+    };
+    is_same(before, after, map_place()) && are_same(before, after, sectors.as_slice())
 }

@@ -7,18 +7,17 @@ ghost use Rattle.layout_check.specs.Survey.{IsSurveyOf};
 ghost use Rattle.damaged_files.specs.sides.Compared.{SameOrOwned};
 ghost use Rattle.damaged_files.specs.sides.Rebuilt.{IsRebuilt};
 
-use crate::sides::comparing::keeps_chains;
+use crate::sides::comparing::{keeps_chains, keeps_directory};
 use crate::sides::sectors::is_same;
 use d64_image::{MemDisk, Place, SECTORS};
-use disk_layout::DIRECTORY_TRACK;
 use layout_check::{Survey, survey};
 
-/// Whether the two disks have the same bytes at the place, or it is outside track 18 and somebody's in the survey.
+/// Whether the two disks have the same bytes at the place, or it is somebody's in the survey.
 fn is_same_or_owned(before: &MemDisk, after: &MemDisk, found: &Survey, place: Place) -> bool
     ensures { IsTrue result → (l : Layout) → IsSurveyOf l found.now
         → SameOrOwned (disk_image before.now) (disk_image after.now) l place }
 {
-    is_same(before, after, place) || (place.track() != DIRECTORY_TRACK && found.is_owned(place))
+    is_same(before, after, place) || found.is_owned(place)
 }
 
 /// Whether that is so for each sector of the disk.
@@ -42,5 +41,8 @@ pub(crate) fn is_rebuilt(before: &MemDisk, after: &mut MemDisk) -> bool
     let Ok(found) = survey(after) else {
         return false;
     };
-    changes_owned(before, after, &found) && keeps_chains(before, after)
+    if !changes_owned(before, after, &found) {
+        return false;
+    }
+    keeps_directory(before, after) && keeps_chains(before, after)
 }

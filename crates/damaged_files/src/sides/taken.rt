@@ -3,7 +3,7 @@ ghost use Rattle.std.specs.Prelude.{◌↔◌, Contains, IsTrue};
 
 use arrayvec::ArrayVec;
 use d64_image::{Place, SECTORS};
-use disk_layout::{DIRECTORY_TRACK, MOST_BLOCKS};
+use disk_layout::MOST_BLOCKS;
 
 /// Adds these sectors to those that are somebody's. There is room for all that a disk has; those past it are left out.
 pub(crate) fn add_all(taken: &mut ArrayVec<Place, MOST_BLOCKS>, places: &[Place]) {
@@ -19,17 +19,12 @@ pub(crate) fn contains(places: &[Place], place: Place) -> bool
     places.contains(&place)
 }
 
-/// Whether a side sector may be put there: outside track 18, where nobody owns the sector.
-fn may_hold_side(taken: &[Place], place: Place) -> bool {
-    place.track() != DIRECTORY_TRACK && !contains(taken, place)
-}
-
-/// The sectors where a side sector may be put, by track and sector: those outside track 18 that nobody owns.
+/// The sectors that nobody owns, by track and sector.
 pub(crate) fn unowned_places(taken: &[Place]) -> ArrayVec<Place, SECTORS> {
     let mut unowned = ArrayVec::new();
     for index in 0..SECTORS {
         let place = Place::nth(index);
-        if may_hold_side(taken, place) {
+        if !contains(taken, place) {
             let _ = unowned.try_push(place);
         }
     }

@@ -19,7 +19,7 @@ use Rattle.file_rescues.specs.declared.rescue.rows.Row.{Row}
 
 -- the first line: what stands in each column
 abbrev pub heading : List ℕ
-heading = codes "number,file,name,text,type,closed,locked,blocks,found,length,bytes,fault,shared,sha256\n"
+heading = codes "number,file,name,text,type,closed,locked,blocks,found,length,bytes,fault,shared,errors,sha256\n"
 
 -- whether the file is closed: bit 7 of its type byte
 abbrev pub closed_text : ℕ → List ℕ
@@ -71,7 +71,8 @@ found_text r =
     decimal r.blocks ++ (codes "," ++ (length_text (type_byte r.slot) (record_length r.slot) ++ (codes ","
     ++ (decimal r.bytes ++ (codes "," ++ (ended_text r.fault ++ (codes "," ++ shared_text r.shared)))))))
 
--- the line of a file
-unfoldable pub row_text : Row → List ℕ
-row_text r =
-    naming_text r ++ (entry_text r ++ (found_text r ++ (codes "," ++ (hash_text r.hash ++ codes "\n"))))
+-- the line of a file, with what is said of its blocks that weren't read
+unfoldable pub row_text : Row → (errors : List ℕ) → List ℕ
+row_text r errors =
+    naming_text r ++ (entry_text r ++ (found_text r ++ (codes "," ++ (errors ++ (codes ","
+    ++ (hash_text r.hash ++ codes "\n"))))))

@@ -13,6 +13,7 @@ use Rattle.disk_layout.specs.declared.faults.Fault.{Fault}
 use Rattle.disk_layout.specs.declared.slot.Slot.{Slot}
 use Rattle.damaged_files.specs.reached.Reached.{IsReached}
 use Rattle.damaged_files.specs.reached.Sharing.{first_shared, shared_fault}
+use Rattle.damaged_files.specs.reached.Sizes.{disk_of}
 use Rattle.file_rescues.specs.Bytes.{file_bytes}
 use Rattle.file_rescues.specs.Found.{records_length, unclosed}
 use Rattle.file_rescues.specs.Records.{records_of, records_text}
@@ -26,6 +27,7 @@ use Rattle.line_text.specs.declared.petscii.file_names.Ending.TheVariants.{Recor
 use Rattle.damaged_files.specs.reached.Directories.{IsReadSoFar}
 use Rattle.file_rescues.specs.rescue.Art.{is_art}
 use Rattle.file_rescues.specs.rescue.Deleted.{deleted_slots}
+use Rattle.file_rescues.specs.rescue.Errors.{errors_text, misread_in}
 use Rattle.file_rescues.specs.rescue.Folders.{AddsFiles, AddsPart, NewFile, new_file}
 use Rattle.file_rescues.specs.rescue.Geos.{cvt_bytes}
 use Rattle.file_rescues.specs.rescue.Index.{heading, row_text}
@@ -130,19 +132,23 @@ file_row img all n f = record {
 abbrev pub row_of : Image → List Place → ℕ → Rescued → Row
 row_of img all n f = if is_art f.slot then art_row n f.slot else file_row img all n f
 
+-- the line of entry n, of an image with these bytes
+abbrev pub line_of : (image : List ℕ) → Image → List Place → ℕ → Rescued → List ℕ
+line_of image img all n f = row_text (row_of img all n f) (errors_text image (misread_in image f))
+
 -- the lines of several entries, the first of them numbered n
-unfoldable pub rows_from : Image → List Place → ℕ → List Rescued → List ℕ
-rows_from img all n [] = []
-rows_from img all n (f ∷ fs) = row_text (row_of img all n f) ++ rows_from img all (n + 1) fs
+unfoldable pub rows_from : (image : List ℕ) → Image → List Place → ℕ → List Rescued → List ℕ
+rows_from image img all n [] = []
+rows_from image img all n (f ∷ fs) = line_of image img all n f ++ rows_from image img all (n + 1) fs
 
 -- the index of these files of a disk whose directory has these sectors
-abbrev pub index_of_files : Image → List Place → List Rescued → NewFile
-index_of_files img directory files =
-    new_file (codes "index.csv") (heading ++ rows_from img (owned directory files) 1 files)
+abbrev pub index_of_files : (image : List ℕ) → Image → List Place → List Rescued → NewFile
+index_of_files image img directory files =
+    new_file (codes "index.csv") (heading ++ rows_from image img (owned directory files) 1 files)
 
 -- all files that are made, in their order: those of each entry, and the index
-abbrev pub all_files : Image → List Place → List Rescued → List NewFile
-all_files img directory files = files_from img 1 files ++ index_of_files img directory files ∷ []
+abbrev pub all_files : (image : List ℕ) → Image → List Place → List Rescued → List NewFile
+all_files image img directory files = files_from img 1 files ++ index_of_files image img directory files ∷ []
 
 -- the fault of an entry that isn't closed; a deleted one has none
 abbrev pub open_fault : Slot → Option Fault
@@ -173,16 +179,16 @@ pub record IsRescue (choice : Choice) (image : List ℕ) (directory : List Place
     pub sectors : directory ≡ sectors_of choice (sectors_in image) chain
     pub rescued : AreChosen choice (sectors_in image) directory files
 
--- All files of an image that are chosen were made in a folder, and nothing else; and the first fault was returned.
+-- All files of the disk in an image that are chosen were made in a folder, and nothing else; and the first fault was returned.
 pub record IsExtracted {F : Type 0} (files : F → Option (List NewFile)) (choice : Choice) (image : List ℕ) (old new : F)
     (result : Option Fault) : Type 0
   where
     pub directory : List Place
     pub rescued : List Rescued
     pub found : Option Fault
-    pub rescue : IsRescue choice image directory rescued found
-    pub made : AddsFiles (files old) (files new) (all_files (sectors_in image) directory rescued)
-    pub told : result ≡ first_fault (sectors_in image) (owned directory rescued) 1 found rescued
+    pub rescue : IsRescue choice (disk_of image) directory rescued found
+    pub made : AddsFiles (files old) (files new) (all_files image (sectors_in (disk_of image)) directory rescued)
+    pub told : result ≡ first_fault (sectors_in (disk_of image)) (owned directory rescued) 1 found rescued
 
 -- a beginning of them was made, and perhaps a part of the next one
 pub record IsExtractedPart {F : Type 0} (files : F → Option (List NewFile)) (choice : Choice) (image : List ℕ) (old new : F)
@@ -191,17 +197,18 @@ pub record IsExtractedPart {F : Type 0} (files : F → Option (List NewFile)) (c
     pub directory : List Place
     pub rescued : List Rescued
     pub found : Option Fault
-    pub rescue : IsRescue choice image directory rescued found
-    pub made : AddsPart (files old) (files new) (all_files (sectors_in image) directory rescued)
+    pub rescue : IsRescue choice (disk_of image) directory rescued found
+    pub made : AddsPart (files old) (files new) (all_files image (sectors_in (disk_of image)) directory rescued)
 
 -- the folder failed, or there was no memory
 abbrev pub IsMakeFault : CommandFault → Type 0
 IsMakeFault fault = (fault ≡ faults.File) ⊎ (fault ≡ faults.NoMemory)
 
--- why not all were made, and what was. Nothing is made of an image of another size
+-- why not all were made, and what was. Nothing is made of an image of a size that none has
 abbrev pub IsExtractFault : {F : Type 0} → (F → Option (List NewFile)) → Choice → List ℕ → F → F → CommandFault → Type 0
-IsExtractFault files choice image old new faults.ImageSize = (length image ≢ 174848) × (new ≡ old)
+IsExtractFault files choice image old new faults.ImageSize = (length (disk_of image) ≢ 174848) × (new ≡ old)
 IsExtractFault files choice image old new faults.NoMemory =
-    (length image ≡ 174848) × ((new ≡ old) ⊎ IsExtractedPart files choice image old new)
-IsExtractFault files choice image old new faults.File = (length image ≡ 174848) × IsExtractedPart files choice image old new
+    (length (disk_of image) ≡ 174848) × ((new ≡ old) ⊎ IsExtractedPart files choice image old new)
+IsExtractFault files choice image old new faults.File =
+    (length (disk_of image) ≡ 174848) × IsExtractedPart files choice image old new
 IsExtractFault files choice image old new _ = ⊥

@@ -3,6 +3,7 @@ ghost use Rattle.std.specs.Prelude.{◌≡◌, ◌≤◌, ◌++◌, List, IfErr,
 ghost use Rattle.std.specs.List.{AllByRecursion};
 ghost use Rattle.d64_image.specs.Memory.{disk_image};
 ghost use Rattle.d64_image.specs.declared.place.Place.{Place};
+ghost use Rattle.file_rescues.specs.rescue.Errors.{errors_text, misread_in};
 ghost use Rattle.file_rescues.specs.rescue.Folders.{AddsFiles, AddsPart};
 ghost use Rattle.file_rescues.specs.rescue.Index.{row_text};
 ghost use Rattle.damaged_files.specs.reached.Owned.{CountsAll};
@@ -13,17 +14,18 @@ ghost use Rattle.file_rescues.specs.rescue.Sharing.{owned};
 use crate::rescue::art::is_art;
 use crate::rescue::choices::Choice;
 use crate::rescue::deleted::rescue_chosen;
+use crate::rescue::errors::{Errors, misread_blocks};
 use crate::rescue::folders::NewFolder;
 use crate::rescue::making::{make, make_files};
 use crate::rescue::output::put;
 use crate::rescue::rescuing::Rescued;
-use crate::rescue::rows::Row;
+use crate::rescue::rows::{Line, Row};
 use crate::rescue::scanning::add_chosen;
 use crate::rescue::sharing::owners_of;
 use arrayvec::ArrayVec;
 use command_faults::{CommandFault, load};
 use d64_image::{MemDisk, Place};
-use damaged_files::{Owners, read_so_far};
+use damaged_files::{Owners, disk_in, read_so_far};
 use disk_layout::Fault;
 use sha2::{Digest, Sha256};
 use std::alloc::Global;
@@ -33,7 +35,7 @@ const INDEX: &[u8] = b"index.csv";
 
 /// What stands in its columns.
 const HEADING: &str =
-    "number,file,name,text,type,closed,locked,blocks,found,length,bytes,fault,shared,sha256\n";
+    "number,file,name,text,type,closed,locked,blocks,found,length,bytes,fault,shared,errors,sha256\n";
 
 /// Makes the files of entry `number`, none of directory art, and returns its row of the index. `File` if the folder
 /// failed, or `NoMemory`.
@@ -80,6 +82,7 @@ fn make_row<F: NewFolder>(
 /// Makes the files of entry `number`, and adds its row to the index. `File` if the folder failed, or `NoMemory`.
 fn extract_entry<F: NewFolder>(
     alloc: Global,
+    image: &[u8],
     disk: &MemDisk,
     folder: &mut F,
     owners: &Owners,
@@ -90,14 +93,20 @@ fn extract_entry<F: NewFolder>(
     requires rescued { IsRescued (disk_image disk.now) file.now }
     ensures row { IfOk result (λ row. (all : List Place) → CountsAll owners.now all
         → row ≡ row_of (disk_image disk.now) all number file.now) }
-    ensures index { IfOk result (λ row. index.new.items ≡ index.old.items ++ row_text row) }
+    ensures index { IfOk result (λ row. index.new.items
+        ≡ index.old.items ++ row_text row (errors_text image.now (misread_in image.now file.now))) }
     ensures ok { IfOk result (λ row. AddsFiles (F.files folder.old) (F.files folder.new)
         (files_of (disk_image disk.now) number file.now)) }
     ensures err { IfErr result (λ fault. IsMakeFault fault
         × AddsPart (F.files folder.old) (F.files folder.new) (files_of (disk_image disk.now) number file.now)) }
 {
     let row = make_row(alloc, disk, folder, owners, number, file)?;
-    put(index, row)?;
+    let misread = misread_blocks(alloc, image, file)?;
+    let errors = Errors {
+        image,
+        places: misread.as_slice(),
+    };
+    put(index, Line { row, errors })?;
     Ok(row)
 }
 
@@ -105,6 +114,7 @@ fn extract_entry<F: NewFolder>(
 /// `File` if the folder failed, or `NoMemory`.
 fn extract_entries<F: NewFolder>(
     alloc: Global,
+    image: &[u8],
     disk: &MemDisk,
     folder: &mut F,
     owners: &Owners,
@@ -117,7 +127,7 @@ fn extract_entries<F: NewFolder>(
     ensures made { IfOk result (λ _. AddsFiles (F.files folder.old) (F.files folder.new)
         (files_from (disk_image disk.now) 1 files.now)) }
     ensures rows { IfOk result (λ _. (all : List Place) → CountsAll owners.now all
-        → index.new.items ≡ index.old.items ++ rows_from (disk_image disk.now) all 1 files.now) }
+        → index.new.items ≡ index.old.items ++ rows_from image.now (disk_image disk.now) all 1 files.now) }
     ensures told { IfOk result (λ fault. (all : List Place) → CountsAll owners.now all
         → fault ≡ first_fault (disk_image disk.now) all 1 before files.now) }
     ensures err { IfErr result (λ fault. IsMakeFault fault
@@ -127,7 +137,7 @@ fn extract_entries<F: NewFolder>(
     let mut number = 0;
     for file in files {
         number += 1;
-        let row = extract_entry(alloc, disk, folder, owners, number, file, index)?;
+        let row = extract_entry(alloc, image, disk, folder, owners, number, file, index)?;
         found = found.or(row.fault());
     }
     Ok(found)
@@ -136,6 +146,7 @@ fn extract_entries<F: NewFolder>(
 /// Makes the files of all entries, and the index. `File` if the folder failed, or `NoMemory`.
 fn extract_files<F: NewFolder>(
     alloc: Global,
+    image: &[u8],
     disk: &MemDisk,
     folder: &mut F,
     sectors: &[Place],
@@ -145,22 +156,25 @@ fn extract_files<F: NewFolder>(
     requires rescued { AllByRecursion (IsRescued (disk_image disk.now)) files.now }
     requires few { length files.now ≤ 144 }
     ensures ok { IfOk result (λ fault. AddsFiles (F.files folder.old) (F.files folder.new)
-        (all_files (disk_image disk.now) sectors.now files.now)
+        (all_files image.now (disk_image disk.now) sectors.now files.now)
         × (fault ≡ first_fault (disk_image disk.now) (owned sectors.now files.now) 1 found files.now)) }
     ensures err { IfErr result (λ fault. IsMakeFault fault
-        × AddsPart (F.files folder.old) (F.files folder.new) (all_files (disk_image disk.now) sectors.now files.now)) }
+        × AddsPart (F.files folder.old) (F.files folder.new) (all_files image.now (disk_image disk.now) sectors.now files.now)) }
 {
     let owners = owners_of(sectors, files);
     let mut index = Vec::new(alloc);
     put(&mut index, HEADING)?;
-    let fault = extract_entries(alloc, disk, folder, &owners, files, &mut index, found)?;
+    let fault = extract_entries(
+        alloc, image, disk, folder, &owners, files, &mut index, found,
+    )?;
     make(folder, INDEX, index.as_slice())?;
     Ok(fault)
 }
 
-/// Makes in a folder a file for each entry of the image's directory, with what can be reached of its bytes, and for each
-/// relative one also a file with the lines of its records. After them it makes `index.csv`, with a line for each entry; its
-/// last column is the SHA-256 of the file's bytes, in hexadecimal digits. A damaged directory or chain, a block that several have, and a file that isn't closed keep nothing back. Returns the
+/// Makes in a folder a file for each entry of the directory of the disk in an image of 35, 40 or 42 tracks, with what can be
+/// reached of its bytes, and for each relative one also a file with the lines of its records. After them it makes `index.csv`,
+/// with a line for each entry; its last columns are the file's blocks that a drive couldn't read when the image was made, by the
+/// image's error bytes, and the SHA-256 of the file's bytes, in hexadecimal digits. A damaged directory or chain, a block that several have, and a file that isn't closed keep nothing back. Returns the
 /// first of these faults, the directory's before those of the entries in their order: `BadLink`, `Loop`, `OwnedTwice` or
 /// `Unclosed`. Directory art (`is_art`) has a line in the index, no file, and no fault.
 ///
@@ -182,7 +196,7 @@ pub fn extract_image<F: NewFolder>(
     ensures ok { IfOk result (IsExtracted F.files choice image.now folder.old folder.new) }
     ensures err { IfErr result (IsExtractFault F.files choice image.now folder.old folder.new) }
 {
-    let disk = load(alloc, image)?;
+    let disk = load(alloc, disk_in(image))?;
     let mut sectors = ArrayVec::new();
     let mut entries = ArrayVec::new();
     let found = read_so_far(&disk, &mut sectors, &mut entries);
@@ -190,6 +204,7 @@ pub fn extract_image<F: NewFolder>(
     let files = rescue_chosen(alloc, &disk, choice, sectors.as_slice())?;
     extract_files(
         alloc,
+        image,
         &disk,
         folder,
         sectors.as_slice(),

@@ -1,11 +1,13 @@
 //! Lines of the index.
 ghost use Rattle.std.specs.Prelude.{◌≡◌, Some};
+ghost use Rattle.file_rescues.specs.rescue.Errors.{errors_text};
 ghost use Rattle.file_rescues.specs.rescue.Index.{closed_text, ended_text, entry_text, file_text, found_text, length_text};
 ghost use Rattle.file_rescues.specs.rescue.Index.{locked_text, naming_text, row_text, shared_text};
 ghost use Rattle.file_rescues.specs.rescue.Rescues as rescues;
 ghost use Rattle.file_rescues.specs.rescue.Rescues.{fault_of};
 
 use crate::rescue::art::is_art;
+use crate::rescue::errors::Errors;
 use crate::rescue::hashes::Hash;
 use crate::rescue::naming::first_name;
 use d64_image::Place;
@@ -209,17 +211,28 @@ impl Display for Found {
     }
 }
 
-impl Display for Row {
-    ghost output = { λ row. Some (row_text row) };
+/// A row as a line, with those blocks of its file that weren't read.
+#[derive(Clone, Copy)]
+pub(crate) struct Line<'a> {
+    /// The row.
+    pub row: Row,
+    /// The blocks.
+    pub errors: Errors<'a>,
+}
+
+impl Display for Line<'_> {
+    ghost output = { λ line. Some (row_text line.row (errors_text line.errors.image.now line.errors.places.now)) };
 
     fn fmt<W: fmt::Write>(&self, f: &mut Formatter<W>) -> fmt::Result {
+        let row = self.row;
         writeln!(
             f,
-            "{}{}{},{}",
-            Naming(*self),
-            Entry(*self),
-            Found(*self),
-            Hash(self.hash)
+            "{}{}{},{},{}",
+            Naming(row),
+            Entry(row),
+            Found(row),
+            self.errors,
+            Hash(row.hash)
         )
     }
 }

@@ -113,7 +113,7 @@ fn commit_made<F: LogFile, D: LogFolder<F>>(folder: &mut D, file: F) -> io::Resu
 /// Why an image wasn't put in the place of another: a call of the folder, or of the log's file, failed.
 #[derive(Debug)]
 pub enum ReplaceFault {
-    /// The log that gives the new image wasn't made. Of IMAGE nothing was written, and its log has its name no more than before.
+    /// The log that gives the new image wasn't made. Nothing was written to IMAGE, and the folder has a log only if it had one before.
     Unbegun(io::Error),
     /// A later call failed: the folder gives the old image, or the new one.
     Unfinished(io::Error),

@@ -16,7 +16,7 @@ use Rattle.disk_layout.specs.Chain.{EachOnce}
 use Rattle.disk_layout.specs.Directory.{map_place}
 use Rattle.disk_layout.specs.Layout.{File, HasChain, IsFile, IsLayout, IsSound, Layout, file_owns}
 use Rattle.disk_layout.specs.Layout.{is_rel, owners}
-use Rattle.damaged_files.specs.sides.Compared.{SameChain, SameOrOwned}
+use Rattle.damaged_files.specs.sides.Compared.{SameChain, SameDirectory, SameOrOwned}
 use Rattle.damaged_files.specs.sides.Rebuilt.{IsFileButSides, IsLayoutButSides, IsRebuilt, IsUnderRebuilding, SameButSides}
 use Rattle.damaged_files.specs.sides.Taken.{IsMix}
 
@@ -70,13 +70,10 @@ in-file (f ∷ fs) p c = elim (Contains-append_cases (file_owns f) (flat_map fil
 ]
 
 module _ (a b : Image) (l : Layout) (is : IsLayout b l) (apart : (p : Place) → SameOrOwned a b l p)
-    (chains : (f : File) → Contains l.files f → SameChain a b f.slot) where
-  -- track 18 is the same
-  same-system : (p : Place) → p.track ≡ 18 → sector a p ≡ sector b p
-  same-system p on = elim (apart p) [ inl same ↦ same | inr (off, own) ↦ absurd (off on) ]
-
+    (system : SameDirectory a b) (chains : (f : File) → Contains l.files f → SameChain a b f.slot) where
+  -- the directory is the same
   same-directory : AgreeAt b a l.directory
-  same-directory p c = sym (same-system p (all-in (λ q. q.track ≡ 18) l.directory p is.directory.on_track c))
+  same-directory p c = sym (system.1 l.directory is.directory.last is.directory.chain p c)
 
   -- so are all blocks
   same-blocks : (f : File) → Contains l.files f → AgreeAt b a f.blocks
@@ -103,8 +100,8 @@ module _ (a b : Image) (l : Layout) (is : IsLayout b l) (apart : (p : Place) →
   unfolding owners
   same-but p out = elim (apart p) [
     | inl same ↦ sym same
-    | inr (off, own) ↦ elim (Contains-cases p map_place (owners l) own) [
-      | inl e ↦ let P : Place → Type 0 = λ q. q.track ≡ 18 in absurd (off (subst P e refl))
+    | inr own ↦ elim (Contains-cases p map_place (owners l) own) [
+      | inl e ↦ let P : Place → Type 0 = λ q. sector b q ≡ sector a q in subst P e (sym system.0)
       | inr c ↦ elim (Contains-append_cases l.directory (flat_map file_owns l.files) p c) [
         | inl d ↦ same-directory p d
         | inr file ↦ elim (in-file l.files p file) [

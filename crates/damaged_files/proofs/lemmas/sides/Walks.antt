@@ -9,7 +9,7 @@ use Rattle.disk_layout.proofs.lemmas.chains.Names.{named-is, named-none}
 use Rattle.disk_layout.proofs.lemmas.layouts.Layouts.{IsDirectory-one, get-contains}
 use Rattle.disk_layout.proofs.lemmas.lists.Lists.{contains-get}
 use Rattle.disk_layout.specs.Chain.{IsChain, named_at}
-use Rattle.disk_layout.specs.Directory.{IsDirectory}
+use Rattle.disk_layout.specs.Directory.{IsDirectory, directory_start}
 use Rattle.disk_layout.specs.Layout.{File, IsLayout, Layout}
 use Rattle.disk_layout.specs.declared.slot.Slot.{Slot}
 use Rattle.damaged_files.proofs.lemmas.Below.{below-or-here}
@@ -30,6 +30,15 @@ walked-same a b now s viewed first ps walked u same view named items chain at p 
     let one : first ≡ p = cc in
     let P : Place → Type 0 = λ x. IsChain b x ps u in
     let chains = IsChain-one b p ps qs u w (subst P one chain) other in
+    let C : List Place → Type 0 = λ xs. Contains xs q in
+    at q (subst C (sym (items ∙ chains.0)) c) ∙ ap (λ (i : Image). sector i q) same
+
+-- the chain that was walked from the directory's start and compared is the directory's
+pub walked-directory : (a b now : Image) (ps walked : List Place) (u : ℕ) → now ≡ b → walked ≡ ps
+    → IsChain b directory_start ps u → SameAt a now walked → (qs : List Place) (w : ℕ) → IsChain b directory_start qs w
+    → SameAt a b qs
+walked-directory a b now ps walked u same items chain at qs w other q c =
+    let chains = IsChain-one b directory_start ps qs u w chain other in
     let C : List Place → Type 0 = λ xs. Contains xs q in
     at q (subst C (sym (items ∙ chains.0)) c) ∙ ap (λ (i : Image). sector i q) same
 

@@ -170,9 +170,9 @@ from-inside img n (f ∷ fs) few = inside-append (files_of img n f) (files_from 
     (unless-inside (is_art f.slot) (own_files img n f) (own-inside img n f (omega (arith, few))))
     (from-inside img (n + 1) fs (omega (arith, few)))
 
-pub all-inside : (img : Image) (directory : List Place) (files : List Rescued) → length files ≤ 144
-    → AllByRecursion IsInside (all_files img directory files)
-all-inside img directory files few = inside-append (files_from img 1 files) (index_of_files img directory files ∷ [])
+pub all-inside : (image : List ℕ) (img : Image) (directory : List Place) (files : List Rescued) → length files ≤ 144
+    → AllByRecursion IsInside (all_files image img directory files)
+all-inside image img directory files few = inside-append (files_from img 1 files) (index_of_files image img directory files ∷ [])
     (from-inside img 1 files (omega (arith, few))) (index-inside, tt)
 
 -- a name that begins with this number
@@ -327,10 +327,10 @@ from-once img n (f ∷ fs) few =
     apart x (tail, is) (k, after, high, (more, other)) =
         let same = numbers-same n k tail more low high (sym is ∙ other) in omega (arith, after, same)
 
-pub all-once : (img : Image) (directory : List Place) (files : List Rescued) → length files ≤ 144
-    → EachOnce (map name (all_files img directory files))
-all-once img directory files few =
-    subst EachOnce (sym (map-append name (files_from img 1 files) (index_of_files img directory files ∷ [])))
+pub all-once : (image : List ℕ) (img : Image) (directory : List Place) (files : List Rescued) → length files ≤ 144
+    → EachOnce (map name (all_files image img directory files))
+all-once image img directory files few =
+    subst EachOnce (sym (map-append name (files_from img 1 files) (index_of_files image img directory files ∷ [])))
     (EachOnce-join (map name (files_from img 1 files)) (codes "index.csv" ∷ [])
     (from-once img 1 files (omega (arith, few))) (Contains-nil (codes "index.csv"), tt)
     (λ x here there. elim (Contains-cases x (codes "index.csv") [] there) [

@@ -6,7 +6,7 @@ use Rattle.command_faults.specs.declared.faults.CommandFault.{CommandFault}
 use Rattle.disk_changes.specs.Changes.{IsRefused}
 use Rattle.folder_changes.proofs.Changed.{in-memory, made-moments, printed, refused, sized, unplaced}
 use Rattle.folder_changes.proofs.image_changing.change_image.Goals as goal
-use Rattle.folder_changes.specs.FolderChanges.{IsLeft, IsMade, KeepsImage}
+use Rattle.folder_changes.specs.FolderChanges.{HasNotBegun, IsLeft, IsMade}
 
 pub returns-in_err-made-clause-run : goal.returns-in_err-made-clause-run
 returns-in_err-made-clause-run g c =
@@ -15,7 +15,7 @@ returns-in_err-made-clause-run g c =
     rw (p.1 ∙ ap Err p.2) (refused g.W.Write.contents
     (IsMade g.D.LogFolder.history c.args.what.now c.args.image.now old old)
     (IsLeft g.D.LogFolder.history c.args.what.now c.args.image.now old old)
-    (KeepsImage g.D.LogFolder.history c.args.image.now old old) c.args.out.now _
+    (HasNotBegun g.D.LogFolder.history c.args.image.now old old) c.args.out.now _
     (λ left. (in-memory c.args.what.now c.args.image.now).0 left.0) (c.in_err-made.ensures.err, refl))
 
 pub returns-in_err-made-clause-cause : goal.returns-in_err-made-clause-cause
@@ -43,7 +43,7 @@ pub returns-clause-run : goal.returns-clause-run
 returns-clause-run g c = printed g.W.Write.contents
     (IsMade g.D.LogFolder.history c.args.what.now c.args.image.now c.args.folder.now c.put_in_place.new.folder)
     (IsLeft g.D.LogFolder.history c.args.what.now c.args.image.now c.args.folder.now c.put_in_place.new.folder)
-    (KeepsImage g.D.LogFolder.history c.args.image.now c.args.folder.now c.put_in_place.new.folder)
+    (HasNotBegun g.D.LogFolder.history c.args.image.now c.args.folder.now c.put_in_place.new.folder)
     c.args.out.now c.print.new.out c.in_ok-made.made
     (c.in_ok-made.ensures.ok, λ rests. (c.in_ok-put_in_place.ensures.ok rests, c.put_in_place.ensures.any_moment rests))
     c.print.result c.print.ensures.ok c.print.ensures.part c.print.ensures.err

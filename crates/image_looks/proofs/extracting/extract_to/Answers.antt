@@ -7,12 +7,12 @@ use Rattle.std.specs.Prelude.{vec_items}
 use Rattle.image_looks.specs.Extracts.{IsExtractedTo}
 use Rattle.image_looks.proofs.ExtractSaid.{at-path}
 use Rattle.opened_files.proofs.HostFiles.{over-taken}
-use Rattle.opened_files.specs.declared.extents.Extent.TheVariants.{FirstTracks}
+use Rattle.opened_files.specs.declared.extents.Extent.TheVariants.{Whole}
 use Rattle.image_looks.proofs.extracting.extract_to.Goals as goal
 
 pub returns : goal.returns
 returns g c =
-    over-taken g.R.HostFiles.rights g.R.HostFiles.stands c.args.rt.now c.args.path.now FirstTracks c.args.out.now
+    over-taken g.R.HostFiles.rights g.R.HostFiles.stands c.args.rt.now c.args.path.now Whole c.args.out.now
     c.extract_run.new.out c.extract_run.result (vec_items c.in_ok-image.image) c.as_slice.result.now
     (λ (image : List ℕ). IsExtractedTo g.F.EndedFile.remains g.R.HostFiles.traces g.W.Write.contents c.args.rt.now
     c.args.choice c.args.folder.now image c.args.out.now c.extract_run.new.out c.extract_run.result)

@@ -2,7 +2,8 @@
 use Rattle.std.proofs.Common.{Err, List, ap, inl, inr, refl, subst, ℕ, ◌∙◌}
 use Rattle.std.proofs.lemmas.Result.{err_from_is_err_and}
 use Rattle.command_faults.specs.declared.faults.CommandFault.TheVariants as faults
-use Rattle.image_looks.specs.Reports.{IsReportFault, IsReported}
+use Rattle.std.specs.Io.KnownBytes.{Appends}
+use Rattle.image_looks.specs.Reports.{IsReportFault, IsReported, told_as}
 use Rattle.image_looks.proofs.Reported.{output-why}
 use Rattle.image_looks.proofs.reporting.report_with.Goals as goal
 
@@ -36,7 +37,8 @@ returns g c = inl (record {
   between = c.report_disk.new.out;
   disk = subst (λ (disk : List ℕ). IsReported g.W.Write.contents c.args.report disk c.args.out.now c.report_disk.new.out
       c.in_ok-found.found) c.disk_in.ensures c.in_ok-found.ensures.ok;
-  missing = c.requires;
-  told = c.in_ok-print_lines.ensures.ok;
+  missing = c.requires.missing;
+  told = subst (λ (maps : List ℕ). Appends (g.W.Write.contents c.report_disk.new.out) (g.W.Write.contents c.print_lines.new.out)
+      (told_as c.args.report c.args.lines.now maps)) c.requires.maps c.in_ok-print_lines.ensures.ok;
   ended = c.reported_end.ensures;
 })

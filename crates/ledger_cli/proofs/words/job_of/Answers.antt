@@ -9,7 +9,8 @@ use Rattle.ledger_jobs.specs.declared.jobs.Job.TheVariants as jobs
 use Rattle.file_rescues.specs.declared.forms.FileForm.TheVariants as files
 use Rattle.image_looks.specs.declared.kinds.Look.{Look}
 use Rattle.image_looks.specs.declared.kinds.Look.TheVariants as looks
-use Rattle.ledger_cli.specs.Images.{IsLookJob}
+use Rattle.image_looks.specs.declared.objects.ImageObject.TheVariants as objects
+use Rattle.ledger_cli.specs.Images.{IsShowingJob}
 use Rattle.ledger_jobs.specs.Jobs.{IsFit}
 use Rattle.ledger_cli.specs.Jobs.{IsJob}
 use Rattle.ledger_cli.specs.Flags.{is_given}
@@ -21,7 +22,7 @@ use Rattle.ledger_cli.proofs.Named.{making-met, named-met, putting-met, records-
 use Rattle.ledger_cli.proofs.Named.{storing-met, titling-met}
 use Rattle.ledger_cli.proofs.Parses.{copy-fit, copy-met, format-fit, format-met, met-has, met-is, play-fit, play-met}
 use Rattle.ledger_cli.proofs.Parses.{repair-fit, repair-met}
-use Rattle.ledger_cli.proofs.Views.{checking-met, list-met, planning-met, show-met, viewing-met}
+use Rattle.ledger_cli.proofs.Views.{checking-met, list-met, planning-met, show-met, showing-met, viewing-met}
 use Rattle.ledger_cli.proofs.words.job_of.Goals as goal
 
 pub returns-in_default : goal.returns-in_default
@@ -55,10 +56,11 @@ returns-in-None c = record {
 pub returns-in-list : goal.returns-in-list
 returns-in-list c =
     let rows = rows_of (found_of c.in-Some.found.now) in
-    let asked = list-met rows _ c.name_form.result refl c.name_form.ensures in
-    let viewed = subst (λ (what : Look). IsLookJob rows what c.viewing.result) c.disk_look-what.ensures c.viewing.ensures in
-    let met = viewing-met c.parsed_subcommand.result _ c.in-Some.name c.in-Some.found _
-    c.viewing.result c.parsed_subcommand.ensures c.in-Some.is (c.in-list.is ∙ sym asked.0) asked.1 asked.2 viewed in
+    let shown = subst (λ (what : Look). IsShowingJob rows what (objects.List c.is_given-as_is.result) c.showing.result)
+    c.disk_look-what.ensures c.showing.ensures in
+    let met = showing-met c.parsed_subcommand.result _ c.in-Some.name c.in-Some.found _ (objects.List c.is_given-as_is.result)
+    c.showing.result c.parsed_subcommand.ensures c.in-Some.is c.in-list.is
+    (λ plain. list-met rows _ c.name_form.result refl c.name_form.ensures plain) c.is_given-as_is.ensures shown in
     record { job = met.0; fit = met.1 }
 
 pub returns-in-check : goal.returns-in-check
@@ -76,14 +78,13 @@ returns-in-plan c =
 pub returns-in-show : goal.returns-in-show
 returns-in-show c =
     let rows = rows_of (found_of c.in-Some.found.now) in
-    let asked = show-met rows _ c.loss.result refl c.loss.ensures in
-    record {
-      job = subst (λ (what : Look). IsJob (subcommand_rows_of c.args.matches.now) (jobs.Look c.value_of-image.result what))
-          (sym c.disk_look.ensures)
-          (met-has c.parsed_subcommand.result _ c.in-Some.name c.in-Some.found _ _ c.parsed_subcommand.ensures c.in-Some.is
-          (c.in-show.is ∙ sym asked.0) (c.value_of-image.ensures, asked.1, asked.2));
-      fit = tt;
-    }
+    let object = objects.Show c.loss-loss.result c.is_given-as_is-in-show.result in
+    let shown = subst (λ (what : Look). IsShowingJob rows what object c.showing-in-show.result) c.disk_look-what-in-show.ensures
+    c.showing-in-show.ensures in
+    let met = showing-met c.parsed_subcommand.result _ c.in-Some.name c.in-Some.found _ object c.showing-in-show.result
+    c.parsed_subcommand.ensures c.in-Some.is c.in-show.is
+    (λ plain. show-met rows _ c.loss-loss.result refl c.loss-loss.ensures plain) (c.loss-loss.ensures, c.is_given-as_is-in-show.ensures) shown in
+    record { job = met.0; fit = met.1 }
 
 pub returns-in-play : goal.returns-in-play
 returns-in-play c =
@@ -109,7 +110,7 @@ returns-in-dry c = record {
 pub returns-in-serve : goal.returns-in-serve
 returns-in-serve c = record {
   job = met-has c.parsed_subcommand.result _ c.in-Some.name c.in-Some.found _ _ c.parsed_subcommand.ensures c.in-Some.is c.in-serve.is
-      (c.value_of-image.ensures, c.loss-in-serve.ensures);
+      (c.value_of-image.ensures, c.loss.ensures);
   fit = tt;
 }
 
@@ -279,8 +280,8 @@ returns-in-title c =
 
 pub returns-in-map : goal.returns-in-map
 returns-in-map c =
-    let met = viewing-met c.parsed_subcommand.result _ c.in-Some.name c.in-Some.found looks.Map c.viewing-in-map.result
-    c.parsed_subcommand.ensures c.in-Some.is c.in-map.is tt tt c.viewing-in-map.ensures in
+    let met = viewing-met c.parsed_subcommand.result _ c.in-Some.name c.in-Some.found looks.Map c.viewing.result
+    c.parsed_subcommand.ensures c.in-Some.is c.in-map.is tt tt c.viewing.ensures in
     record { job = met.0; fit = met.1 }
 
 pub returns-in-picture : goal.returns-in-picture
@@ -290,11 +291,11 @@ returns-in-picture c =
     record { job = met.0; fit = met.1 }
 
 pub returns-in-free : goal.returns-in-free
-returns-in-free c = record {
-  job = met-has c.parsed_subcommand.result _ c.in-Some.name c.in-Some.found _ _ c.parsed_subcommand.ensures c.in-Some.is c.in-free.is
-      (c.value_of-image.ensures, tt, tt);
-  fit = tt;
-}
+returns-in-free c =
+    let met = showing-met c.parsed_subcommand.result _ c.in-Some.name c.in-Some.found looks.Free objects.Free
+    c.showing-in-free.result c.parsed_subcommand.ensures c.in-Some.is c.in-free.is (λ plain. (refl, tt, plain)) tt
+    c.showing-in-free.ensures in
+    record { job = met.0; fit = met.1 }
 
 pub returns-in-Some-place_of : goal.returns-in-Some-place_of
 returns-in-Some-place_of c = record {

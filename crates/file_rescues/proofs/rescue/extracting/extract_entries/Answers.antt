@@ -7,6 +7,7 @@ use Rattle.d64_image.specs.Memory.{disk_image}
 use Rattle.disk_layout.specs.declared.faults.Fault.{Fault}
 use Rattle.file_rescues.proofs.lemmas.rescue.Made.{fault-more, made-more, made-part, no-fault, no-files, no-rows, rows-more}
 use Rattle.file_rescues.proofs.lemmas.rescue.Reached.{rescued-at}
+use Rattle.file_rescues.specs.rescue.Errors.{errors_text, misread_in}
 use Rattle.file_rescues.specs.rescue.Folders.{AddsFiles}
 use Rattle.file_rescues.specs.rescue.Index.{row_text}
 use Rattle.file_rescues.specs.rescue.Rescues.{fault_of, files_from, first_fault, rows_from}
@@ -18,7 +19,7 @@ pub loop-file-init : goal.loop-file-init
 loop-file-init g c = record {
   number_is = refl;
   made = no-files (g.F.NewFolder.files c.args.folder.now) (disk_image c.args.disk.now) c.args.files.now;
-  rows = λ all counts. no-rows (disk_image c.args.disk.now) all c.args.index.now.items c.args.files.now;
+  rows = λ all counts. no-rows c.args.image.now (disk_image c.args.disk.now) all c.args.index.now.items c.args.files.now;
   told = λ all counts. no-fault (disk_image c.args.disk.now) all c.args.before c.args.files.now;
 }
 
@@ -40,10 +41,11 @@ loop-file-preserved g c =
       made = made-more _ _ _ (disk_image c.args.disk.now) c.loop-file.file-index (c.loop-file.number + 1) c.args.files.now
           c.file-item.result c.loop-file-test.true (sym c.file-item.is) next old.made
           (c.in_ok-row.ensures.ok);
-      rows = λ all counts. rows-more (disk_image c.args.disk.now) all c.loop-file.file-index (c.loop-file.number + 1)
+      rows = λ all counts. rows-more c.args.image.now (disk_image c.args.disk.now) all c.loop-file.file-index (c.loop-file.number + 1)
           c.args.files.now c.file-item.result c.args.index.now.items c.loop-file.index.items _ c.loop-file-test.true
           (sym c.file-item.is) next (old.rows all counts)
-          (c.in_ok-row.ensures.index ∙ ap (λ (r : Row). c.loop-file.index.items ++ row_text r)
+          (c.in_ok-row.ensures.index ∙ ap (λ (r : Row). c.loop-file.index.items
+          ++ row_text r (errors_text c.args.image.now (misread_in c.args.image.now c.file-item.result)))
           ((c.in_ok-row.ensures.row all counts)));
       told = λ all counts. c.or-found.ensures
           ∙ ap (λ (o : Option Fault). option_or c.loop-file.found o)
@@ -77,7 +79,7 @@ returns g c =
       made = subst (λ (fs : List Rescued). AddsFiles (g.F.NewFolder.files c.args.folder.now)
           (g.F.NewFolder.files c.loop-file.folder) (files_from img 1 fs)) all_of c.loop-file.invariant.made;
       rows = λ all counts. subst (λ (fs : List Rescued). c.loop-file.index.items
-          ≡ c.args.index.now.items ++ rows_from img all 1 fs) all_of (c.loop-file.invariant.rows all counts);
+          ≡ c.args.index.now.items ++ rows_from c.args.image.now img all 1 fs) all_of (c.loop-file.invariant.rows all counts);
       told = λ all counts. subst (λ (fs : List Rescued). c.loop-file.found ≡ first_fault img all 1 c.args.before fs)
           all_of (c.loop-file.invariant.told all counts);
       err = tt;

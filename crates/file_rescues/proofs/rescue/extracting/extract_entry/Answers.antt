@@ -1,8 +1,13 @@
--- The files were made, and there was no memory for the row.
-use Rattle.std.proofs.Common.{inr}
+-- The files were made, and there was no memory for what the index says of them.
+use Rattle.std.proofs.Common.{◌++◌, List, ap, inr, ℕ, ◌∙◌}
 use Rattle.std.proofs.lemmas.Result.{err_from_is_err_and}
 use Rattle.file_rescues.proofs.lemmas.rescue.Parts.{added-all}
 use Rattle.file_rescues.proofs.rescue.extracting.extract_entry.Goals as goal
+
+pub returns-in_err-misread-clause-err : goal.returns-in_err-misread-clause-err
+returns-in_err-misread-clause-err g c =
+    let p = err_from_is_err_and c.from_residual-in_err-misread.result c.from_residual-in_err-misread.ensures.1 in
+    rw (p.1, p.2) (inr c.in_err-misread.ensures.err, added-all _ _ _ c.in_ok-row.ensures.ok)
 
 pub returns-in_err-put-clause-err : goal.returns-in_err-put-clause-err
 returns-in_err-put-clause-err g c =

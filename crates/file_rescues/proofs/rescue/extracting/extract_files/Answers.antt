@@ -17,7 +17,7 @@ returns-in_err-make-clause-err g c =
     let p = err_from_is_err_and c.from_residual-in_err-make.result c.from_residual-in_err-make.ensures.1 in
     rw (p.1, p.2) (
       c.in_err-make.ensures.err.0,
-      all-part _ _ _ (disk_image c.args.disk.now) c.args.sectors.now c.args.files.now _ _ _ _ c.new-index.ensures.items
+      all-part _ _ _ c.args.image.now (disk_image c.args.disk.now) c.args.sectors.now c.args.files.now _ _ _ _ c.new-index.ensures.items
           c.in_ok-put.ensures.ok
           (c.in_ok-fault.ensures.rows (owned c.args.sectors.now c.args.files.now) c.owners_of-owners.ensures)
           c.as_slice.ensures.value c.in_ok-fault.ensures.made c.in_err-make.ensures.err.1,
@@ -25,7 +25,7 @@ returns-in_err-make-clause-err g c =
 
 pub returns-clause-ok : goal.returns-clause-ok
 returns-clause-ok g c = (
-  all-made _ _ _ (disk_image c.args.disk.now) c.args.sectors.now c.args.files.now _ _ _ _ c.new-index.ensures.items
+  all-made _ _ _ c.args.image.now (disk_image c.args.disk.now) c.args.sectors.now c.args.files.now _ _ _ _ c.new-index.ensures.items
       c.in_ok-put.ensures.ok (c.in_ok-fault.ensures.rows (owned c.args.sectors.now c.args.files.now) c.owners_of-owners.ensures)
       c.as_slice.ensures.value c.in_ok-fault.ensures.made c.in_ok-make.ensures.ok,
   c.in_ok-fault.ensures.told (owned c.args.sectors.now c.args.files.now) c.owners_of-owners.ensures,

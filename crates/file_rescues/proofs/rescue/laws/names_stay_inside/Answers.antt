@@ -4,6 +4,6 @@ use Rattle.file_rescues.proofs.rescue.laws.names_stay_inside.Goals as goal
 
 pub returns : goal.returns
 returns c = record {
-  inside = λ img directory files few. all-inside img directory files few;
-  once = λ img directory files few. all-once img directory files few;
+  inside = λ image img directory files few. all-inside image img directory files few;
+  once = λ image img directory files few. all-once image img directory files few;
 }

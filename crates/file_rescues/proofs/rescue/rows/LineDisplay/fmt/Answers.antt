@@ -1,8 +1,8 @@
--- The parts of a row.
+-- The parts of a line.
 use Rattle.std.proofs.Common.{refl}
 use Rattle.std.proofs.Output.{has_written_of_eq}
 use Rattle.file_rescues.specs.rescue.Index.{row_text}
-use Rattle.file_rescues.proofs.rescue.rows.RowDisplay.fmt.Goals as goal
+use Rattle.file_rescues.proofs.rescue.rows.LineDisplay.fmt.Goals as goal
 
 pub returns-clause-writes : goal.returns-clause-writes
 unfolding row_text

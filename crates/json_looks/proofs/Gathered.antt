@@ -1,0 +1,45 @@
+-- Objects that are gathered one by one.
+use Rattle.std.proofs.Common.{◌≡◌, ◌<◌, ◌+◌, ◌++◌, ◌∷◌, [], ℕ, suc, List, arith, get_or, length, map, take, ap, ap₂, subst, sym, ◌∙◌}
+use Rattle.std.proofs.lemmas.List.{append-nil, map-append, map_more}
+use Rattle.json_looks.specs.Objects.{up_to}
+use Rattle.serde_json.specs.Data.{Data}
+use Rattle.serde_json.specs.View.{view}
+use Rattle.serde_json.specs.declared.value.Value.{Value}
+
+-- one object more of these
+pub one-more : {A : Type 0} (f : A → Data) (xs : List A) (i : ℕ) (d : A) (old new : List Value) (value : Value)
+    → i < length xs → view value ≡ f (get_or xs i d) → new ≡ old ++ value ∷ [] → map view old ≡ map f (take i xs)
+    → map view new ≡ map f (take (i + 1) xs)
+one-more f xs i d old new value inside is more before =
+    ap (map view) more ∙ map-append view old (value ∷ [])
+    ∙ ap₂ (λ made one. made ++ one ∷ []) before is ∙ sym (map_more f xs i d inside)
+
+-- one object more
+pub one_added : (old new : List Value) (value : Value) (d : Data) → view value ≡ d → new ≡ old ++ value ∷ []
+    → map view new ≡ map view old ++ d ∷ []
+one_added old new value d is more =
+    ap (map view) more ∙ map-append view old (value ∷ []) ∙ ap (λ one. map view old ++ one ∷ []) is
+
+-- and none
+pub none_added : (old new : List Value) → new ≡ old → map view new ≡ map view old ++ []
+none_added old new same = ap (map view) same ∙ sym (append-nil (map view old))
+
+-- there are none for numbers up to 0
+pub none-yet : (each : ℕ → List Data) (values : List Value) → values ≡ [] → map view values ≡ up_to 0 each
+unfolding up_to
+none-yet each values none = ap (map view) none
+
+-- those for one number more
+pub next-more : (each : ℕ → List Data) (n : ℕ) (old new : List Value) → map view old ≡ up_to n each
+    → map view new ≡ map view old ++ each (n + 1) → map view new ≡ up_to (n + 1) each
+unfolding up_to
+next-more each n old new before more =
+    let next : n + 1 ≡ suc n = omega arith in
+    subst (λ (m : ℕ). map view new ≡ up_to m each) (sym next)
+    (more ∙ ap₂ ◌++◌ before (ap each next))
+
+-- the same of one object
+pub next-one : (each : ℕ → Data) (n : ℕ) (old new : List Value) (value : Value) → view value ≡ each (n + 1)
+    → new ≡ old ++ value ∷ [] → map view old ≡ up_to n (λ m. each m ∷ []) → map view new ≡ up_to (n + 1) (λ m. each m ∷ [])
+next-one each n old new value is more before =
+    next-more (λ m. each m ∷ []) n old new before (one_added old new value (each (n + 1)) is more)

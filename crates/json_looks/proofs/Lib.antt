@@ -1,0 +1,4 @@
+pub mod Depths
+pub mod Gathered
+pub mod Openings
+pub mod ShopDepths

@@ -1,0 +1,154 @@
+//! Faults that meet: what one command leaves that is killed does harm only if the next one is stopped, too.
+use crate::changes::see_refusal;
+use crate::counts::Event;
+use crate::judging::see_replies;
+use crate::runs::{Ended, Program};
+use crate::services::between;
+use crate::stops::{Stop, see};
+use crate::stories::Story;
+use crate::words::{DELETE_A, PLAY, PUT_A, SCRIPT, SERVE, SHOW, TITLE, TITLE_BACK, Words};
+use simulated_machine::{Counted, Plan, Strike};
+
+/// How often logs are stopped while they are made.
+const MAKINGS: usize = 6;
+
+/// The step of a `play` that syncs the image.
+const PLAYED: u64 = 2;
+
+/// The step of a change that syncs the folder when its log has got its name.
+const NAMED: u64 = 8;
+
+/// A run ends at this step, which isn't done.
+fn stop_at(step: u64) -> Plan {
+    Plan {
+        counted: Counted::Steps,
+        at: step,
+        what: Strike::Stops,
+        part: 0,
+    }
+}
+
+impl<P: Program> Story<'_, P> {
+    /// A run ends at this step, or at one of the next; so many may be drawn. It may be done.
+    fn stop_near(&mut self, step: u64, count: u64) -> Plan {
+        let mut plan = stop_at(step.saturating_add(self.random.below(count)));
+        plan.part = self.random.draw();
+        plan
+    }
+
+    /// Runs a command without lines.
+    fn run_alone(&mut self, words: Words, plan: Plan) -> Result<Ended, Stop> {
+        let input = self.machine.copy_of(b"")?;
+        self.run(words, input, 1, plan)
+    }
+
+    /// Runs a command that is killed.
+    fn kill_in(&mut self, words: Words, plan: Plan) -> Result<Ended, Stop> {
+        self.counts.add(Event::Kill, 1);
+        self.run_alone(words, plan)
+    }
+
+    /// Runs a command without lines. If it is stopped, power goes.
+    fn lose_in(&mut self, words: Words, plan: Plan) -> Result<(), Stop> {
+        let ended = self.run_alone(words, plan)?;
+        if ended.is_stopped {
+            self.lose_power()?;
+        }
+        Ok(())
+    }
+
+    /// A `play` is killed before the image is synced. Power goes in the next command that writes, when its log has got its name: the
+    /// image has to be on the disk by then.
+    fn play_and_log(&mut self, words: Words, plan: Plan) -> Result<(), Stop> {
+        self.look(&SERVE)?;
+        let lines = self.draw_lines()?;
+        let text = self.text_of(lines.as_slice())?;
+        self.machine.put_file(SCRIPT, text.as_slice())?;
+        let played = self.kill_in(&PLAY, stop_at(PLAYED))?;
+        let mut shop = self.shop;
+        let answered = see_replies(
+            self.alloc,
+            &mut shop,
+            lines.as_slice(),
+            played.out.as_slice(),
+        )?;
+        let ended = self.run_alone(words, plan)?;
+        if ended.is_stopped && self.has_log() {
+            self.lose_power()?;
+        }
+        self.look(&SERVE)?;
+        self.find(&shop, between(lines.as_slice(), answered, lines.len()))
+    }
+
+    /// A change that isn't refused, and leaves the shop.
+    fn draw_change(&mut self) -> Result<Words, Stop> {
+        let made = self.made(&PUT_A)?;
+        let is_refused = made.before.as_slice() == made.after.as_slice();
+        let words: Words = if is_refused { &DELETE_A } else { &PUT_A };
+        Ok(words)
+    }
+
+    /// A change is killed when its log has got its name. Power goes while the next command lands that log: the name has to be on the
+    /// disk by then.
+    fn change_and_land(&mut self) -> Result<(), Stop> {
+        self.look(&SERVE)?;
+        self.machine.put_file(SCRIPT, b"some bytes of a file\r")?;
+        let words = self.draw_change()?;
+        let made = self.made(words)?;
+        see_refusal(&made.ended)?;
+        self.kill_in(words, stop_at(NAMED))?;
+        let step = self.random.below(2).saturating_add(3);
+        self.lose_in(&SERVE, stop_at(step))?;
+        self.look(&SERVE)?;
+        self.see_half(&made, false)?;
+        self.see_shop(&SHOW, "a change of the disk changed the shop")
+    }
+
+    /// A service is killed when it has removed its log. The next command writes the image itself, and then power goes: the removal has
+    /// to be on the disk by then.
+    fn serve_and_play(&mut self) -> Result<(), Stop> {
+        self.look(&SERVE)?;
+        let lines = self.draw_lines()?;
+        let text = self.text_of(lines.as_slice())?;
+        // a hand syncs all, so it comes before the kill
+        self.machine.put_file(SCRIPT, text.as_slice())?;
+        let served = self.made(&SERVE)?;
+        self.kill_in(&SERVE, stop_at(served.steps))?;
+        let ended = self.run_alone(&PLAY, Plan::NONE)?;
+        self.judge(lines.as_slice(), lines.len(), &ended, false)?;
+        self.lose_power()?;
+        self.see_shop(&SHOW, "a log that was removed is back")
+    }
+
+    /// Power goes while a log is made, which leaves one in the making, and then while the next one gets its name.
+    fn make_again(&mut self) -> Result<(), Stop> {
+        for _ in 0..MAKINGS {
+            let step = self.random.below(2).saturating_add(4);
+            self.lose_in(&SERVE, stop_at(step))?;
+            let plan = self.stop_near(8, 2);
+            self.lose_in(&SERVE, plan)?;
+        }
+        let ended = self.look(&SERVE)?;
+        see(
+            ended.status == 0,
+            "after losses of power while logs were made no service begins",
+        )?;
+        self.see_shop(&SHOW, "a log that was made anew gives another shop")
+    }
+
+    /// Faults meet.
+    pub fn meet_faults(&mut self) -> Result<(), Stop> {
+        let plan = self.stop_near(7, 4);
+        self.play_and_log(&SERVE, plan)?;
+        let words: Words = if self.random.once_in(2) {
+            &TITLE
+        } else {
+            &TITLE_BACK
+        };
+        let plan = self.stop_near(6, 3);
+        self.play_and_log(words, plan)?;
+        self.change_and_land()?;
+        self.serve_and_play()?;
+        self.make_again()
+    }
+}
