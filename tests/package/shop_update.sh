@@ -1,7 +1,8 @@
 #!/bin/sh
 # An update of a shop by `dpkg --install` alone, under a systemd of its own:
 #   tests/package/shop_update.sh OLD.deb NEW.deb DEBIAN
-# OLD.deb is a package of an earlier version, as releases/ has them, NEW.deb what `./package` makes. DEBIAN is a folder that
+# OLD.deb is the package of 0.2.7 (`git show 3af897f62:releases/ledger-1541_0.2.7_amd64.deb`), whose shop lies in other folders than later
+# ones, NEW.deb what `./package` makes. DEBIAN is a folder that
 # debootstrap made, with systemd and the packages that shop/QUICK_START.md names. A copy of it is started as a container whose net is
 # its own loopback. In it tests/package/shop_update_inside.sh sets up a shop of the earlier version, sells, leaves a sale without its answer,
 # and installs the new package; then it looks whether everything is of the new version, and nothing is lost. It wants to be root, and
