@@ -5,8 +5,9 @@
 
 A step is a call that changes something, after a call of another kind: for example a sync of the folder after a file was renamed. The
 machine in memory can leave one out: it returns, and does nothing. For the program that is as if the line of the step stood in no source.
-The simulator plays the seeds 1, 2, ... until it finds something wrong. The status is 1 if a step of MUST isn't found, and if a step
-that isn't found has no reason in COVERED, which says why it does no harm to leave that step out alone."""
+The simulator plays the seeds 1, 2, ... until it finds something wrong; for a step of MUST up to four times as many, since which seed
+finds a step changes with each change of the program. The status is 1 if a step of MUST isn't found, and if a step that isn't found has
+no reason in COVERED, which says why it does no harm to leave that step out alone."""
 
 import re
 import sys
@@ -24,6 +25,8 @@ FOUND = re.compile(r"seed (\d+), step (\d+): (.*)")
 
 # what can't be left out: without a file there is nothing to go on with
 NO_STEPS = ("the beginning", "make a file")
+# how many times as many seeds are played for a step of MUST
+LONGER = 4
 # the steps that were found, each with the kind of call before it
 MUST = {
     ("sync the log", "the beginning"),
@@ -91,7 +94,8 @@ def main(given):
     steps = [it.groups() for it in map(ACT.fullmatch, listed.splitlines()) if it and it[2] not in NO_STEPS]
 
     def tried(step):
-        return step, FOUND.search(played(simulator, "--seed", 1, "--seeds", given.amount, "--without", step[0]).stdout)
+        seeds = given.amount * (LONGER if step[1:] in MUST else 1)
+        return step, FOUND.search(played(simulator, "--seed", 1, "--seeds", seeds, "--without", step[0]).stdout)
 
     right = wrong = 0
     with ThreadPoolExecutor(len(sched_getaffinity(0))) as pool:
