@@ -150,7 +150,7 @@ def see_poster(name, program, path, image, verdict, folder, browser, compare):
 # of a small drawing the widest stroke's middle, and how many pixels a unit of it has in a browser's picture
 STROKE, SMALL = 0.4, 16
 # the shades of a contact sheet, as specs/Sheets.antt names them
-SHEET_SYSTEM = [(0xD4, 0, 0), (0x16, 0x16, 0x16), (0x5E, 0x5E, 0x5E), (0xE8, 0xE4, 0xD9), (0x7B, 0x75, 0x67)]
+SHEET_SYSTEM = [(0xD4, 0, 0), (0x16, 0x16, 0x16), (0x5E, 0x5E, 0x5E), (0xE8, 0xE4, 0xD9), (0x98, 0x98, 0xAA)]
 MOST_SMALL, MOST_SECONDS = 12_000, 1.0
 
 
