@@ -12,6 +12,8 @@ from pathlib import Path
 
 TOP = Path(__file__).resolve().parent.parent
 PROGRAM = "ledger_cli"
+# what the kit has of its own, without a notice: the standard library, and the reader of JSON below serde_json
+OF_THE_KIT = ("core", "json", "std")
 # the file of a crate that has its notice: the first of these that is there
 NOTICES = ("LICENSE-MIT", "LICENSE")
 OURS = """Format: https://www.debian.org/doc/packaging-manuals/copyright-format/1.0/
@@ -55,10 +57,12 @@ def stood_on(kit, names):
         if name in found:
             continue
         found.add(name)
+        if name in OF_THE_KIT:
+            continue
         for file in (kit / name / "src").rglob("*.rt"):
             used = re.findall(r"^\s*(?:pub )?use (\w+)::", file.read_text(encoding="utf-8"), re.M)
-            waiting += [it for it in used if it != "std" and (kit / it / "src").is_dir()]
-    return sorted(found)
+            waiting += [it for it in used if (kit / it / "src").is_dir()]
+    return sorted(found - {*OF_THE_KIT})
 
 
 def notice(kit, name):
