@@ -21,10 +21,13 @@ extent_of looks.Map = Whole
 extent_of looks.Picture = Whole
 extent_of _ = FirstTracks
 
--- which images are shown as an object: as the look's, and where they may be longer, their first 35 tracks
+-- which images are shown as an object: as the look's, and where they may be longer, their first 35 tracks, but a check and a map of the whole
+-- image
 abbrev pub object_extent : ImageObject → Extent
+object_extent (objects.Check as_is) = if as_is then Whole else Disk
 object_extent (objects.List as_is) = if as_is then FirstTracks else Disk
 object_extent objects.Free = FirstTracks
+object_extent objects.Map = Whole
 object_extent (objects.Show loss as_is) = if as_is then FirstTracks else Disk
 
 -- and which are described

@@ -13,7 +13,7 @@ use Rattle.opened_files.specs.Names.{IsNameOf, name_bytes}
 use Rattle.ledger_cli.specs.declared.faults.JobFault.{JobFault}
 use Rattle.ledger_cli.specs.Numbers.{tills_in, length_in, place_in}
 use Rattle.ledger_cli.specs.Forms.{AreColumns, choice_in, effect_in, loss_in, unowned_in}
-use Rattle.ledger_cli.specs.Images.{AreCompared, AreDescribed, AreImages, AreOnSheet, ArePlanned, AreShown, IsNoPicture}
+use Rattle.ledger_cli.specs.Images.{AreCompared, AreImages, AreOnSheet, ArePlanned, AreShown, AreTabled, IsNoPicture}
 use Rattle.ledger_cli.specs.Looks.{IsAlone, IsAskedBy, IsObjectAsked, object_word, word_of}
 use Rattle.ledger_cli.specs.Names.{HasNoName, HasNoNewName, HasName, HasNewName, IsIdOf, HasNoId, HasNoFileCopying, HasNoRenaming, copy_name, entry_type_in, type_in}
 use Rattle.ledger_cli.specs.Flags.{is_given}
@@ -96,8 +96,7 @@ IsJob found (jobs.FormatNew image tills) = Has found (codes "format")
     × (is_given (codes "new") rows ≡ true))
 IsJob found (jobs.Look image what) = Has found (word_of what)
     (λ rows. (image.now ≡ value (codes "IMAGE") rows) × IsAlone what rows × IsAskedBy what rows)
-IsJob found (jobs.Describe (forms.Described form) images) = Has found (codes "check")
-    (λ rows. AreDescribed rows form (vec_items images))
+IsJob found (jobs.Describe forms.Table images) = Has found (codes "check") (λ rows. AreTabled rows (vec_items images))
 IsJob found (jobs.Describe (forms.Planned form) images) = Has found (codes "plan")
     (λ rows. ArePlanned rows form (vec_items images))
 IsJob found (jobs.Describe (forms.Shown object) images) = Has found (object_word object)

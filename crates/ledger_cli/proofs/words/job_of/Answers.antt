@@ -280,8 +280,9 @@ returns-in-title c =
 
 pub returns-in-map : goal.returns-in-map
 returns-in-map c =
-    let met = viewing-met c.parsed_subcommand.result _ c.in-Some.name c.in-Some.found looks.Map c.viewing.result
-    c.parsed_subcommand.ensures c.in-Some.is c.in-map.is tt tt c.viewing.ensures in
+    let met = showing-met c.parsed_subcommand.result _ c.in-Some.name c.in-Some.found looks.Map objects.Map
+    c.showing-in-map.result c.parsed_subcommand.ensures c.in-Some.is c.in-map.is (λ plain. (refl, tt, plain)) tt
+    c.showing-in-map.ensures in
     record { job = met.0; fit = met.1 }
 
 pub returns-in-picture : goal.returns-in-picture
