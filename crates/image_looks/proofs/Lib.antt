@@ -4,3 +4,4 @@ pub mod Listed
 pub mod Looked
 pub mod NewFolders
 pub mod Reported
+pub mod Shown

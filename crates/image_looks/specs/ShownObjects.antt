@@ -1,5 +1,5 @@
 -- What comes of showing an image as an object of JSON. All of it is our own.
-use Rattle.std.specs.Prelude.{◌≡◌, ◌≢◌, ◌×◌, ◌⊎◌, ℕ, Bool, IsFalse, List, Option, Result, Ok, Err, if◌then◌else◌, length}
+use Rattle.std.specs.Prelude.{◌≡◌, ◌≢◌, ◌⊎◌, ℕ, Bool, IsFalse, List, Option, Result, Ok, Err, if◌then◌else◌, length}
 use Rattle.command_faults.specs.declared.faults.CommandFault.{CommandFault}
 use Rattle.command_faults.specs.declared.faults.CommandFault.TheVariants as faults
 use Rattle.damaged_files.specs.reached.Sizes.{disk_of}
@@ -23,7 +23,7 @@ abbrev pub status_if : (whole : Bool) → ℕ
 status_if whole = if whole then 0 else 1
 
 -- the exit status of a look that finds no faults, and of one that says whether the image is whole; or why there is none
-abbrev pub status_by : Result Unit CommandFault → Result ℕ CommandFault
+abbrev pub status_by : {T : Type 0} → Result T CommandFault → Result ℕ CommandFault
 status_by (Ok _) = Ok 0
 status_by (Err fault) = Err fault
 

@@ -1,5 +1,5 @@
 //! What is shown of an image as an object of JSON.
-ghost use Rattle.std.specs.Prelude.{◌≡◌, ◌≢◌, ◌×◌, IfErr, IfOk, OnOk};
+ghost use Rattle.std.specs.Prelude.{◌≡◌, ◌≢◌, IfErr, IfOk, OnOk};
 ghost use Rattle.command_faults.specs.declared.faults.CommandFault.TheVariants as faults;
 ghost use Rattle.image_looks.specs.EachImage.{IsCutOff};
 ghost use Rattle.image_looks.specs.Extents.{object_extent};

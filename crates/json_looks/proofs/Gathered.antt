@@ -83,3 +83,8 @@ next-part part form xs i d old new inside more before =
     more ∙ ap₂ (λ made next. made ++ next) before (sym (single part (form (get_or xs i d))))
     ∙ sym (flat_map-append part (map form (take i xs)) (form (get_or xs i d) ∷ []))
     ∙ ap (flat_map part) (sym (map_more form xs i d inside))
+
+-- the objects of these, as they are held in another form
+pub map-twice : {A B C : Type 0} (f : B → C) (g : A → B) (xs : List A) → map f (map g xs) ≡ map (λ x. f (g x)) xs
+map-twice f g [] = refl
+map-twice f g (x ∷ xs) = ap (λ rest. f (g x) ∷ rest) (map-twice f g xs)

@@ -1,5 +1,5 @@
 -- What a check finds of an image as an object of JSON. What its members are called is our own.
-use Rattle.std.specs.Prelude.{◌≡◌, ◌×◌, ◌↔◌, ⊥, ℕ, Bool, IsTrue, List, [], ◌∷◌, None, Option, Some, codes, length, map, option_map, slice_range}
+use Rattle.std.specs.Prelude.{◌≡◌, ◌↔◌, ℕ, Bool, IsTrue, List, [], ◌∷◌, None, Option, Some, Result, Ok, Err, codes, length, map, option_map, slice_range}
 use Rattle.d64_image.specs.Images.{Sector}
 use Rattle.d64_image.specs.Memory.{sectors_in}
 use Rattle.d64_image.specs.declared.place.Place.{Place}
@@ -14,9 +14,11 @@ use Rattle.disk_layout.specs.Texts.{place_text}
 use Rattle.disk_layout.specs.View.{blocks_free}
 use Rattle.disk_layout.specs.declared.faults.Fault.{Fault}
 use Rattle.disk_layout.specs.declared.slot.Slot.{Slot}
+use Rattle.disk_pictures.specs.Held.{drawn_in}
 use Rattle.disk_pictures.specs.Missing.{IsDrawnOf}
 use Rattle.disk_pictures.specs.Outcomes.{map_in}
 use Rattle.disk_pictures.specs.Trims.{IsAllThere}
+use Rattle.disk_pictures.specs.declared.drawing.Drawing.{Drawing}
 use Rattle.disk_reports.specs.Outcomes.{AreFound}
 use Rattle.command_faults.specs.declared.faults.CommandFault.{CommandFault}
 use Rattle.command_faults.specs.declared.faults.CommandFault.TheVariants as faults
@@ -25,7 +27,8 @@ use Rattle.json_looks.specs.Entries.{count_if, typed}
 use Rattle.json_looks.specs.Missing.{beyond_items, error_items, string_if}
 use Rattle.json_looks.specs.Objects.{IsObjectPrinted, count}
 use Rattle.json_looks.specs.Verdicts.{found_place, found_text}
-use Rattle.serde_json.specs.Data.{Data, array, member, no_members, null, object, string}
+use Rattle.line_text.specs.bytes.Texts.{text_of}
+use Rattle.serde_json.specs.Data.{Data, Members, array, member, no_members, null, object, string}
 use Rattle.serde_json.specs.View.{items_of}
 use Rattle.sha1.specs.Sha1.{sha1}
 use Rattle.sha2.specs.Sha256.{sha256}
@@ -39,25 +42,38 @@ abbrev pub fewer_end : Option Shortfall → Option Place
 fewer_end (Some (lacks.Fewer p)) = Some p
 fewer_end _ = None
 
+-- the members of a check from `name` on
+abbrev pub late_with : (name sha1 sha256 verdict : List ℕ) → (size : ℕ) → Option Place → (short : Data) → Members
+late_with name sha1 sha256 verdict size place short =
+    member (codes "name") (string name)
+    (member (codes "sector") (count_if (option_map (λ p. p.sector) place))
+    (member (codes "sha1") (string sha1)
+    (member (codes "sha256") (string sha256)
+    (member (codes "short") short
+    (member (codes "size") (count size)
+    (member (codes "track") (count_if (option_map (λ p. p.track) place))
+    (member (codes "verdict") (string verdict) no_members)))))))
+
+-- the object of a check with these members: places past track 35, the disk's name, sectors that weren't read, where a file has fewer
+-- blocks, names of files, free blocks, the disk's ID, and those
+abbrev pub early_with : (disk id : List ℕ) → (free : ℕ) → (beyond errors names : List Data) → (fewer : Data) → (late : Members) → Data
+early_with disk id free beyond errors names fewer late =
+    object (member (codes "beyond") (array (items_of beyond))
+    (member (codes "disk") (string disk)
+    (member (codes "errors") (array (items_of errors))
+    (member (codes "fewer") fewer
+    (member (codes "files") (array (items_of names))
+    (member (codes "free") (count free)
+    (member (codes "id") (string id) late)))))))
+
 -- an image of this name of which a check finds this, with the files that this concerns, the bytes of 18/0, what the files lack, and
 -- what is drawn of it
 abbrev pub check_data : (name image : List ℕ) → Option Fault → List Slot → Sector → Option Shortfall → Option Layout → Data
 check_data name image found files bytes lack drawn =
-    object (member (codes "beyond") (array (items_of (beyond_items image drawn)))
-    (member (codes "disk") (typed (disk_name bytes))
-    (member (codes "errors") (array (items_of (error_items image drawn)))
-    (member (codes "fewer") (string_if (option_map place_text (fewer_end lack)))
-    (member (codes "files") (array (items_of (map (λ s. typed (name_of s)) files)))
-    (member (codes "free") (count (blocks_free bytes))
-    (member (codes "id") (typed (slice_range bytes 162 164))
-    (member (codes "name") (string name)
-    (member (codes "sector") (count_if (option_map (λ p. p.sector) (found_place found)))
-    (member (codes "sha1") (string (encode_lower (sha1 image)))
-    (member (codes "sha256") (string (encode_lower (sha256 image)))
-    (member (codes "short") (string_if (option_map place_text (short_end lack)))
-    (member (codes "size") (count (length image))
-    (member (codes "track") (count_if (option_map (λ p. p.track) (found_place found)))
-    (member (codes "verdict") (string (found_text found)) no_members))))))))))))))
+    early_with (text_of (disk_name bytes)) (text_of (slice_range bytes 162 164)) (blocks_free bytes) (beyond_items image drawn)
+    (error_items image drawn) (map (λ s. typed (name_of s)) files) (string_if (option_map place_text (fewer_end lack)))
+    (late_with name (encode_lower (sha1 image)) (encode_lower (sha256 image)) (found_text found) (length image) (found_place found)
+    (string_if (option_map place_text (short_end lack))))
 
 -- an image of this name and this size, if it is known, that is refused for this reason
 abbrev pub unchecked_data : (name : List ℕ) → (size : Option ℕ) → (why : List ℕ) → Data
@@ -76,7 +92,12 @@ unchecked_data name size why =
     (member (codes "short") null
     (member (codes "size") (count_if size)
     (member (codes "track") null
-    (member (codes "verdict") (string why) no_members))))))))))))))
+    (member (codes "verdict") (string why) no_members)))))))))))))))
+
+-- what is drawn as the code holds it, unless the directory has a fault
+abbrev pub drawn_if : Result Drawing Fault → Option Layout
+drawn_if (Ok drawing) = Some (drawn_in drawing)
+drawn_if (Err fault) = None
 
 -- all is there that the image says of itself; which isn't known where nothing is drawn
 abbrev pub IsAllDrawn : (image : List ℕ) → Option Layout → Type 0

@@ -1,11 +1,12 @@
 -- Which sector of an image is whose, as an object of JSON. What its members are called is our own.
-use Rattle.std.specs.Prelude.{◌≡◌, ◌×◌, ◌↔◌, ℕ, Bool, IsTrue, List, None, Option, Some, codes, flat_map, if◌then◌else◌, map, option_map}
+use Rattle.std.specs.Prelude.{◌≡◌, ◌↔◌, ℕ, Bool, IsTrue, List, None, Option, Some, codes, flat_map, if◌then◌else◌, map, option_map}
 use Rattle.d64_image.specs.Images.{Sector}
 use Rattle.d64_image.specs.Places.{places}
 use Rattle.d64_image.specs.declared.place.Place.{Place}
 use Rattle.damaged_files.specs.reached.Sizes.{disk_of, error_of}
 use Rattle.disk_layout.specs.Layout.{Layout}
 use Rattle.disk_layout.specs.Texts.{place_text}
+use Rattle.disk_layout.specs.declared.faults.Fault.{Fault}
 use Rattle.disk_pictures.specs.Drawings.{owner_of}
 use Rattle.disk_pictures.specs.Outcomes.{IsDrawnAndJudged, map_in}
 use Rattle.disk_pictures.specs.Texts.{is_free}
@@ -44,18 +45,24 @@ sector_data image bytes l p =
     (member (codes "sector") (count p.sector)
     (member (codes "track") (count p.track) no_members)))))
 
+-- an image of this name with these places past track 35, entries and sectors, where a file is cut short, and what a check finds
+abbrev pub map_with : (name : List ℕ) → (beyond files sectors : List Data) → (short : Data) → Option Fault → Data
+map_with name beyond files sectors short found =
+    object (member (codes "beyond") (array (items_of beyond))
+    (member (codes "files") (array (items_of files))
+    (member (codes "name") (string name)
+    (member (codes "refused") null
+    (member (codes "sector") (count_if (option_map (λ p. p.sector) (found_place found)))
+    (member (codes "sectors") (array (items_of sectors))
+    (member (codes "short") short
+    (member (codes "track") (count_if (option_map (λ p. p.track) (found_place found)))
+    (member (codes "verdict") (string (found_text found)) no_members)))))))))
+
 -- an image of this name with this drawn, and this reported by a check
 abbrev pub map_data : (name image : List ℕ) → Verdict → Sector → Layout → Data
 map_data name image v bytes l =
-    object (member (codes "beyond") (array (items_of (flat_map (past_items image) l.files)))
-    (member (codes "files") (array (items_of (map (λ f. entry_data f.slot) l.files)))
-    (member (codes "name") (string name)
-    (member (codes "refused") null
-    (member (codes "sector") (count_if (option_map (λ p. p.sector) (found_place v.found)))
-    (member (codes "sectors") (array (items_of (map (sector_data image bytes l) places)))
-    (member (codes "short") (string_if (option_map place_text v.cut))
-    (member (codes "track") (count_if (option_map (λ p. p.track) (found_place v.found)))
-    (member (codes "verdict") (string (found_text v.found)) no_members)))))))))
+    map_with name (flat_map (past_items image) l.files) (map (λ f. entry_data f.slot) l.files) (map (sector_data image bytes l) places)
+    (string_if (option_map place_text v.cut)) v.found
 
 -- an image was printed as such an object, and this says whether a check finds no fault of its disk, and all is there that the image
 -- says of itself

@@ -39,7 +39,7 @@ pub(crate) fn error_value(alloc: Global, error: Option<u8>) -> Result<Value, All
 
 /// The name of the entry that has a sector, as it can be typed; null if none has it.
 fn name_value(alloc: Global, entry: Option<&Slot>) -> Result<Value, AllocError>
-    ensures { IfOk result (λ value. view value ≡ string_if (option_map (λ slot. text_of (name_of slot.now)) entry)) }
+    ensures { IfOk result (λ value. view value ≡ string_if (option_map (λ slot. text_of (name_of slot.now)) entry.entry)) }
 {
     match entry {
         Some(slot) => Ok(Value::String(typed_name(alloc, slot)?)),
@@ -47,7 +47,27 @@ fn name_value(alloc: Global, entry: Option<&Slot>) -> Result<Value, AllocError>
     }
 }
 
-/// Adds the object of a sector that wasn't read: the error, the file that has it, and where it is. None if it was read.
+/// The object of a sector that wasn't read: the error, the file that has it, and where it is.
+fn error_object(
+    alloc: Global,
+    place: Place,
+    entry: Option<&Slot>,
+    error: u8,
+) -> Result<Value, AllocError>
+    ensures { IfOk result (λ value. view value ∷ []
+        ≡ error_item place (option_map (λ slot. slot.now) entry.entry) (Some error)) }
+{
+    let name = name_value(alloc, entry)?;
+    let number = error_text(alloc, error)?;
+    json!(in alloc; {
+        "track": place.track(),
+        "sector": place.sector(),
+        "name": name,
+        "error": number
+    })
+}
+
+/// Adds the object of a sector, if it wasn't read.
 fn add_error(
     alloc: Global,
     place: Place,
@@ -56,19 +76,12 @@ fn add_error(
     values: &mut Vec<Value>,
 ) -> Result<(), AllocError>
     ensures { OnOk result (map view values.new.items
-        ≡ map view values.old.items ++ error_item place (option_map (λ slot. slot.now) entry) error) }
+        ≡ map view values.old.items ++ error_item place (option_map (λ slot. slot.now) entry.entry) error) }
 {
-    if error.is_none() {
-        return Ok(());
+    if let Some(error) = error {
+        values.push(error_object(alloc, place, entry, error)?)?;
     }
-    let (number, name) = (error_value(alloc, error)?, name_value(alloc, entry)?);
-    let value = json!(in alloc; {
-        "error": number,
-        "name": name,
-        "sector": place.sector(),
-        "track": place.track()
-    })?;
-    values.push(value)
+    Ok(())
 }
 
 /// The objects of the sectors of tracks 1 to 35 that weren't read, in the order of an image, each with the first entry that has it if
@@ -79,7 +92,7 @@ pub(crate) fn error_values(
     drawing: Option<&Drawing>,
 ) -> Result<Vec<Value>, AllocError>
     ensures { IfOk result (λ values. map view values.items
-        ≡ error_items image.now (option_map (λ drawn. drawn_in drawn.now) drawing)) }
+        ≡ error_items image.now (option_map (λ drawn. drawn_in drawn.now) drawing.entry)) }
 {
     let mut values = Vec::new(alloc);
     for index in 0..SECTORS {

@@ -6,18 +6,18 @@ ghost use Rattle.damaged_files.specs.reached.Sizes.{disk_of};
 ghost use Rattle.disk_pictures.specs.Held.{drawn_in};
 ghost use Rattle.disk_pictures.specs.Outcomes.{IsPictureFault};
 ghost use Rattle.json_looks.specs.Entries.{entry_data};
-ghost use Rattle.json_looks.specs.SectorMaps.{IsMapShown, file_number, kind_of, map_data, sector_data};
+ghost use Rattle.json_looks.specs.SectorMaps.{IsMapShown, file_number, kind_of, map_data, map_with, sector_data};
 ghost use Rattle.serde_json.specs.View.{view};
 
 use crate::entries::entry_value;
 use crate::missing::{error_value, past_values};
 use crate::printing::print_object;
-use crate::verdicts::{place_found, place_value, sector_if, track_if, verdict_text};
+use crate::verdicts::{is_whole, place_found, place_value, sector_if, track_if, verdict_text};
 use command_faults::CommandFault;
 use d64_image::{Place, SECTORS};
 use damaged_files::{disk_in, error_at};
-use disk_layout::BamView;
-use disk_pictures::{Drawing, DrawnFile, Owner, Verdict, is_all_there, judged};
+use disk_layout::{BamView, Fault};
+use disk_pictures::{Drawing, DrawnFile, Owner, Verdict, judged};
 use serde_json::{Value, json};
 use std::alloc::{AllocError, Global};
 use std::io::Write;
@@ -89,6 +89,34 @@ fn file_values(alloc: Global, files: &[DrawnFile]) -> Result<Vec<Value>, AllocEr
     Ok(values)
 }
 
+/// The object of an image with these places past track 35, entries and sectors, where a file is cut short, and what a check finds.
+fn map_of(
+    alloc: Global,
+    name: &str,
+    beyond: Vec<Value>,
+    files: Vec<Value>,
+    sectors: Vec<Value>,
+    short: Value,
+    found: Option<Fault>,
+) -> Result<Value, AllocError>
+    ensures { IfOk result (λ value. view value ≡ map_with name.now (map view beyond.items) (map view files.items)
+        (map view sectors.items) (view short) found) }
+{
+    let verdict = verdict_text(alloc, found)?;
+    let place = place_found(found);
+    json!(in alloc; {
+        "verdict": verdict,
+        "track": track_if(place),
+        "short": short,
+        "sectors": sectors,
+        "sector": sector_if(place),
+        "refused": null,
+        "name": name,
+        "files": files,
+        "beyond": beyond
+    })
+}
+
 /// The object of an image with this drawn, and this reported by a check.
 fn map_value(
     alloc: Global,
@@ -104,19 +132,7 @@ fn map_value(
     let files = file_values(alloc, drawing.files.as_slice())?;
     let sectors = sector_values(alloc, image, drawing)?;
     let short = place_value(alloc, verdict.cut)?;
-    let found = verdict_text(alloc, verdict.found)?;
-    let place = place_found(verdict.found);
-    json!(in alloc; {
-        "beyond": beyond,
-        "files": files,
-        "name": name,
-        "refused": null,
-        "sector": sector_if(place),
-        "sectors": sectors,
-        "short": short,
-        "track": track_if(place),
-        "verdict": found
-    })
+    map_of(alloc, name, beyond, files, sectors, short, verdict.found)
 }
 
 /// Prints whose each sector of an image of this name is, as an object of JSON in a line: the 683 sectors of tracks 1 to 35 in their
@@ -142,5 +158,5 @@ pub fn map_object<W: Write>(
         return Err(CommandFault::NoMemory);
     };
     print_object(alloc, &value, out)?;
-    Ok(verdict.found.is_none() && is_all_there(image, &drawing))
+    Ok(is_whole(image, verdict.found, &drawing))
 }
