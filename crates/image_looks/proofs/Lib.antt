@@ -4,4 +4,3 @@ pub mod Listed
 pub mod Looked
 pub mod NewFolders
 pub mod Reported
-pub mod Shown

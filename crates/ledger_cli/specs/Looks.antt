@@ -101,7 +101,6 @@ IsAskedBy (looks.Bytes (files.Bytes form) candidates name) rows = IsNameOf (valu
     × (form ≡ byte_form_in rows) × (candidates ≡ candidates_in rows)
 IsAskedBy (looks.Bytes files.Listing candidates name) rows = IsNameOf (value (codes "NAME") rows) (name_bytes name)
     × (candidates ≡ candidates_in rows)
-IsAskedBy _ rows = ⊤
 
 -- the subcommand that shows images as this object
 abbrev pub object_word : ImageObject → Text

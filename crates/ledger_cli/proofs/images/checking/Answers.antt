@@ -46,10 +46,10 @@ returns-then-is_given c =
 pub returns-then-is_given-2 : goal.returns-then-is_given-2
 returns-then-is_given-2 c =
     let rows = rows_of (found_of c.args.matches.now) in
-    tabled-met rows c.in-Some.images.now c.described-2.result (sym c.is_given.ensures ∙ c.if-is_given.false)
+    tabled-met rows c.in-Some.images.now c.described-then-is_given-2.result (sym c.is_given.ensures ∙ c.if-is_given.false)
     (sym c.is_given-2.ensures ∙ c.if-is_given-2.true)
     (given-values c.values_of.result c.in-Some.images (all_of (codes "IMAGE") rows) c.in-Some.is c.values_of.ensures)
-    c.described-2.ensures
+    c.described-then-is_given-2.ensures
 
 pub returns : goal.returns
 returns c = inl (
