@@ -2,7 +2,7 @@
 use Rattle.std.specs.Prelude.{◌≡◌, ◌<◌, List, None, Option, Some, codes, false, if◌then◌else◌, length, true, ⊤}
 use Rattle.clap.specs.Words.{Row, Text}
 use Rattle.command_table.specs.Grammar.{value, values}
-use Rattle.opened_files.specs.Names.{IsNameOf, name_bytes}
+use Rattle.file_changes.specs.Names.{IsNameOf, name_bytes}
 use Rattle.disk_reports.specs.declared.describing.DescriptionForm.{DescriptionForm}
 use Rattle.disk_reports.specs.declared.describing.DescriptionForm.TheVariants as forms
 use Rattle.disk_reports.specs.declared.plans.PlanForm.{PlanForm}

@@ -73,9 +73,10 @@ where
         } => do_extracting(rt, choice, image, folder, out),
         Job::Change {
             image,
-            ref edit,
             effect,
-        } => do_edit(rt, image, edit, effect, out),
+            loss,
+            ref kind,
+        } => do_edit(rt, image, kind, loss, effect, out),
         Job::Trim { .. } => Err(CommandFault::File),
         Job::Compare { before, after } => do_comparing(rt, before, after, out),
         Job::Sheet { ref images } => do_sheet(rt, images.as_slice(), out),

@@ -3,7 +3,7 @@ use Rattle.std.proofs.Common.{◌≡◌, ◌≤◌, ◌-◌, ◌<◌, ◌∙◌,
 use Rattle.std.specs.Prelude.{slice_get}
 use Rattle.line_text.proofs.lemmas.bytes.Texts.{one-text}
 use Rattle.line_text.specs.bytes.Texts.{text_of}
-use Rattle.opened_files.specs.Names.{IsNameOf}
+use Rattle.file_changes.specs.Names.{IsNameOf}
 
 -- a text has the bytes that were found alone, and these are too many
 pub too-long : (text found bytes : List ℕ) → text ≡ text_of found → 16 < length found → IsNameOf text bytes → ⊥

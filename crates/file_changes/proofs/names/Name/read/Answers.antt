@@ -1,12 +1,12 @@
 -- The bytes that have the text are too many, or end in a shifted space.
 use Rattle.std.proofs.Common.{◌≡◌, ◌<◌, ◌∙◌, ◌-◌, Some, arith, length, slice_get, subst, sym}
 use Rattle.line_text.specs.bytes.Texts.{text_of}
-use Rattle.opened_files.proofs.Named.{ends-in-space, too-long}
-use Rattle.opened_files.proofs.names.Name.read.Goals.{then-len-gt-NAME_BYTES-via-then-len-gt-NAME_BYTES}
-use Rattle.opened_files.proofs.names.Name.read.Goals.{
+use Rattle.file_changes.proofs.Named.{ends-in-space, too-long}
+use Rattle.file_changes.proofs.names.Name.read.Goals.{then-len-gt-NAME_BYTES-via-then-len-gt-NAME_BYTES}
+use Rattle.file_changes.proofs.names.Name.read.Goals.{
   then-len-gt-NAME_BYTES-via-else-len-gt-NAME_BYTES+then-ends_in_space,
 }
-use Rattle.opened_files.proofs.names.Name.read.Goals as goal
+use Rattle.file_changes.proofs.names.Name.read.Goals as goal
 
 pub returns-then-len-gt-NAME_BYTES-clause-none : goal.returns-then-len-gt-NAME_BYTES-clause-none
 returns-then-len-gt-NAME_BYTES-clause-none c =

@@ -2,10 +2,10 @@
 ghost use Rattle.std.specs.Prelude.{◌≡◌, ◌-◌, ◌↔◌, ℕ, List, IfSome, IsNone, IsTrue, Some, length, slice_get};
 ghost use Rattle.line_text.specs.bytes.Texts.{AreBytes};
 ghost use Rattle.file_changes.specs.NewNames.{IsNewName};
-ghost use Rattle.opened_files.specs.Names.{IsNameOf, name_bytes};
+ghost use Rattle.file_changes.specs.Names.{IsNameOf, name_bytes};
 
+use crate::new_names::is_new_name;
 use arrayvec::ArrayVec;
-use file_changes::is_new_name;
 use line_text::read_text;
 
 /// How many bytes a name has at most.

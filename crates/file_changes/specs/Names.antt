@@ -1,7 +1,7 @@
 -- Names of files, as they are typed. Our own.
 use Rattle.std.specs.Prelude.{◌≡◌, ◌≢◌, ◌≤◌, ◌-◌, ℕ, List, Some, length, slice_get}
 use Rattle.line_text.specs.bytes.Texts.{text_of}
-use Rattle.opened_files.specs.declared.names.Name.{Name}
+use Rattle.file_changes.specs.declared.names.Name.{Name}
 
 -- the bytes of a name
 abbrev pub name_bytes : Name → List ℕ

@@ -2,7 +2,7 @@
 use Rattle.image_edits.proofs.EditRead.{image-read, read-of, unread-unbegun}
 use Rattle.image_edits.proofs.Held.{read-held}
 use Rattle.image_edits.specs.Columns.{text_in}
-use Rattle.image_edits.proofs.edits.text_for.Goals as goal
+use Rattle.image_edits.proofs.edits.source_for.Goals as goal
 
 pub returns-in-Put : goal.returns-in-Put
 returns-in-Put g c = record {

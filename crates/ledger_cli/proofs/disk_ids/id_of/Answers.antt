@@ -1,7 +1,7 @@
 -- The bytes that have the text aren't two, and no others have it.
 use Rattle.std.proofs.Common.{◌≡◌, ◌∙◌, ap, arith, length, sym}
 use Rattle.line_text.proofs.lemmas.bytes.Texts.{one-text}
-use Rattle.ledger_cli.proofs.names.id_of.Goals as goal
+use Rattle.ledger_cli.proofs.disk_ids.id_of.Goals as goal
 
 pub returns-then-len-ne2-clause-none : goal.returns-then-len-ne2-clause-none
 returns-then-len-ne2-clause-none c = λ was bytes are id.
