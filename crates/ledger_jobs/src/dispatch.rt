@@ -29,7 +29,7 @@ use std::io::Read;
 /// `InUse` if another program has the image; `Log` if its log gives no image; `LogAway` if that has the rest of a shop and
 /// isn't there, and the job shows, plays, serves or changes an image and accepts no loss; `File` if a file couldn't be opened
 /// or read, `NotReady` if input that is read whole is set not to wait. The other faults are those of `look`, `dry_run`,
-/// `do_format`, `make_image`, `play_durably`, `play_logged`, `serve_logged_guarded`, `salvage`,
+/// `do_format`, `make_image`, `play_durably`, `play_logged`, `serve_logged`, `salvage`,
 /// `change_image`, `show_change`, `extract_run` and `comparing_run`.
 /// `Trim` ends with `File`, since it reports on standard error: call `do_trim`. What is wrong with one of several images is
 /// printed; only a failed output ends the job before the last of them.
