@@ -33,6 +33,6 @@ pub use sheets::sheet_printing::{
     MOST_TILES, sheet_begin, sheet_finish, sheet_refusal, sheet_tile,
 };
 pub use views::free_printing::free_image;
-pub use views::missing::missing_lines;
+pub use views::missing::{error_lines, missing_lines};
 pub use views::sector_printing::sector_image;
 pub use views::trimming::trim_image;

@@ -74,7 +74,7 @@ impl Look {
     {
         match self {
             Look::List(_) | Look::Check | Look::Faults | Look::Show(_) => Extent::Disk,
-            Look::AsIs(_) | Look::Map | Look::Picture => Extent::Whole,
+            Look::AsIs(_) | Look::Map | Look::Picture | Look::Bytes { .. } => Extent::Whole,
             _ => Extent::FirstTracks,
         }
     }

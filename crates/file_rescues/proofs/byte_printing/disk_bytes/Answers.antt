@@ -15,7 +15,7 @@ use Rattle.file_rescues.specs.Bytes.{file_bytes}
 use Rattle.file_rescues.specs.Forms.{HasForm, file_as, past_end}
 use Rattle.file_rescues.specs.Printed.{AreBytesPrinted}
 use Rattle.file_rescues.specs.declared.finding.Kind.TheVariants.{Any}
-use Rattle.file_rescues.proofs.byte_printing.bytes_image.Goals as goal
+use Rattle.file_rescues.proofs.byte_printing.disk_bytes.Goals as goal
 
 pub returns-in_err-listed : goal.returns-in_err-listed
 returns-in_err-listed g c =
@@ -28,11 +28,11 @@ returns-in_err-listed g c =
           c.print_file.new.out) c.args.out.now c.print_file.new.out c.in-Ok.file.fault
           (file-there c.args.image.now (Any c.args.candidates) c.args.name.now (disk_image c.in_ok-disk.disk)
           c.in-Ok.file.number c.in-Ok.file.slot c.find_file.new.blocks.items c.in-Ok.file.last c.in-Ok.file.fault loaded.0
-          loaded.1 c.in-Ok.ensures.ok) _ c.in_err-listed.ensures.err));
+          loaded.1 c.in-Ok.ensures.ok.0) _ c.in_err-listed.ensures.err));
       part = rw (p.1 ∙ ap Err p.2) (bytes-part g.W.Write.contents c.args.form c.args.candidates c.args.image.now
           c.args.name.now c.args.out.now c.print_file.new.out c.in-Ok.file.fault (file-there c.args.image.now
           (Any c.args.candidates) c.args.name.now (disk_image c.in_ok-disk.disk) c.in-Ok.file.number c.in-Ok.file.slot
-          c.find_file.new.blocks.items c.in-Ok.file.last c.in-Ok.file.fault loaded.0 loaded.1 c.in-Ok.ensures.ok) _
+          c.find_file.new.blocks.items c.in-Ok.file.last c.in-Ok.file.fault loaded.0 loaded.1 c.in-Ok.ensures.ok.0) _
           loaded.1 _ c.as_slice.ensures.value c.in_err-listed.ensures.part);
     }
 
@@ -46,12 +46,12 @@ returns-in_err-flush g c =
         c.in-Ok.file.fault,
         file-there c.args.image.now (Any c.args.candidates) c.args.name.now (disk_image c.in_ok-disk.disk)
             c.in-Ok.file.number c.in-Ok.file.slot c.find_file.new.blocks.items c.in-Ok.file.last c.in-Ok.file.fault loaded.0 loaded.1
-            c.in-Ok.ensures.ok,
+            c.in-Ok.ensures.ok.0,
       ));
       part = rw (p.1 ∙ ap Err p.2) (bytes-part g.W.Write.contents c.args.form c.args.candidates c.args.image.now
           c.args.name.now c.args.out.now c.flush.new.out c.in-Ok.file.fault (file-there c.args.image.now
           (Any c.args.candidates) c.args.name.now (disk_image c.in_ok-disk.disk) c.in-Ok.file.number c.in-Ok.file.slot
-          c.find_file.new.blocks.items c.in-Ok.file.last c.in-Ok.file.fault loaded.0 loaded.1 c.in-Ok.ensures.ok) _
+          c.find_file.new.blocks.items c.in-Ok.file.last c.in-Ok.file.fault loaded.0 loaded.1 c.in-Ok.ensures.ok.0) _
           loaded.1 _ c.as_slice.ensures.value
           (part-all _ _ _ (Appends-kept _ _ _ _ c.in_ok-listed.ensures.ok.0 c.flush.ensures.kept)));
     }
@@ -64,7 +64,7 @@ returns g c =
     let printed = Appends-kept _ _ _ _ c.in_ok-listed.ensures.ok.0 c.flush.ensures.kept in
     let file = file-there c.args.image.now (Any c.args.candidates) c.args.name.now (disk_image c.in_ok-disk.disk) c.in-Ok.file.number
     c.in-Ok.file.slot c.find_file.new.blocks.items c.in-Ok.file.last c.in-Ok.file.fault loaded.0 loaded.1
-    c.in-Ok.ensures.ok in
+    c.in-Ok.ensures.ok.0 in
     let Printed = AreBytesPrinted g.W.Write.contents c.args.form c.args.candidates c.args.image.now c.args.name.now
     c.args.out.now c.flush.new.out in
     let here : Printed c.in-Ok.file.fault = record {
