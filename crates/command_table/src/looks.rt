@@ -175,7 +175,8 @@ is then the highest of all. With --compare the page shows the second image,
 marks the sectors that differ from the first, and lists the files and records
 that changed. The exit status is that of the second image.
 If the image has 40 or 42 tracks, or error bytes, it draws the first 35 tracks.
-The page of one image has the lines ERROR and BEYOND of map below the drawing.
+The page of one image, or of two with --compare, has the lines ERROR and BEYOND
+of map below the drawing.
 
 Exit status:
   0  the disk is clean
