@@ -128,6 +128,7 @@ COVERED_LATE = {
     ("sync IMAGE", "the beginning"): "it changes places with the sync of the folder, and neither waits for the other",
     ("sync IMAGE", "sync the folder"): "`play` found a log: the mark is written before and synced after, and IMAGE is written only then",
     ("sync the folder", "sync IMAGE"): "it still comes before IMAGE is written, and before a log gets its name",
+    ("sync the folder", "remove a name"): "a log that is back gives what IMAGE is; only `play` writes IMAGE before this sync, and promises nothing of a loss of power",
     ("sync the log in the making", "write the log in the making"): "it changes places with the sync of the folder, and still comes before the log gets its name",
     ("sync the log in the making", "write the mark"): "it changes places with the sync of the folder, and still comes before the log gets its name",
     ("set a length", "write another file"): "the next sync brings it to the disk, and until then a file that is too long is refused",
