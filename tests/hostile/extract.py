@@ -48,8 +48,18 @@ def want(what, got, wanted):
         raise Differs(f"{what}: {got!r:.300} in place of {wanted!r:.300}")
 
 
+# how many sectors an image of 35, 40 or 42 tracks has
+SECTORS = {SIZE: 683, 196_608: 768, 205_312: 802}
+
+
+def number_of(place):
+    """How many sectors come before one of the tracks 1 to 42; nothing if there is no such sector."""
+    track, number = place
+    return INDEX.get(place, 683 + 17 * (track - 36) + number if 36 <= track <= 42 and number < 17 else None)
+
+
 def sector(image, place):
-    return image[start(place):start(place) + 256]
+    return image[256 * number_of(place):256 * number_of(place) + 256]
 
 
 def chain(image, place):
@@ -65,6 +75,17 @@ def chain(image, place):
         if link in places:
             return places, 255, f"LOOP {link[0]}/{link[1]}"
         place = link
+
+
+def long_chain(image, place):
+    """The sectors of a chain over all tracks of an image, and the last index; nothing if it doesn't come to its end there."""
+    places = []
+    while place not in places and number_of(place) is not None and number_of(place) < SECTORS[len(image)]:
+        places.append(place)
+        place = tuple(sector(image, place)[:2])
+        if place[0] == 0:
+            return places, place[1]
+    return None
 
 
 def directory(image):
@@ -120,7 +141,8 @@ def shown(byte):
 
 
 class Wanted:
-    """The files that an image has to give, the faults in the order in which they are reported, and the chains. It may have error bytes."""
+    """The files that an image has to give, the faults in the order in which they are reported, and the chains. It may have 40 or 42
+    tracks, and error bytes that come apart."""
 
     def __init__(self, image, deleted=False, scan=False, errors=b""):
         sectors, fault = directory(image)
@@ -156,11 +178,13 @@ class Wanted:
         self.name(image, sectors, slots, fault)
 
     def name(self, image, sectors, slots, fault):
-        """What `bytes` prints of each entry: its own chain, of a file of GEOS too."""
+        """What `bytes` prints of each entry: its own chain, of a file of GEOS too. Others have those blocks of it that can be reached on
+        tracks 1 to 35."""
         chains = [self.plain(image, place, slot) for place, slot in slots]
         owned = self.owners(sectors, chains)
-        for (place, slot), (blocks, last, ended) in zip(slots, chains):
-            shared = next((block for block in blocks if owned[block] > 1), None)
+        for (place, slot), (front, _, _) in zip(slots, chains):
+            blocks, last, ended = self.whole(image, place, slot)
+            shared = next((block for block in front if owned[block] > 1), None)
             told = ended or (f"OWNEDTWICE {shared[0]}/{shared[1]}" if shared else "")
             told = told or ("" if slot[2] >= 128 or slot[2] == 0 else f"UNCLOSED {place[0]}/{place[1]}")
             self.named.append((slot[5:21].rstrip(b"\xa0"), slot, self.data(image, blocks, last), fault or told))
@@ -170,7 +194,7 @@ class Wanted:
         """How many have each sector."""
         owned = {}
         for place in [MAP, *sectors, *(block for blocks, _, _ in chains for block in blocks)]:
-            owned[place] = owned.get(place, 0) + 1
+            owned[place] = owned.get(place, 0) + (1 if place in INDEX else 0)
         return owned
 
     def names(self, is_asked, most):
@@ -187,14 +211,14 @@ class Wanted:
         for place, slot in every:  # none is one of GEOS, since its type is 0
             if slot[2] == 0 and slot[5:21].rstrip(b"\xa0") and tuple(slot[3:5]) in INDEX:
                 reach = cls.reach(image, place, slot)
-                if not owned & set(reach[0]):
+                if not owned & {block for block in reach[0] if block in INDEX}:
                     yield place, slot, reach
 
     @classmethod
     def reach(cls, image, place, slot):
         """The blocks of an entry's file, the last index, and what ends them; of one of GEOS all its blocks."""
         if not geos.is_geos(slot):
-            return cls.plain(image, place, slot)
+            return cls.whole(image, place, slot)
         blocks, _, last, ended = geos.reach(image, slot)
         return blocks, last, ended
 
@@ -204,6 +228,13 @@ class Wanted:
             return [], 0, ""
         first = tuple(slot[3:5])
         return chain(image, first) if first in INDEX else ([], 0, f"BADLINK {place[0]}/{place[1]}")
+
+    @classmethod
+    def whole(cls, image, place, slot):
+        """The same over all tracks of an image that has more than 35, if tracks 1 to 35 haven't the whole chain."""
+        reach = cls.plain(image, place, slot)
+        found = long_chain(image, tuple(slot[3:5])) if reach[2] and len(image) > SIZE else None
+        return (*found, "") if found else reach
 
     @staticmethod
     def data(image, blocks, last):
@@ -220,7 +251,7 @@ class Wanted:
     @staticmethod
     def misread(blocks, errors):
         """Those blocks that weren't read, and how."""
-        found = [(block, errors[INDEX[block]]) for block in blocks if errors]
+        found = [(block, errors[number_of(block)]) for block in blocks if errors]
         return " ".join(f"{place[0]}/{place[1]}:{error_text(error)}" for place, error in found if error != 1)
 
     @staticmethod

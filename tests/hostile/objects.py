@@ -5,10 +5,11 @@
 
 PROGRAM is what `tools/program` prints. IMAGES (1,200) images of shops after a day get one to four changes each: links,
 first blocks, side sectors, types, record lengths, block counts, bits of the map and names of random bytes. Names of
-files and folders have all that JSON escapes. Of each line Python's `json` makes one object with these keys in this
-order. Its verdict is what `check` prints of the image, and the status is the greatest; the files are those that this
+files and folders have all that JSON escapes. Of each line Python's `json` makes one object with just these keys. Its
+verdict is what `check` prints of the image, and the status is the greatest; the files are those that this
 reader finds by the D64 layout; free, disk and id are those of 18/0. Files of other sizes and missing ones give an
-object too. With `--csv` there is a row of the same for each, as Python's `csv` reads it. The status is 1 at the first difference, whose image is kept. The last line says how many images of each
+object too. With `--csv` there is a row of the same for each, as Python's `csv` reads it. With `--as-is` the object is the
+same, and of an image with error bytes and more tracks it has the errors and the larger size, too. The status is 1 at the first difference, whose image is kept. The last line says how many images of each
 verdict were compared, and how long the program took for all of them."""
 
 import csv
@@ -29,8 +30,9 @@ from disks import shop_after_a_day
 from drawn import MAP, PLACES, SIZE, name_text, start
 from trial import conduct
 
-KEYS = ["name", "size", "verdict", "track", "sector", "files", "free", "disk", "id", "short", "fewer", "sha1",
-        "sha256"]
+COLUMNS = ["name", "size", "verdict", "track", "sector", "free", "disk", "id", "short", "fewer", "sha1", "sha256"]
+KEYS = {*COLUMNS, "files", "errors", "beyond"}
+PAST = range(36, 43)
 ON_DISK = set(PLACES)
 RELATIVE = (0x84, 0xC4)
 SOUND = {"OK", "MAPWRONG", "COUNTWRONG"}
@@ -41,13 +43,13 @@ def table(program, paths):
     """The rows that `check --csv` prints of images, below the heading."""
     printed = subprocess.run([program, "check", "--csv", *paths], stdout=subprocess.PIPE).stdout.decode()
     heading, *rows = csv.reader(io.StringIO(printed, newline=""), strict=True)
-    assert heading == [key for key in KEYS if key != "files"], heading
+    assert heading == COLUMNS, heading
     return rows
 
 
 def as_row(told):
     """What a row says of an image that an object tells of. A control character stands there by its number."""
-    texts = ("" if value is None else str(value) for key, value in told.items() if key != "files")
+    texts = ("" if told[key] is None else str(told[key]) for key in COLUMNS)
     return ["".join(f"\\u{ord(it):04x}" if ord(it) < 32 or ord(it) == 127 else it for it in text) for text in texts]
 
 
@@ -114,6 +116,33 @@ class Reader:
                 wrong.add(place)
         return sides, wrong
 
+    def ends(self, place, slot):
+        """Where the chains of an entry leave its sectors: the last sector of each with the track of its link, or the entry's."""
+        blocks = self.drawn(slot, 3) if slot[2] >= 0x80 else []
+        yield (blocks[-1], self.sector(blocks[-1])[0]) if blocks else (place, slot[3])
+        if slot[2] in RELATIVE:
+            sides = self.drawn(slot, 21)[:-(-len(blocks) // 120)]
+            yield (sides[-1], self.sector(sides[-1])[0]) if sides else (place, slot[21])
+
+    def drawn(self, slot, at):
+        """The sectors of the chain whose first one an entry names in these two bytes."""
+        first = tuple(slot[at:at + 2])
+        return self.follow(first)[0] if first in ON_DISK else []
+
+    def beyond(self):
+        """Where files go on past track 35."""
+        return [{"name": name_text(slot[5:21].rstrip(b"\xa0")), "sector": end[1], "track": end[0]}
+                for place, slot in self.slots() or [] for end, track in self.ends(place, slot) if track in PAST]
+
+    def owner(self, at):
+        """The typed name of the first entry that has a sector."""
+        for place, slot in self.slots() or []:
+            blocks = self.drawn(slot, 3) if slot[2] >= 0x80 else []
+            sides = self.drawn(slot, 21)[:-(-len(blocks) // 120)] if slot[2] in RELATIVE else []
+            if at in blocks or at in sides:
+                return name_text(slot[5:21].rstrip(b"\xa0"))
+        return None
+
     def named(self, place, at):
         """The place that two bytes of a sector name."""
         return tuple(self.sector(place)[at:at + 2])
@@ -172,6 +201,38 @@ def damage(draw, image):
     return bytes(image)
 
 
+def with_errors(draw, image):
+    """An image of 40 tracks with error bytes, some of which aren't 1; and what is told of those of tracks 1 to 35."""
+    wrong = {draw.randrange(768): draw.choice([2, 5, 11, 15, 200]) for _ in range(draw.randint(0, 4))}
+    codes = bytes(wrong.get(number, 1) for number in range(768))
+    reader, told = Reader(image), []
+    sectors, _ = reader.follow((18, 1))
+    system = {MAP, *sectors} if reader.slots() is not None else set()
+    for number in sorted(it for it in wrong if it < len(PLACES)):
+        place, code = PLACES[number], wrong[number]
+        error = str(code + 18) if 2 <= code <= 11 else "74" if code == 15 else f"BYTE {code}"
+        name = None if place in system else reader.owner(place)
+        told.append({"error": error, "name": name, "sector": place[1], "track": place[0]})
+    return image + bytes(256 * 85) + codes, told
+
+
+def judge_longer(program, draw, path, image, line):
+    """What is wrong with what is told of the same image with error bytes and 40 tracks, or None."""
+    longer, errors = with_errors(draw, image)
+    Path(path).write_bytes(longer)
+    one = subprocess.run([program, "check", "--json", "--as-is", path], stdout=subprocess.PIPE)
+    want = json.loads(line) | {
+        "size": len(longer), "errors": errors,
+        "sha1": hashlib.sha1(longer).hexdigest(), "sha256": hashlib.sha256(longer).hexdigest(),
+    }
+    told = json.loads(one.stdout)
+    whole = want["verdict"] == "OK" and not errors and not want["beyond"]
+    Path(path).write_bytes(image)
+    if told != want or one.returncode != (0 if whole else 1):
+        return f"as it is: {told}, status {one.returncode}\n{want}"
+    return None
+
+
 def judge(path, image, line, verdict, short):
     """What is wrong with the line of an image, or None. `short` is where `repair` refuses a file that is cut short."""
     told = json.loads(line)
@@ -185,8 +246,9 @@ def judge(path, image, line, verdict, short):
         "disk": name_text(head[0x90:0xA0].rstrip(b"\xa0")), "id": name_text(head[0xA2:0xA4]), "short": short,
         "fewer": Reader(image).fewer() if short is None and fault in SOUND else None,
         "sha1": hashlib.sha1(image).hexdigest(), "sha256": hashlib.sha256(image).hexdigest(),
+        "errors": [], "beyond": Reader(image).beyond(),
     }
-    if list(told) != KEYS or told != want:
+    if set(told) != KEYS or told != want:
         return f"{told}\n{want}"
     return None
 
@@ -219,12 +281,16 @@ def main(given):
                 Path("differs.d64").write_bytes(image)
                 print(f"objects: differs.d64: {wrong}")
                 return count - 1, 1
+            if wrong := judge_longer(program, draw, path, image, line):
+                Path("differs.d64").write_bytes(image)
+                print(f"objects: differs.d64: {wrong}")
+                return count - 1, 1
         (folder / "short").write_bytes(base[:-1])
         (folder / "long").write_bytes(base + bytes(683))
         for name, size, verdict in (("short", SIZE - 1, "IMAGE SIZE"), ("long", SIZE + 683, "IMAGE SIZE"), ("none", None, "FILE")):
             one = subprocess.run([program, "check", "--json", folder / name], stdout=subprocess.PIPE)
             told = json.loads(one.stdout)
-            assert list(told) == KEYS and [told["size"], told["verdict"], told["files"]] == [size, verdict, []], told
+            assert set(told) == KEYS and [told["size"], told["verdict"], told["files"]] == [size, verdict, []], told
             assert one.returncode == (3 if verdict == "FILE" else 1), name
             assert table(program, [folder / name]) == [as_row(told)], name
     kinds = ", ".join(f"{kind} {times}" for kind, times in sorted(met.items()))

@@ -5,14 +5,16 @@
 
 PROGRAM is what `tools/program` prints. cc1541 (Debian's package) makes each disk, of 35 tracks or of 40 with the map of SpeedDOS or
 DolphinDOS, with files of random bytes, some of which lie beyond track 35. Then it gets tracks more, error bytes of any value, or a
-changed link, or it is cut. Of each image:
+changed link, also one that leads on or back past track 35, or it is cut. Of each image:
 
 - `list --as-is` has the names, types and block counts that c1541 (of VICE) has in its directory;
 - `check --as-is`, with --all and among several images, prints what `check` prints of the first 35 tracks alone, and then the lines that a
   reader of images in Python finds (tests/lib/missing.py), and which systems have a map of tracks 36 to 40 in 18/0; so do `map` and,
   without the last, `picture`;
-- `extract` makes the files and the index of the reader of tests/hostile/extract.py, with each file's blocks that weren't read, and ends
-  as of the first 35 tracks alone, with the lines after what it prints;
+- `extract` makes the files and the index of the reader of tests/hostile/extract.py, with each file's blocks that weren't read. A file
+  that goes on past track 35 is whole if the image has all of its chain. It ends with the first fault of a file, or as of the first 35
+  tracks alone, with the lines of sectors that weren't read after what it prints;
+- `bytes` prints of each name what this reader reads, and of a disk that nothing changed what c1541 reads, also past track 35;
 - without the flag it is `IMAGE SIZE`, and so it is with the flag if the image is cut;
 - each run takes less than 24 MB, and leaves the image as it was. (A program of `rt try` isn't limited, since it takes more to start.)
 
@@ -33,8 +35,8 @@ from pathlib import Path
 
 sys.dont_write_bytecode = True
 sys.path[:0] = [str(Path(__file__).resolve().parents[1] / it) for it in ("lib", "hostile")]
-from drawn import PLACES, SIZE, start
-from extract import HEADING, Wanted
+from drawn import PLACES, SIZE, name_text, start
+from extract import HEADING, Wanted, is_closed, number_of
 from missing import missing_lines
 from trial import at, check, conduct, need
 
@@ -76,6 +78,16 @@ def made(folder, draw):
     return (40 if len(found) == BYTES[40] else 35), found
 
 
+def lead_past(draw, image, tracks):
+    """Has a block lead past track 35, where a chain goes on: to its end, back to another track, or round and round."""
+    past = [(track, number) for track in range(36, tracks + 1) for number in range(17)]
+    chain = draw.sample(past, draw.choice((1, 2, 20, len(past))))
+    end = draw.choice([(0, 255), (0, 7), (0, 0), draw.choice(PLACES), draw.choice(past), chain[0], (43, 0), (tracks + 1, 0), (36, 17)])
+    for place, link in zip([draw.choice(PLACES), *chain], [*chain, end]):
+        at = 256 * number_of(place)
+        image[at:at + 2] = bytes(link)
+
+
 def odd(draw, tracks, image):
     """The image with more tracks, a changed byte or error bytes, and these; and whether it is whole."""
     image = bytearray(image)
@@ -84,6 +96,8 @@ def odd(draw, tracks, image):
         image[start(place) + draw.choice((0, 1, 2, 3, 4, 35))] = draw.choice((0, 18, 36, 41, 42, 43, draw.randrange(256)))
     more = draw.choice([it for it in BYTES if it >= tracks])
     image += draw.randbytes(BYTES[more] - len(image))
+    for _ in range(draw.choice((0, 0, 1, 3)) if more > 35 else 0):
+        lead_past(draw, image, more)
     errors = bytearray(b"\1" * (BYTES[more] // 256) if draw.random() < 0.7 else b"")
     for _ in range(draw.choice((0, 1, 5, 100)) if errors else 0):
         errors[draw.randrange(len(errors))] = draw.choice((0, 2, 5, 11, 15, 16, 255, draw.randrange(256)))
@@ -104,18 +118,52 @@ def maps_of(whole):
     return lines
 
 
-def take_out(program, folder, path, alone, errors, lines, what):
-    """Takes the files out of an image, and compares what came of it with those of its first 35 tracks alone."""
-    status, out, err = run(program, "extract", alone, folder / "alone", folder=folder)
-    wanted = (status, out, err) if err else (1 if lines else status, out + lines, "")
-    check(run(program, "extract", path, folder / "out", folder=folder) == wanted, f"{what}: extract: not {wanted}")
-    made = Wanted(alone.read_bytes(), errors=errors)
+def end_of_extract(alone, made, lines):
+    """How `extract` ends, which ended so of the first 35 tracks alone: these have to be made, and these lines say what wasn't read."""
+    status, out, err = alone
+    if made.faults:
+        return 1, "", f"LAYOUT {made.faults[0]}\n"
+    if err.startswith("LAYOUT "):  # tracks 1 to 35 break a file off, and the image has the rest
+        return 1 if lines else 0, "EXTRACTED\n" + lines, ""
+    return alone if err else (1 if lines else status, out + lines, "")
+
+
+def take_out(program, folder, path, alone, whole, errors, lines, what):
+    """Takes the files out of an image of these tracks, and compares what came of it with a reader in Python."""
+    made = Wanted(whole, errors=errors)
+    wanted = end_of_extract(run(program, "extract", alone, folder / "alone", folder=folder), made, lines)
+    got = run(program, "extract", path, folder / "out", folder=folder)
+    check(got == wanted, f"{what}: extract: {got}, not {wanted}")
     got = {it.name: it.read_bytes() for it in (folder / "out").iterdir()}
     rows = list(csv.reader(io.StringIO(got.pop("index.csv").decode(), newline="")))
     check(rows == [HEADING, *made.rows], f"{what}: the index is {rows}, not {made.rows}")
     check(got == made.files, f"{what}: the files")
     for made in ("alone", "out"):
         shutil.rmtree(folder / made)
+
+
+def read_each(program, folder, path, whole, what):
+    """Reads each file by its name, and returns what came of those of which there is no fault."""
+    made, read = Wanted(whole), {}
+    for name in made.names(is_closed, 144):
+        data, slot, fault = made.first(name, is_closed)
+        done = subprocess.run([program, "bytes", path, "--", name_text(name)], capture_output=True, cwd=folder)
+        check(done.stdout == data, f"{what}: bytes {name}: {len(done.stdout)} bytes, not {len(data)}")
+        told = done.stderr.decode()
+        check(told == f"LAYOUT {fault}\n" if fault else told == "" or told.startswith("SHORT "), f"{what}: bytes {name}: {told}")
+        if not told:
+            read[name] = "?spu"[slot[2] % 16 % 4], data
+    return read
+
+
+def read_by_c1541(folder, read, what):
+    """Compares these files of the disk of cc1541 with what c1541 reads."""
+    for name, (kind, data) in read.items():
+        out = folder / "read"
+        out.unlink(missing_ok=True)
+        words = ["c1541", "-attach", "made.d64", "-read", f"{name.decode('latin-1').lower()},{kind}", out.name]
+        subprocess.run(words, cwd=folder, capture_output=True)
+        check(out.exists() and out.read_bytes() == data, f"{what}: c1541 reads {name} as another file")
 
 
 def names_of_c1541(folder, image):
@@ -147,6 +195,7 @@ def look_at(program, folder, draw, number):
     front = whole[:SIZE]
     alone.write_bytes(front)
     lines, maps = "" if len(whole) == SIZE else missing_lines(front, errors), maps_of(whole)
+    tracks = whole[:max(it for it in BYTES.values() if it <= len(whole))]
     if len(whole) != SIZE:
         for word in ("check", "list", "show"):
             check(run(program, word, path, folder=folder) == (1, "", "IMAGE SIZE\n"), f"{what}: {word}")
@@ -169,7 +218,10 @@ def look_at(program, folder, draw, number):
         check((unescape(block[1]) if block else "") == lines, f"{what}: picture")
     else:
         check(run(program, "map", path, folder=folder) == (status, out, err), f"{what}: map")
-    take_out(program, folder, path, alone, errors if len(whole) != SIZE else b"", lines, what)
+    misread = "".join(line for line in lines.splitlines(True) if line.startswith("ERROR "))
+    take_out(program, folder, path, alone, tracks, errors if len(whole) != SIZE else b"", misread, what)
+    read_each(program, folder, path, tracks, what)
+    read_by_c1541(folder, read_each(program, folder, folder / "made.d64", image, f"{what}, as it was made"), what)
     check(path.read_bytes() == whole, f"{what}: the image was changed")
 
 

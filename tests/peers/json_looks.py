@@ -1,5 +1,5 @@
 #!/usr/bin/env python3
-"""What `list`, `free` and `show` print with --json, as Python's `json` reads it, beside what they print without it.
+"""What `list`, `free`, `show` and `map` print with --json, as Python's `json` reads it, beside what they print without it.
 
     tests/peers/json_looks.py PROGRAM [--amount IMAGES] [--seed N]
 
@@ -8,7 +8,7 @@ and the same with faults. More images are made of them by random bytes in the ma
 some are cut, or get more tracks. Of each image:
 
 - a line is one object with just its keys, and reads as the same text as the command prints without --json: each byte of it can be
-  made of the object;
+  made of the object; of a map all but the numbers of records, and the names of systems that keep a map of tracks 36 to 40;
 - for a file of GEOS there are the structure and the type that a reader in Python finds in the entry (tests/lib/geos.py); other entries
   have none;
 - a refused image has its name and the word, and the exit statuses are the same;
@@ -18,6 +18,7 @@ Several images in one command give the same lines. Not part of the gate."""
 
 import json
 import random
+import re
 import subprocess
 import sys
 import tempfile
@@ -34,6 +35,7 @@ ENTRY = {"blocks", "closed", "geos", "locked", "name", "record_length", "sector"
 KEYS = {
     "list": {"disk", "dos_type", "entries", "free", "id", "name", "refused"},
     "free": {"free", "name", "refused", "tracks"},
+    "map": {"beyond", "files", "name", "refused", "sector", "sectors", "short", "track", "verdict"},
     "show": {"cards", "name", "refused", "tills", "top"},
 }
 SIZES = {SIZE, 175_531, 196_608, 197_376, 205_312, 206_114}
@@ -82,6 +84,57 @@ def show_text(told):
     return f"TOP {told['top']}\n{cards}{tills}"
 
 
+HEAD = "   0         1         2\n   012345678901234567890\n"
+WIDE_HEAD = "   " + " ".join(f"{it:02}" for it in range(21)) + "\n"
+MARKS = {"map": "*", "directory": "=", "free": ".", "taken": "?", "block": "a", "side": "A"}
+
+
+def mark(sector, wide, at_fault):
+    """The mark of a sector; with more than 26 files of two characters."""
+    if at_fault:
+        return "!!" if wide else "!"
+    first = MARKS[sector["kind"]]
+    if sector["file"] is None:
+        return first * 2 if wide else first
+    letter, digit = chr(ord(first) + sector["file"] % 26), str(sector["file"] // 26 % 10)
+    return letter + digit if wide else letter
+
+
+def kind_text(entry):
+    return ("" if entry["closed"] else "*") + entry["type"] + ("<" if entry["locked"] else "")
+
+
+def quoted(name):
+    return f' "{name}"' if name is not None else ""
+
+
+def map_text(told, is_longer):
+    """What `map` prints of a disk, made of its object."""
+    wide = len(told["files"]) > 26
+    lines, fault = [], (told["track"], told["sector"])
+    for track in range(1, 36):
+        marks = [mark(it, wide, (track, it["sector"]) == fault) for it in told["sectors"] if it["track"] == track]
+        lines.append(f"{track:2} " + (" " if wide else "").join(marks))
+    for number, entry in enumerate(told["files"]):
+        sign = chr(97 + number % 26) + (str(number // 26 % 10) if wide else "")
+        lines.append(f'{sign} {entry["blocks"]} "{entry["name"]}" {kind_text(entry)}')
+    if told["verdict"] != "OK" or told["short"] is None:
+        lines.append(told["verdict"])
+    lines += [f"SHORT {told['short']}"] if told["short"] else []
+    if is_longer:
+        for it in told["sectors"]:
+            name = None if it["file"] is None else told["files"][it["file"]]["name"]
+            lines += [f"ERROR {it['error']} {it['track']}/{it['sector']}{quoted(name)}"] if it["error"] else []
+        lines += [f"BEYOND {it['track']}/{it['sector']}{quoted(it['name'])}" for it in told["beyond"]]
+    return (WIDE_HEAD if wide else HEAD) + "".join(f"{it}\n" for it in lines)
+
+
+def bare_map(text):
+    """The text of a map without what its object doesn't tell."""
+    text = re.sub(r" LENGTH \d+ RECORDS \d+$", "", text, flags=re.M)
+    return re.sub(r"^(SPEEDDOS|DOLPHINDOS|PROLOGICDOS) 36-40\n", "", text, flags=re.M)
+
+
 TEXT = {"list": list_text, "free": free_text, "show": show_text}
 
 
@@ -101,7 +154,7 @@ def geos_of(slot):
     return {"structure": "VLIR" if slot[23] else "sequential", "type": slot[24]}
 
 
-def same_object(line, word, name, text, error, image, what):
+def same_object(line, word, name, text, error, image, is_longer, what):
     """The object of a line tells what the text does."""
     told = json.loads(line)
     check(told["name"] == name, f"{what}: name {told['name']}")
@@ -109,6 +162,10 @@ def same_object(line, word, name, text, error, image, what):
         check(told == {"name": name, "refused": error.decode().strip()}, f"{what}: {told}, not {error}")
         return
     check(told["refused"] is None and told.keys() == KEYS[word], f"{what}: keys {sorted(told)}")
+    if word == "map":
+        made, text = map_text(told, is_longer), bare_map(text.decode())
+        check(made == text, f"{what}: {made!r}, not {text!r}")
+        return
     check(TEXT[word](told) == text.decode(), f"{what}: {TEXT[word](told)!r}, not {text!r}")
     if word == "list":
         slots = slots_of(image)
@@ -124,11 +181,11 @@ def look_at(program, folder, name, what):
     """Looks at one image."""
     image = (folder / name).read_bytes()
     for word in KEYS:
-        flags = ("--as-is",) if word != "free" and len(image) in SIZES and len(image) != SIZE else ()
+        flags = ("--as-is",) if word in ("list", "show") and len(image) in SIZES and len(image) != SIZE else ()
         status, text, error = run(program, word, name, *flags, folder=folder)
         done, out, err = run(program, word, name, "--json", *flags, folder=folder)
         check((done, err) == (status, b"") and out.endswith(b"\n") and out.count(b"\n") == 1, f"{what}: {word}: {done} {out!r} {err!r}")
-        same_object(out, word, name, text, error, image[:SIZE], f"{what}: {word}")
+        same_object(out, word, name, text, error, image[:SIZE], len(image) != SIZE, f"{what}: {word}")
 
 
 def odd(draw, image):

@@ -6,29 +6,30 @@ use Rattle.std.proofs.lemmas.List.{drop_at, length-drop, length-replicate, lengt
 use Rattle.std.proofs.lemmas.Option.{same_Some, slice_get-map}
 use Rattle.std.proofs.lemmas.List.Elements.{Contains-append_left, Contains-append_right}
 use Rattle.d64_image.specs.History.{History}
-use Rattle.d64_image.specs.Images.{Image, sector}
+use Rattle.d64_image.specs.Images.{Image, put, sector}
 use Rattle.d64_image.specs.Offsets.{overwritten}
 use Rattle.d64_image.specs.declared.place.Place.{Place}
 use Rattle.d64_image.specs.Memory.{disk_image, sectors_in}
 use Rattle.damaged_files.specs.declared.sides.planning.Loss.{Loss}
 use Rattle.damaged_files.specs.declared.sides.planning.Loss.TheVariants.{Accepted, Refused}
 use Rattle.disk_changes.proofs.UnsoundArt.{sound-artless}
-use Rattle.disk_changes.specs.Changes.{IsChanged, IsDone, IsFit}
+use Rattle.disk_changes.specs.Changes.{IsChanged, IsDoneBy, IsFit}
 use Rattle.disk_changes.specs.Copies.{HasLockOf, IsCopyAs, IsRecordCopyOf}
 use Rattle.disk_changes.specs.Rebuilds.{IsBuiltAnew, IsRebuilt}
 use Rattle.disk_changes.specs.declared.changes.Lock.TheVariants.{Set}
 use Rattle.changed_life.proofs.Rebuilt.{built-keeps, named-same}
 use Rattle.changed_life.proofs.Settled.{settled-keeps}
 use Rattle.disk_changes.specs.Deletes.{IsDeleted}
+use Rattle.disk_changes.specs.Judged.{IsSoundDisk}
 use Rattle.disk_changes.specs.Makes.{IsMade}
 use Rattle.disk_changes.specs.Puts.{IsPut}
 use Rattle.disk_changes.specs.Renames.{IsRenamed}
-use Rattle.disk_changes.specs.Repairs.{IsMended, IsRepaired}
+use Rattle.disk_changes.specs.Repairs.{IsMended, IsRepaired, frees}
 use Rattle.disk_changes.specs.ShopFiles.{HasShopFile, IsRelativeOf, IsShopSlot}
 use Rattle.disk_changes.specs.Stores.{IsStored}
-use Rattle.disk_changes.specs.Titles.{IsTitled}
 use Rattle.disk_changes.specs.declared.changes.Change.{Change}
-use Rattle.disk_changes.specs.declared.changes.Change.TheVariants as changes
+use Rattle.disk_changes.specs.declared.changes.ChangeKind.{ChangeKind}
+use Rattle.disk_changes.specs.declared.changes.ChangeKind.TheVariants as kinds
 use Rattle.disk_changes.specs.declared.changes.Changed.{Changed}
 use Rattle.disk_layout.proofs.lemmas.chains.Chains.{AgreeAt}
 use Rattle.disk_layout.proofs.lemmas.layouts.Agree.{IsLayout-put_map, map-unowned, owned-block, stays-agree}
@@ -46,6 +47,7 @@ use Rattle.file_changes.proofs.Renamed.{length-name}
 use Rattle.file_changes.proofs.Reslotted.{split, unowned}
 use Rattle.file_changes.specs.Deletes.{HasLost}
 use Rattle.file_changes.specs.Entries.{IsFirstNamed, entries_of, renamed, with_file, without_file}
+use Rattle.file_changes.specs.Names.{name_bytes}
 use Rattle.file_changes.specs.Puts.{type_number}
 use Rattle.file_changes.specs.declared.file_type.FileType.{FileType}
 use Rattle.file_changes.specs.declared.file_type.FileType.TheVariants.{Prg, Seq, Usr}
@@ -168,21 +170,20 @@ stays-all a c (f ∷ fs) same =
     let rest = stays-all a c fs (λ g own. same g (Contains-there g f fs own)) in
     λ i. sym here i ∷ rest i
 
--- a disk with another name: no file owns 18/0
-pub title-keeps : (image name id : List ℕ) (made : Changed) → IsTitled image name id made
-    → KeepsShops (sectors_in image) (disk_image made.disk)
-title-keeps image name id made x =
+-- a disk on which nothing but 18/0 was written: no file owns that
+map-keeps : (image bytes : List ℕ) (made : Changed) → IsSoundDisk image
+    → disk_image made.disk ≡ put (sectors_in image) map_place bytes → KeepsShops (sectors_in image) (disk_image made.disk)
+map-keeps image bytes made before after =
     let a = sectors_in image in
     let c = disk_image made.disk in
-    let l = x.before.layout in
-    let bytes = overwritten (overwritten (sector a map_place) 144 (slot_name name)) 162 id in
-    let is : IsLayout c l = subst (λ (i : Image). IsLayout i l) (sym x.after) (IsLayout-put_map a l bytes x.before.sound) in
+    let l = before.layout in
+    let is : IsLayout c l = subst (λ (i : Image). IsLayout i l) (sym after) (IsLayout-put_map a l bytes before.sound) in
     let same : (g : File) → Contains l.files g → AgreeAt a c g.blocks =
-    λ g own p there. unless-same a map_place p bytes (λ e. map-unowned a l x.before.sound
+    λ g own p there. unless-same a map_place p bytes (λ e. map-unowned a l before.sound
     (subst (λ (q : Place). Contains (owners l) q) (sym e) (owned-block l g p own there)))
-    ∙ ap (λ (i : Image). sector i p) (sym x.after) in
+    ∙ ap (λ (i : Image). sector i p) (sym after) in
     let stays = stays-all a c l.files same in
-    kept-shop a c l l x.before.sound is
+    kept-shop a c l l before.sound is
     (λ n f first long. records-kept a c l l (codes "STOCK") 18 n f (ap (filter (is_of (codes "STOCK"))) stays) first long)
     (λ n f first long. records-kept a c l l (codes "REQUESTS") 127 n f (ap (filter (is_of (codes "REQUESTS"))) stays) first
     long)
@@ -498,35 +499,40 @@ rebuild-keeps image free cut made (inr x) = λ s shop.
     (anew-keeps x.bytes free cut x.second x.built)) s shop
 
 -- What comes of a change.
-done-keeps : (what : Change) (image : List ℕ) (made : Changed) → IsFit what → SparesCards what → IsDone what image made
-    → KeepsShops (sectors_in image) (disk_image made.disk)
-done-keeps (changes.Rename from to) image made fit spares done = rename-keeps image from.now to.now fit made done
-done-keeps (changes.Title id name) image made fit spares done = title-keeps image name.now id made done
-done-keeps (changes.Lock lock name) image made fit spares done = lock-keeps image name.now lock made done
-done-keeps (changes.Delete name cut) image made fit spares done = delete-keeps image name.now cut made done
-done-keeps (changes.Undelete kind name cut) image made fit spares done = undelete-keeps image name.now kind cut made done
-done-keeps changes.Sort image made fit spares done = sort-keeps image made done
-done-keeps (changes.Put name kind content cut) image made fit spares done =
-    put-keeps image name.now kind content.now cut made done
-done-keeps (changes.CopyFile source name to cut) image made fit spares done =
-    copied-as done.entry done.content source.now name.now to.now image cut made done.copy
-done-keeps (changes.Make name L cut) image made fit spares done = make-keeps image name.now L cut made done
-done-keeps (changes.Store name text cut) image made fit spares done =
-    store-keeps image name.now text.now cut made done spares.0 spares.1
-done-keeps (changes.Repair free cut) image made fit spares done = repair-keeps image free cut made done
-done-keeps (changes.Rebuild free cut) image made fit spares done = rebuild-keeps image free cut made done
+done-keeps : (kind : ChangeKind) (loss : Loss) (source image : List ℕ) (made : Changed) → IsFit kind → SparesCards kind
+    → IsDoneBy kind loss source image made → KeepsShops (sectors_in image) (disk_image made.disk)
+done-keeps (kinds.Repair unowned) loss source image made fit spares done = repair-keeps image (frees unowned) loss made done
+done-keeps (kinds.RepairSides unowned) loss source image made fit spares done = rebuild-keeps image (frees unowned) loss made done
+done-keeps (kinds.Make L name) loss source image made fit spares done = make-keeps image (name_bytes name) L loss made done
+done-keeps (kinds.Rename from to) loss source image made fit spares done =
+    rename-keeps image (name_bytes from) (name_bytes to) fit made done
+done-keeps (kinds.Title id name) loss source image made fit spares done =
+    map-keeps image (overwritten (overwritten (sector (sectors_in image) map_place) 144 (slot_name (name_bytes name))) 162 id) made
+    done.before done.after
+done-keeps (kinds.Lock lock name) loss source image made fit spares done = lock-keeps image (name_bytes name) lock made done
+done-keeps (kinds.Delete name) loss source image made fit spares done = delete-keeps image (name_bytes name) loss made done
+done-keeps (kinds.Undelete kind name) loss source image made fit spares done =
+    undelete-keeps image (name_bytes name) kind loss made done
+done-keeps kinds.Sort loss source image made fit spares done = sort-keeps image made done
+done-keeps (kinds.Put file kind name) loss source image made fit spares done =
+    put-keeps image (name_bytes name) kind source loss made done
+done-keeps (kinds.CopyFile from name to) loss source image made fit spares done =
+    copied-as done.entry done.content source (name_bytes name) (name_bytes to) image loss made done.copy
+done-keeps (kinds.Store records columns name) loss source image made fit spares done =
+    store-keeps image (name_bytes name) source loss made done spares.0 spares.1
 
 -- a shop's disk has no art that would be put aside
-pub changes-keep : (what : Change) (image : List ℕ) (made : Changed) → IsFit what → SparesCards what
+pub changes-keep : (what : Change) (image : List ℕ) (made : Changed) → IsFit what.kind.now → SparesCards what.kind.now
     → IsChanged what image made → KeepsShops (sectors_in image) (disk_image made.disk)
-changes-keep what image made fit spares (inl done) s shop = done-keeps what image made fit spares done s shop
-changes-keep what image made fit spares (inr beside) s shop = absurd
+changes-keep what image made fit spares (size, inl done) s shop =
+    done-keeps what.kind.now what.loss what.source.now image made fit spares done s shop
+changes-keep what image made fit spares (size, inr beside) s shop = absurd
     (sound-artless image beside.1.aside.entries (shop.has.layout, shop.has.is_layout) beside.1.aside.art)
 
 -- a chapter that ends with it
 pub chapter : {D : Type 0} (hist : History D) (s : Shop) (disk last next : D) (steps : List (Step D)) (what : Change)
     (image : List ℕ) (made : Changed) → IsShop (hist.image disk) s → IsLife hist (off disk) steps
-    → went_all (off disk) steps ≡ off last → hist.image last ≡ sectors_in image → IsFit what → SparesCards what → IsChanged what image made
+    → went_all (off disk) steps ≡ off last → hist.image last ≡ sectors_in image → IsFit what.kind.now → SparesCards what.kind.now → IsChanged what image made
     → hist.image next ≡ disk_image made.disk
     → (t : Shop) × IsChapter hist disk (record { steps = steps; next = next; shop = t })
 chapter hist s disk last next steps what image made shop life ended is fit spares changed after =

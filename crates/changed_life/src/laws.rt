@@ -26,7 +26,7 @@ pub fn kept_files_keep_the_cards()
 /// What `change` leaves of a shop's disk is the disk of a shop with the same cards and tills. This holds of each change but one
 /// that stores records in a file of a shop.
 pub fn the_changes_keep_the_cards()
-    ensures { (what : Change) (image : List ℕ) (made : Changed) → IsFit what → SparesCards what → IsChanged what image made
+    ensures { (what : Change) (image : List ℕ) (made : Changed) → IsFit what.kind.now → SparesCards what.kind.now → IsChanged what image made
         → KeepsShops (sectors_in image) (disk_image made.disk) }
 {}
 
@@ -40,7 +40,7 @@ pub fn a_repair_leaves_the_same_shop()
 pub fn a_change_begins_a_chapter<D: Sectors>()
     ensures { (s : Shop) (disk last next : D) (steps : List (Step D)) (what : Change) (image : List ℕ) (made : Changed)
         → IsShop (D.history.image disk) s → IsLife D.history (off disk) steps → went_all (off disk) steps ≡ off last
-        → D.history.image last ≡ sectors_in image → IsFit what → SparesCards what → IsChanged what image made
+        → D.history.image last ≡ sectors_in image → IsFit what.kind.now → SparesCards what.kind.now → IsChanged what image made
         → D.history.image next ≡ disk_image made.disk
         → (t : Shop) × IsChapter D.history disk (record { steps = steps; next = next; shop = t }) }
 {}

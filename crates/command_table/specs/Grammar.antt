@@ -182,9 +182,9 @@ sort = may_run_dry (may_accept_loss (over_image (codes "sort")))
 abbrev pub new : App
 new = titling (codes "new")
 
--- map IMAGE..
+-- map IMAGE.. [--json]
 abbrev pub map : App
-map = over_images (codes "map")
+map = may_be_json (over_images (codes "map"))
 
 -- picture IMAGE.. [--svg] [--sheet] [--compare]
 abbrev pub picture : App

@@ -74,12 +74,13 @@ the fault concerns, `free` counts blocks, and `sha1` and `sha256` are hashes of
 the image. With --csv each has a row of a table, but without `files`. With --all
 every fault is printed with its files, for example OWNEDTWICE 6/17 \"A\" \"B\":
 first the one that check prints without it; MAPWRONG only if the files are
-sound. --json goes before --csv, and both before --all and --as-is.
+sound. --json goes before --csv, both before --all, and --csv before --as-is.
 With --as-is it takes an image of 40 or 42 tracks, or with error bytes, too, and
 checks its first 35 tracks. After that it prints a line for each sector that the
 drive couldn't read, ERROR 23 17/4 \"MENU\", and for each file that goes on beyond
-track 35, BEYOND 17/4 \"MENU\". Then the status isn't 0. SPEEDDOS 36-40 says that
-SpeedDOS keeps a map of these tracks in 18/0; DOLPHINDOS and PROLOGICDOS, too.
+track 35, BEYOND 17/4 \"MENU\". With --json they stand in `errors` and `beyond`.
+Then the status isn't 0. SPEEDDOS 36-40 says that SpeedDOS keeps a map of these
+tracks in 18/0; DOLPHINDOS and PROLOGICDOS, too. An object doesn't say so.
 
 Exit status:
   0  OK
@@ -115,7 +116,7 @@ Example: ledger plan ./*.[dD]64",
     values: &[IMAGES, JSON, CSV],
 };
 
-/// `map IMAGE..`
+/// `map IMAGE.. [--json]`
 const MAP: Subcommand = Subcommand {
     name: "map",
     about: "Print the owner of each sector, the files, and the result of a check",
@@ -129,6 +130,9 @@ If the image has 40 or 42 tracks, or error bytes, it draws the first 35 tracks,
 and prints ERROR, BEYOND and SPEEDDOS at the end, as check --as-is does.
 With several images each line begins with the image's name, also for an image
 that is refused. The exit status is then the highest of all.
+With --json each image has a line, an object of JSON. Its `sectors` are those of
+tracks 1 to 35. `kind` is map, directory, block, side, free or taken, `file` is
+the number of its file in `files`, and `error` the drive's error, if it had one.
 
 Exit status:
   0  the disk is clean
@@ -136,7 +140,7 @@ Exit status:
   3  FILE, NOT READY, NO MEMORY, IN USE
 
 Example: ledger map old.d64",
-    values: &[ANY_IMAGES],
+    values: &[ANY_IMAGES, JSON],
 };
 
 /// The flag for a poster.
@@ -175,7 +179,8 @@ is then the highest of all. With --compare the page shows the second image,
 marks the sectors that differ from the first, and lists the files and records
 that changed. The exit status is that of the second image.
 If the image has 40 or 42 tracks, or error bytes, it draws the first 35 tracks.
-The page of one image has the lines ERROR and BEYOND of map below the drawing.
+The page of one image, or of two with --compare, has the lines ERROR and BEYOND
+of map below the drawing.
 
 Exit status:
   0  the disk is clean

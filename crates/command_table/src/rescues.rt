@@ -121,16 +121,16 @@ GEOS becomes one file in the form CVT (.cvt), which Convert and c1541 read. It
 takes what can be read of a damaged file, and index.csv says what was found. It
 prints EXTRACTED if all files are whole, and then FEWER and a sector if a PRG,
 SEQ or USR that ends there has fewer blocks than its entry says. If the image
-has 40 or 42 tracks, or error bytes, it takes the files of the first 35 tracks,
-and prints ERROR and BEYOND at the end, as check --as-is does. With --deleted it
-also takes deleted files whose blocks no other file has (.del), after the rest.
-With --scan it also reads those other sectors of track 18 that look like sectors
-of a directory.
+has 40 or 42 tracks, a file that goes on past track 35 is taken whole. If it has
+error bytes, it prints ERROR at the end, as check --as-is does. With --deleted
+it also takes deleted files whose blocks no other file has (.del), after the
+rest. With --scan it also reads those other sectors of track 18 that look like
+sectors of a directory.
 
 Exit status:
   0  all files are whole
-  1  a file or the directory isn't (LAYOUT and the first fault, SHORT, ERROR,
-     BEYOND); or IMAGE SIZE, LOG, FILE EXISTS: nothing was done
+  1  a file or the directory isn't (LAYOUT and the first fault, SHORT, ERROR);
+     or IMAGE SIZE, LOG, FILE EXISTS: nothing was done
   2  PATH
   3  FILE, NOT READY, NO MEMORY, IN USE
 

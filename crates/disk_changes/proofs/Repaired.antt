@@ -76,11 +76,6 @@ module _ (image : List ℕ) (free : Bool) where
       → (IsRepairRefusal image free cut faults.File → ⊥) × (IsRepairRefusal image free cut faults.Device → ⊥)
   repaired-in-memory cut = (no-output cut, no-device cut)
 
-  -- an image that is repaired has the size of one
-  pub repaired-size : (cut : Loss) (made : Changed) → IsRepaired image free cut made → length image ≡ 174848
-  repaired-size Refused made is = is.0.0
-  repaired-size Accepted made is = is.size
-
 -- the same of an entry that is made one of a file again
 not-right-output : (bytes : List ℕ) (cut : Loss) → IsNotRight bytes cut faults.File → ⊥
 not-right-output bytes Refused why = (repaired-in-memory bytes false Refused).0 why

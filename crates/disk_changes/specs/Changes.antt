@@ -1,5 +1,5 @@
 -- What comes of a change to an image, or why it isn't made. Our own.
-use Rattle.std.specs.Prelude.{◌≡◌, ◌≤◌, ◌⊎◌, Bool, List, false, length, true, ℕ}
+use Rattle.std.specs.Prelude.{◌≡◌, ◌≤◌, ◌⊎◌, ⊤, Bool, List, false, length, true, ℕ}
 use Rattle.command_faults.specs.Faults.{IsLoadFault, IsSoundFault}
 use Rattle.disk_changes.specs.Art.{HasNoArt, IsAside, IsBesideArt}
 use Rattle.disk_changes.specs.Copies.{IsCopied, IsCopyRefusal}
@@ -9,73 +9,79 @@ use Rattle.disk_changes.specs.Makes.{IsMade, IsMakeRefusal}
 use Rattle.disk_changes.specs.Puts.{IsPut, IsPutRefusal}
 use Rattle.disk_changes.specs.Rebuilds.{IsRebuildRefusal, IsRebuilt}
 use Rattle.disk_changes.specs.Renames.{IsRenameRefusal, IsRenamed}
-use Rattle.disk_changes.specs.Repairs.{IsRepairRefusal, IsRepaired}
+use Rattle.disk_changes.specs.Repairs.{IsRepairRefusal, IsRepaired, frees}
 use Rattle.disk_changes.specs.Sorts.{IsSortRefusal, IsSorted}
 use Rattle.disk_changes.specs.Stores.{IsStoreRefusal, IsStored}
 use Rattle.disk_changes.specs.Titles.{IsTitled}
 use Rattle.disk_changes.specs.Undeletes.{IsUndeleteRefusal, IsUndeleted}
 use Rattle.disk_changes.specs.declared.changes.Change.{Change}
-use Rattle.disk_changes.specs.declared.changes.Change.TheVariants as changes
+use Rattle.disk_changes.specs.declared.changes.ChangeKind.{ChangeKind}
+use Rattle.disk_changes.specs.declared.changes.ChangeKind.TheVariants as kinds
 use Rattle.disk_changes.specs.declared.changes.Changed.{Changed}
 use Rattle.command_faults.specs.declared.faults.CommandFault.{CommandFault}
 use Rattle.command_faults.specs.declared.faults.CommandFault.TheVariants as faults
+use Rattle.damaged_files.specs.declared.sides.planning.Loss.{Loss}
+use Rattle.file_changes.specs.Names.{name_bytes}
 use Rattle.rel_records.specs.File.{IsLength}
 
 -- the name that a file gets fits an entry, and so does the length of its records
-abbrev pub IsFit : Change → Type 0
-IsFit (changes.Rename from to) = length to.now ≤ 16
-IsFit (changes.Title id name) = length name.now ≤ 16
-IsFit (changes.Lock lock name) = Unit {0}
-IsFit (changes.Delete name cut) = Unit {0}
-IsFit (changes.Undelete kind name cut) = Unit {0}
-IsFit changes.Sort = Unit {0}
-IsFit (changes.Put name kind content cut) = length name.now ≤ 16
-IsFit (changes.CopyFile source name to cut) = length to.now ≤ 16
-IsFit (changes.Make name L cut) = (length name.now ≤ 16) × IsLength L
-IsFit (changes.Store name text cut) = Unit {0}
-IsFit (changes.Repair free cut) = Unit {0}
-IsFit (changes.Rebuild free cut) = Unit {0}
+abbrev pub IsFit : ChangeKind → Type 0
+IsFit (kinds.Make L name) = (length (name_bytes name) ≤ 16) × IsLength L
+IsFit (kinds.Rename from to) = length (name_bytes to) ≤ 16
+IsFit (kinds.Title id name) = length (name_bytes name) ≤ 16
+IsFit (kinds.Put file kind name) = length (name_bytes name) ≤ 16
+IsFit (kinds.CopyFile from name to) = length (name_bytes to) ≤ 16
+IsFit _ = ⊤
+
+-- the change was made so of an image as it is
+abbrev pub IsDoneBy : ChangeKind → Loss → (source image : List ℕ) → Changed → Type 0
+IsDoneBy (kinds.Repair unowned) loss source image made = IsRepaired image (frees unowned) loss made
+IsDoneBy (kinds.RepairSides unowned) loss source image made = IsRebuilt image (frees unowned) loss made
+IsDoneBy (kinds.Make L name) loss source image made = IsMade image (name_bytes name) L loss made
+IsDoneBy (kinds.Rename from to) loss source image made = IsRenamed image (name_bytes from) (name_bytes to) made
+IsDoneBy (kinds.Title id name) loss source image made = IsTitled image (name_bytes name) id made
+IsDoneBy (kinds.Lock lock name) loss source image made = IsLockSet image (name_bytes name) lock made
+IsDoneBy (kinds.Delete name) loss source image made = IsDeleted image (name_bytes name) loss made
+IsDoneBy (kinds.Undelete kind name) loss source image made = IsUndeleted image (name_bytes name) kind loss made
+IsDoneBy kinds.Sort loss source image made = IsSorted image made
+IsDoneBy (kinds.Put file kind name) loss source image made = IsPut image (name_bytes name) kind source loss made
+IsDoneBy (kinds.CopyFile from name to) loss source image made = IsCopied source (name_bytes name) (name_bytes to) image loss made
+IsDoneBy (kinds.Store records columns name) loss source image made = IsStored image (name_bytes name) source loss made
+
+-- it wasn't, for this reason
+abbrev pub IsBarredBy : ChangeKind → Loss → (source image : List ℕ) → CommandFault → Type 0
+IsBarredBy (kinds.Repair unowned) loss source image why = IsRepairRefusal image (frees unowned) loss why
+IsBarredBy (kinds.RepairSides unowned) loss source image why = IsRebuildRefusal image (frees unowned) loss why
+IsBarredBy (kinds.Make L name) loss source image why = IsMakeRefusal image (name_bytes name) loss why
+IsBarredBy (kinds.Rename from to) loss source image why = IsRenameRefusal image (name_bytes from) (name_bytes to) why
+IsBarredBy (kinds.Title id name) loss source image why = IsSoundFault image why
+IsBarredBy (kinds.Lock lock name) loss source image why = IsLockRefusal image (name_bytes name) why
+IsBarredBy (kinds.Delete name) loss source image why = IsDeleteRefusal image (name_bytes name) loss why
+IsBarredBy (kinds.Undelete kind name) loss source image why = IsUndeleteRefusal image (name_bytes name) kind loss why
+IsBarredBy kinds.Sort loss source image why = IsSortRefusal image why
+IsBarredBy (kinds.Put file kind name) loss source image why = IsPutRefusal image (name_bytes name) kind source loss why
+IsBarredBy (kinds.CopyFile from name to) loss source image why = IsCopyRefusal source (name_bytes name) (name_bytes to) image loss why
+IsBarredBy (kinds.Store records columns name) loss source image why = IsStoreRefusal image (name_bytes name) source loss why
 
 -- the change was made of an image as it is
 abbrev pub IsDone : Change → (image : List ℕ) → Changed → Type 0
-IsDone (changes.Rename from to) image made = IsRenamed image from.now to.now made
-IsDone (changes.Title id name) image made = IsTitled image name.now id made
-IsDone (changes.Lock lock name) image made = IsLockSet image name.now lock made
-IsDone (changes.Delete name cut) image made = IsDeleted image name.now cut made
-IsDone (changes.Undelete kind name cut) image made = IsUndeleted image name.now kind cut made
-IsDone changes.Sort image made = IsSorted image made
-IsDone (changes.Put name kind content cut) image made = IsPut image name.now kind content.now cut made
-IsDone (changes.CopyFile source name to cut) image made = IsCopied source.now name.now to.now image cut made
-IsDone (changes.Make name L cut) image made = IsMade image name.now L cut made
-IsDone (changes.Store name text cut) image made = IsStored image name.now text.now cut made
-IsDone (changes.Repair free cut) image made = IsRepaired image free cut made
-IsDone (changes.Rebuild free cut) image made = IsRebuilt image free cut made
+IsDone what image made = IsDoneBy what.kind.now what.loss what.source.now image made
 
 -- it wasn't, for this reason
 abbrev pub IsBarred : Change → (image : List ℕ) → CommandFault → Type 0
-IsBarred (changes.Rename from to) image why = IsRenameRefusal image from.now to.now why
-IsBarred (changes.Title id name) image why = IsSoundFault image why
-IsBarred (changes.Lock lock name) image why = IsLockRefusal image name.now why
-IsBarred (changes.Delete name cut) image why = IsDeleteRefusal image name.now cut why
-IsBarred (changes.Undelete kind name cut) image why = IsUndeleteRefusal image name.now kind cut why
-IsBarred changes.Sort image why = IsSortRefusal image why
-IsBarred (changes.Put name kind content cut) image why = IsPutRefusal image name.now kind content.now cut why
-IsBarred (changes.CopyFile source name to cut) image why = IsCopyRefusal source.now name.now to.now image cut why
-IsBarred (changes.Make name L cut) image why = IsMakeRefusal image name.now cut why
-IsBarred (changes.Store name text cut) image why = IsStoreRefusal image name.now text.now cut why
-IsBarred (changes.Repair free cut) image why = IsRepairRefusal image free cut why
-IsBarred (changes.Rebuild free cut) image why = IsRebuildRefusal image free cut why
+IsBarred what image why = IsBarredBy what.kind.now what.loss what.source.now image why
 
 -- it neither moves directory art nor says of a disk with art that it is in order
-abbrev pub leaves_art : Change → Bool
-leaves_art changes.Sort = false
-leaves_art (changes.Repair free cut) = false
-leaves_art (changes.Rebuild free cut) = false
+abbrev pub leaves_art : ChangeKind → Bool
+leaves_art kinds.Sort = false
+leaves_art (kinds.Repair unowned) = false
+leaves_art (kinds.RepairSides unowned) = false
 leaves_art _ = true
 
--- the change was made, of the image as it is or with its art put aside
-abbrev pub IsChanged : Change → (image : List ℕ) → Changed → Type 0
-IsChanged what image made = IsDone what image made ⊎ ((leaves_art what ≡ true) × IsBesideArt (IsDone what) image made)
+-- the image has the size of one, and the change was made so, of the image as it is or with its art put aside
+abbrev pub IsChangedBy : ChangeKind → Loss → (source image : List ℕ) → Changed → Type 0
+IsChangedBy kind loss source image made = (length image ≡ 174848) × (IsDoneBy kind loss source image made
+    ⊎ ((leaves_art kind ≡ true) × IsBesideArt (IsDoneBy kind loss source) image made))
 
 -- the layout has a fault
 abbrev pub is_layout : CommandFault → Bool
@@ -83,10 +89,17 @@ is_layout (faults.Layout fault) = true
 is_layout _ = false
 
 -- it is no help to put art aside: the layout has no fault, the change doesn't leave art, or there is none
-abbrev pub IsFinal : Change → (image : List ℕ) → CommandFault → Type 0
-IsFinal what image why = (is_layout why ≡ false) ⊎ ((leaves_art what ≡ false) ⊎ HasNoArt image)
+abbrev pub IsFinal : ChangeKind → (image : List ℕ) → CommandFault → Type 0
+IsFinal kind image why = (is_layout why ≡ false) ⊎ ((leaves_art kind ≡ false) ⊎ HasNoArt image)
 
 -- it wasn't, for this reason: of the image as it is, or with its art put aside, for which there may have been no memory
+abbrev pub IsUnchangedBy : ChangeKind → Loss → (source image : List ℕ) → CommandFault → Type 0
+IsUnchangedBy kind loss source image why = (IsBarredBy kind loss source image why × IsFinal kind image why) ⊎ (IsLoadFault image why
+    ⊎ ((leaves_art kind ≡ true) × (bytes : List ℕ) × IsAside image bytes × IsBarredBy kind loss source bytes why))
+
+-- the same of a change with all that it takes
+abbrev pub IsChanged : Change → (image : List ℕ) → Changed → Type 0
+IsChanged what image made = IsChangedBy what.kind.now what.loss what.source.now image made
+
 abbrev pub IsRefused : Change → (image : List ℕ) → CommandFault → Type 0
-IsRefused what image why = (IsBarred what image why × IsFinal what image why) ⊎ (IsLoadFault image why
-    ⊎ ((leaves_art what ≡ true) × (bytes : List ℕ) × IsAside image bytes × IsBarred what bytes why))
+IsRefused what image why = IsUnchangedBy what.kind.now what.loss what.source.now image why

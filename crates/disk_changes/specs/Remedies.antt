@@ -1,16 +1,18 @@
 -- What can be done for a disk: a repair that ends so. Our own.
-use Rattle.std.specs.Prelude.{◌≡◌, Bool, List, false, length, true, ℕ}
+use Rattle.std.specs.Prelude.{◌≡◌, [], Bool, List, false, length, true, ℕ}
 use Rattle.command_faults.specs.declared.faults.CommandFault.{CommandFault}
 use Rattle.command_faults.specs.declared.faults.CommandFault.TheVariants as faults
 use Rattle.d64_image.specs.Memory.{sectors_in}
 use Rattle.d64_image.specs.declared.place.Place.{Place}
 use Rattle.damaged_files.specs.cut.Told.{IsCutShort}
+use Rattle.damaged_files.specs.declared.sides.planning.Loss.{Loss}
 use Rattle.damaged_files.specs.declared.sides.planning.Loss.TheVariants.{Accepted, Refused}
-use Rattle.disk_changes.specs.Changes.{IsChanged, IsRefused}
+use Rattle.disk_changes.specs.Changes.{IsChangedBy, IsUnchangedBy}
 use Rattle.disk_changes.specs.Judged.{HasStraysAlone}
-use Rattle.disk_changes.specs.declared.changes.Change.{Change}
-use Rattle.disk_changes.specs.declared.changes.Change.TheVariants as changes
+use Rattle.disk_changes.specs.declared.changes.ChangeKind.{ChangeKind}
+use Rattle.disk_changes.specs.declared.changes.ChangeKind.TheVariants as kinds
 use Rattle.disk_changes.specs.declared.changes.Changed.{Changed}
+use Rattle.disk_changes.specs.declared.changes.Unowned.TheVariants.{Freed, Kept}
 use Rattle.disk_changes.specs.declared.remedies.Remedy.{Remedy}
 use Rattle.disk_changes.specs.declared.remedies.Remedy.TheVariants as remedies
 use Rattle.disk_changes.specs.declared.remedies.Way.{Way}
@@ -18,17 +20,24 @@ use Rattle.disk_changes.specs.declared.remedies.Way.TheVariants as ways
 use Rattle.disk_layout.specs.Clean.{IsClean}
 
 -- the change that a way of repairing asks for
-abbrev pub change_by : Way → Change
-change_by ways.Plain = changes.Repair false Refused
-change_by ways.Sides = changes.Rebuild false Refused
-change_by ways.Settled = changes.Repair false Accepted
-change_by ways.SidesSettled = changes.Rebuild false Accepted
-change_by ways.Freeing = changes.Repair true Refused
-change_by ways.FreeingSettled = changes.Repair true Accepted
+abbrev pub kind_by : Way → ChangeKind
+kind_by ways.Plain = kinds.Repair Kept
+kind_by ways.Sides = kinds.RepairSides Kept
+kind_by ways.Settled = kinds.Repair Kept
+kind_by ways.SidesSettled = kinds.RepairSides Kept
+kind_by ways.Freeing = kinds.Repair Freed
+kind_by ways.FreeingSettled = kinds.Repair Freed
+
+-- whether it accepts a loss
+abbrev pub loss_by : Way → Loss
+loss_by ways.Settled = Accepted
+loss_by ways.SidesSettled = Accepted
+loss_by ways.FreeingSettled = Accepted
+loss_by _ = Refused
 
 -- this repair of the image ends so: as many sectors are left
 abbrev pub EndsBy : (image : List ℕ) → Way → (left : ℕ) → Type 0
-EndsBy image way left = (made : Changed) × IsChanged (change_by way) image made × (made.left ≡ left)
+EndsBy image way left = (made : Changed) × IsChangedBy (kind_by way) (loss_by way) [] image made × (made.left ≡ left)
 
 -- there was no memory
 abbrev pub IsLackOfMemory : CommandFault → Type 0
@@ -36,7 +45,7 @@ IsLackOfMemory why = why ≡ faults.NoMemory
 
 -- this repair of the image is refused for this reason, and not because there was no memory to try it
 pub record IsRefusedBy (image : List ℕ) (way : Way) (why : CommandFault) : Type 0 where
-  pub refused : IsRefused (change_by way) image why
+  pub refused : IsUnchangedBy (kind_by way) (loss_by way) [] image why
   pub tried : ¬ (IsLackOfMemory why)
 
 -- it is refused

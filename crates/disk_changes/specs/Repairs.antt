@@ -1,5 +1,5 @@
 -- What comes of repairing the disk of an image. Our own.
-use Rattle.std.specs.Prelude.{◌≡◌, ◌≢◌, ◌⊎◌, Bool, List, None, Some, length, true, ℕ}
+use Rattle.std.specs.Prelude.{◌≡◌, ◌≢◌, ◌⊎◌, Bool, List, None, Some, false, length, true, ℕ}
 use Rattle.command_faults.specs.declared.faults.CommandFault.TheVariants as faults
 use Rattle.d64_image.specs.Images.{Image, sector}
 use Rattle.d64_image.specs.Memory.{disk_image, sectors_in}
@@ -12,12 +12,19 @@ use Rattle.damaged_files.specs.declared.sides.planning.Loss.{Loss}
 use Rattle.damaged_files.specs.declared.sides.planning.Loss.TheVariants.{Accepted, Refused}
 use Rattle.disk_changes.specs.Judged.{IsTaken, IsUntaken}
 use Rattle.disk_changes.specs.declared.changes.Changed.{Changed}
+use Rattle.disk_changes.specs.declared.changes.Unowned.{Unowned}
+use Rattle.disk_changes.specs.declared.changes.Unowned.TheVariants.{Freed, Kept}
 use Rattle.command_faults.specs.declared.faults.CommandFault.{CommandFault}
 use Rattle.disk_layout.specs.Directory.{map_place}
 use Rattle.disk_layout.specs.Fault.{Holds, nowhere}
 use Rattle.disk_changes.specs.mended.Kinds.{HasFormatByte, HasGeosSign, IsPlainDisk}
 use Rattle.disk_changes.specs.mended.Repairs.{IsMendedAs, mended_text}
 use Rattle.layout_check.specs.RepairOrder.{ClearsSpare}
+
+-- the sectors that are taken and no file's become free
+abbrev pub frees : Unowned → Bool
+frees Kept = false
+frees Freed = true
 
 -- The disk that comes of it is clean, except for what is left, and has the files, whether or not one is cut short; and what is
 -- printed.

@@ -5,7 +5,7 @@ ghost use Rattle.disk_changes.specs.Changes.{IsBarred, IsChanged, IsDone, IsFit,
 ghost use Rattle.disk_changes.specs.Changes.{is_layout as is_layout_of, leaves_art as leaves_art_of};
 
 use crate::art::{MAP_TRACK, NO_TRACK, disk_with_art, put_tracks};
-use crate::changes::{Change, Changed};
+use crate::changes::{Change, ChangeKind, Changed};
 use crate::copying::copied;
 use crate::deleting::deleted;
 use crate::locking::relocked;
@@ -19,47 +19,45 @@ use crate::storing::stored;
 use crate::titling::titled;
 use crate::undeleting::undeleted;
 use command_faults::CommandFault;
+use d64_image::IMAGE_BYTES;
 use std::alloc::Global;
 
 /// What comes of a change of an image as it is.
 fn change_plain(alloc: Global, what: &Change<'_>, image: &[u8]) -> Result<Changed, CommandFault>
-    requires fit { IsFit what.now }
+    requires fit { IsFit what.now.kind.now }
     ensures ok { IfOk result (IsDone what.now image.now) }
     ensures err { IfErr result (IsBarred what.now image.now) }
 {
-    match *what {
-        Change::Rename { from, to } => renamed(alloc, image, from, to),
-        Change::Title { id, name } => titled(alloc, image, name, id),
-        Change::Lock { lock, name } => relocked(alloc, image, name, lock),
-        Change::Delete { name, cut } => deleted(alloc, image, name, cut),
-        Change::Undelete { kind, name, cut } => undeleted(alloc, image, name, kind, cut),
-        Change::Sort => sorted(alloc, image),
-        Change::Put {
-            name,
-            kind,
-            content,
-            cut,
-        } => put(alloc, image, name, kind, content, cut),
-        Change::CopyFile {
-            source,
-            name,
-            to,
-            cut,
-        } => copied(alloc, image, source, name, to, cut),
-        Change::Make { name, length, cut } => made(alloc, image, name, length, cut),
-        Change::Store { name, text, cut } => stored(alloc, image, name, text, cut),
-        Change::Repair { free, cut } => repaired(alloc, image, free, cut),
-        Change::Rebuild { free, cut } => rebuilt(alloc, image, free, cut),
+    let Change { kind, loss, source } = *what;
+    match kind {
+        ChangeKind::Repair { unowned } => repaired(alloc, image, unowned.is_freed(), loss),
+        ChangeKind::RepairSides { unowned } => rebuilt(alloc, image, unowned.is_freed(), loss),
+        ChangeKind::Make { length, name } => made(alloc, image, name.as_bytes(), *length, loss),
+        ChangeKind::Rename { from, to } => renamed(alloc, image, from.as_bytes(), to.as_bytes()),
+        ChangeKind::Title { id, name } => titled(alloc, image, name.as_bytes(), *id),
+        ChangeKind::Lock { lock, name } => relocked(alloc, image, name.as_bytes(), *lock),
+        ChangeKind::Delete { name } => deleted(alloc, image, name.as_bytes(), loss),
+        ChangeKind::Undelete { kind, name } => {
+            undeleted(alloc, image, name.as_bytes(), *kind, loss)
+        }
+        ChangeKind::Sort => sorted(alloc, image),
+        ChangeKind::Put { kind, name, .. } => {
+            put(alloc, image, name.as_bytes(), *kind, source, loss)
+        }
+        ChangeKind::CopyFile { name, to, .. } => {
+            copied(alloc, image, source, name.as_bytes(), to.as_bytes(), loss)
+        }
+        ChangeKind::Store { name, .. } => stored(alloc, image, name.as_bytes(), source, loss),
     }
 }
 
 /// Whether a change neither moves directory art nor says of a disk with art that it is in order.
-fn leaves_art(what: &Change<'_>) -> bool
-    ensures { result ≡ leaves_art_of what.now }
+fn leaves_art(kind: &ChangeKind<'_>) -> bool
+    ensures { result ≡ leaves_art_of kind.now }
 {
     !matches!(
-        *what,
-        Change::Sort | Change::Repair { .. } | Change::Rebuild { .. }
+        *kind,
+        ChangeKind::Sort | ChangeKind::Repair { .. } | ChangeKind::RepairSides { .. }
     )
 }
 
@@ -77,8 +75,8 @@ fn change_beside_art(
     image: &[u8],
     fault: CommandFault,
 ) -> Result<Changed, CommandFault>
-    requires fit { IsFit what.now }
-    requires leaves { leaves_art_of what.now ≡ true }
+    requires fit { IsFit what.now.kind.now }
+    requires leaves { leaves_art_of what.now.kind.now ≡ true }
     requires barred { IsBarred what.now image.now fault }
     ensures ok { IfOk result (IsBesideArt (IsDone what.now) image.now) }
     ensures err { IfErr result (IsRefused what.now image.now) }
@@ -98,14 +96,17 @@ fn change_beside_art(
 /// Directory art at 18/0 makes a disk unsound (`OwnedTwice`). If the disk is refused for such a fault, the art is put aside: its
 /// first block becomes none. The change is made so, and then it is 18/0 again. `Sort` and the repairs refuse such a disk.
 pub fn change(alloc: Global, what: &Change<'_>, image: &[u8]) -> Result<Changed, CommandFault>
-    requires fit { IsFit what.now }
+    requires fit { IsFit what.now.kind.now }
     ensures ok { IfOk result (IsChanged what.now image.now) }
     ensures err { IfErr result (IsRefused what.now image.now) }
 {
+    if image.len() != IMAGE_BYTES {
+        return Err(CommandFault::ImageSize);
+    }
     match change_plain(alloc, what, image) {
         Ok(made) => Ok(made),
         Err(fault) => {
-            if is_layout(&fault) && leaves_art(what) {
+            if is_layout(&fault) && leaves_art(what.kind) {
                 change_beside_art(alloc, what, image, fault)
             } else {
                 Err(fault)

@@ -26,7 +26,7 @@ mod storing;
 mod titling;
 mod undeleting;
 
-pub use changes::{Change, Changed, Lock};
+pub use changes::{Change, ChangeKind, Changed, Columns, Lock, Unowned};
 pub use changing::change;
 pub use entry_types::EntryType;
 pub use laws::{

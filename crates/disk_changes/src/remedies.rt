@@ -9,11 +9,12 @@ ghost use Rattle.disk_changes.specs.Remedies.{
   IsRefusedBy,
   IsRemedy,
   IsWhole,
-  change_by as change_of,
+  kind_by as kind_of,
+  loss_by as loss_of,
 };
 ghost use Rattle.disk_changes.specs.declared.remedies.Way.TheVariants.{Plain};
 
-use crate::changes::Change;
+use crate::changes::{Change, ChangeKind, Unowned};
 use crate::changing::change;
 use crate::judging::{check_usable, taken_disk};
 use command_faults::{CommandFault, load};
@@ -62,34 +63,29 @@ pub enum Remedy {
 }
 
 /// The change that a way of repairing asks for.
-fn change_by(way: Way) -> Change<'static>
-    ensures { result ≡ change_of way }
+fn kind_by(way: Way) -> ChangeKind<'static>
+    ensures { result ≡ kind_of way }
 {
     match way {
-        Way::Plain => Change::Repair {
-            free: false,
-            cut: Loss::Refused,
+        Way::Plain | Way::Settled => ChangeKind::Repair {
+            unowned: Unowned::Kept,
         },
-        Way::Sides => Change::Rebuild {
-            free: false,
-            cut: Loss::Refused,
+        Way::Sides | Way::SidesSettled => ChangeKind::RepairSides {
+            unowned: Unowned::Kept,
         },
-        Way::Settled => Change::Repair {
-            free: false,
-            cut: Loss::Accepted,
+        Way::Freeing | Way::FreeingSettled => ChangeKind::Repair {
+            unowned: Unowned::Freed,
         },
-        Way::SidesSettled => Change::Rebuild {
-            free: false,
-            cut: Loss::Accepted,
-        },
-        Way::Freeing => Change::Repair {
-            free: true,
-            cut: Loss::Refused,
-        },
-        Way::FreeingSettled => Change::Repair {
-            free: true,
-            cut: Loss::Accepted,
-        },
+    }
+}
+
+/// Whether it accepts a loss.
+fn loss_by(way: Way) -> Loss
+    ensures { result ≡ loss_of way }
+{
+    match way {
+        Way::Settled | Way::SidesSettled | Way::FreeingSettled => Loss::Accepted,
+        Way::Plain | Way::Sides | Way::Freeing => Loss::Refused,
     }
 }
 
@@ -115,7 +111,13 @@ fn try_repair(
     ensures ok { IfOk result (λ tried. IfOk tried (EndsBy image.now way) × IfErr tried (IsRefusedBy image.now way)) }
     ensures err { IfErr result IsLackOfMemory }
 {
-    match change(alloc, &change_by(way), image) {
+    let kind = kind_by(way);
+    let repair = Change {
+        kind: &kind,
+        loss: loss_by(way),
+        source: &[],
+    };
+    match change(alloc, &repair, image) {
         Ok(made) => Ok(Ok(made.left)),
         Err(fault) => {
             let why = known_refusal(fault)?;

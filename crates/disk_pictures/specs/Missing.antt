@@ -37,6 +37,17 @@ abbrev pub IsMissing : (image lines : List ℕ) → Type 0
 IsMissing image lines = ((length image ≡ 174848) × (lines ≡ []))
     ⊎ ((length image ≢ 174848) × IsMissingBeside image lines)
 
+-- these lines say which of its sectors weren't read
+pub record IsMisreadBeside (image lines : List ℕ) : Type 0 where
+  pub size : IsImageSize (length image)
+  pub drawn : Option Layout
+  pub is_drawn : IsDrawnOf image drawn
+  pub is : lines ≡ errors_text image drawn
+
+abbrev pub IsMisread : (image lines : List ℕ) → Type 0
+IsMisread image lines = ((length image ≡ 174848) × (lines ≡ []))
+    ⊎ ((length image ≢ 174848) × IsMisreadBeside image lines)
+
 -- why it isn't said: the size is none of the six, or memory
 abbrev pub IsMissingFault : List ℕ → CommandFault → Type 0
 IsMissingFault image faults.ImageSize = ¬ (IsImageSize (length image))

@@ -9,15 +9,15 @@ use crate::owners::{Owner, Owners};
 use d64_image::Place;
 use disk_layout::Slot;
 
-/// What is drawn of a disk.
+/// What is drawn of a disk: at most 144 entries, and whose each of its 683 sectors is.
 #[derive(Drop)]
-pub(crate) struct Drawing {
+pub struct Drawing {
     /// 18/0.
-    pub(crate) map: [u8; 256],
+    pub map: [u8; 256],
     /// The directory's sectors, in order.
-    pub(crate) directory: Vec<Place>,
+    pub directory: Vec<Place>,
     /// The entries, in the directory's order.
-    pub(crate) files: Vec<DrawnFile>,
+    pub files: Vec<DrawnFile>,
     /// Whose each sector is.
     owners: Owners,
     pub ghost whole: { length map ≡ 256 },
@@ -47,7 +47,7 @@ impl Drawing {
     }
 
     /// Whose the sector is.
-    pub(crate) fn owner(&self, place: Place) -> Owner
+    pub fn owner(&self, place: Place) -> Owner
         ensures { result ≡ owner_of (drawn_in self.now) place }
     {
         self.owners.owner(place)

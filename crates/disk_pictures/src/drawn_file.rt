@@ -6,14 +6,14 @@ use disk_layout::Slot;
 
 /// A used entry of the directory, and what is drawn of it.
 #[derive(Drop)]
-pub(crate) struct DrawnFile {
+pub struct DrawnFile {
     /// The entry.
-    pub(crate) slot: Slot,
+    pub slot: Slot,
     /// The blocks that its links come to, in order and each once.
-    pub(crate) blocks: Vec<Place>,
+    pub blocks: Vec<Place>,
     /// The index of the last used byte in the last block; 0 if no block ends the chain.
-    pub(crate) last: u8,
+    pub last: u8,
     /// The side sectors of a relative entry, in order: no more than its blocks need.
-    pub(crate) sides: Vec<Place>,
+    pub sides: Vec<Place>,
     pub ghost few: { length blocks.items ≤ 720 },
 }

@@ -8,7 +8,7 @@ use disk_layout::map_place;
 /// Whose a sector is. If several have it, it is the first one's, in the order of these. If several entries have it, it is
 /// that of the first one in the directory, and its block before its side sector.
 #[derive(Clone, Copy)]
-pub(crate) enum Owner {
+pub enum Owner {
     /// The map: 18/0.
     Map,
     /// The directory.

@@ -16,11 +16,11 @@ use std::fmt::{self, Display, Formatter};
 
 /// What is reported of a disk.
 #[derive(Clone, Copy)]
-pub(crate) struct Verdict {
+pub struct Verdict {
     /// What a check reports.
-    pub(crate) found: Option<Fault>,
+    pub found: Option<Fault>,
     /// Where the first file ends that is cut short.
-    pub(crate) cut: Option<Place>,
+    pub cut: Option<Place>,
 }
 
 /// The fault, and on a line of its own `SHORT` and that sector; `OK` if there is neither.
@@ -37,8 +37,9 @@ impl Display for Verdict {
     }
 }
 
-/// What is drawn of the image, and what is reported of it.
-pub(crate) fn judged(alloc: Global, image: &[u8]) -> Result<(Drawing, Verdict), CommandFault>
+/// What is drawn of the image, and what is reported of it. `ImageSize`; `NoMemory`; `Layout` if the directory's sectors aren't a chain
+/// on track 18.
+pub fn judged(alloc: Global, image: &[u8]) -> Result<(Drawing, Verdict), CommandFault>
     ensures ok { IfOk result (λ (drawing, verdict). IsJudged image.now drawing verdict) }
     ensures err { IfErr result (IsPictureFault image.now) }
     ensures not_file { IfErr result (λ fault. fault ≢ faults.File) }

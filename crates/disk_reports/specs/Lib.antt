@@ -3,7 +3,6 @@ pub mod Json
 pub mod Listings
 pub mod NearNames
 pub mod Objects
-pub mod Descriptions
 pub mod Outcomes
 pub mod Plans
 pub mod Rows

@@ -12,8 +12,7 @@ use Rattle.disk_layout.specs.Fault.{HoldsOfDirectory, nowhere}
 use Rattle.disk_layout.specs.declared.faults.Fault.{Fault}
 use Rattle.disk_layout.specs.declared.slot.Slot.{Slot}
 use Rattle.disk_layout.specs.Texts.{place_text}
-use Rattle.disk_reports.specs.Descriptions.{description_text}
-use Rattle.disk_reports.specs.declared.describing.DescriptionForm.{DescriptionForm}
+use Rattle.disk_reports.specs.Rows.{row_text}
 use Rattle.disk_reports.specs.Texts.{verdict_text}
 use Rattle.disk_reports.specs.Trails.{IsTrail, Shows}
 use Rattle.command_faults.specs.declared.faults.CommandFault.{CommandFault}
@@ -46,18 +45,15 @@ abbrev pub AreFound : Image → Option Fault → List Slot → Type 0
 AreFound img None files = files ≡ []
 AreFound img (Some fault) files = AreFilesOf img fault files
 
--- The image was described on an output that held `old` and holds `new`: by the text of what a check finds, with the
--- files that this concerns, of what its files lack, and of its hashes.
-pub record IsDescribed {W : Type 0} (contents : W → Option (List ℕ)) (form : DescriptionForm) (name image : List ℕ)
+-- The image was described on an output that held `old` and holds `new`: by the row of what a check finds, of what its
+-- files lack, and of its hashes.
+pub record IsDescribed {W : Type 0} (contents : W → Option (List ℕ)) (name image : List ℕ)
     (old new : W) (found : Option Fault) : Type 0 where
   pub size : length image ≡ 174848
   pub verdict : IsVerdict (sectors_in image) found
-  pub files : List Slot
-  pub concerned : AreFound (sectors_in image) found files
   pub lack : Option Shortfall
   pub lacks : IsShortfallOf (sectors_in image) lack
-  pub printed : Appends (contents old) (contents new)
-      (description_text form name found files (sector (sectors_in image) map_place) lack image)
+  pub printed : Appends (contents old) (contents new) (row_text name found (sector (sectors_in image) map_place) lack image)
 
 -- the line of the first file that is cut short
 abbrev pub cut_line : Option Place → List ℕ

@@ -46,8 +46,8 @@ fn list_concerned(disk: &mut MemDisk, fault: Fault, files: &mut Slots)
     keep_concerned(disk, slots.as_slice(), fault, files);
 }
 
-/// Lists the entries that the fault concerns that a check found, if it found one.
-pub(crate) fn list_files(disk: &mut MemDisk, found: Option<Fault>, files: &mut Slots)
+/// Lists the entries that the fault concerns that a check found, if it found one; none if the directory's chain has a fault itself.
+pub fn list_files(disk: &mut MemDisk, found: Option<Fault>, files: &mut Slots)
     ensures files { AreFound (disk_image disk.old) found files.new.items }
     ensures same { disk_image disk.new ≡ disk_image disk.old }
 {

@@ -26,7 +26,8 @@ mod slots;
 mod texts;
 mod trail;
 
-pub use describing::{DescriptionForm, describe_image, describe_refusal, heading};
+pub use concerned::list_files;
+pub use describing::{describe_image, describe_refusal, heading};
 pub use directory_listing::list_image;
 pub use judging::{check_among, check_image};
 pub use laws::{named_sides_hold, strings_are_read_back};

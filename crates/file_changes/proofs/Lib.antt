@@ -8,6 +8,7 @@ pub mod FreeCalls
 pub mod Freed
 pub mod Mapped
 pub mod Overwritten
+pub mod Named
 pub mod NewChains
 pub mod Patched
 pub mod RenameCalls

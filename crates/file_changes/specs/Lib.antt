@@ -4,6 +4,7 @@ pub mod Entries
 pub mod Faults
 pub mod Formats
 pub mod Frees
+pub mod Names
 pub mod NewNames
 pub mod Patches
 pub mod PutWrites

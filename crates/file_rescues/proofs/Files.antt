@@ -17,7 +17,7 @@ use Rattle.file_rescues.specs.Bytes.{HasFile, HasNoFile, file_bytes}
 use Rattle.command_faults.specs.Faults.{IsLoadFault}
 use Rattle.file_rescues.specs.Faults.{IsEnded, end_or_past, keep_none}
 use Rattle.file_rescues.specs.Found.{HasNone, IsFirstAsked, IsHad, unclosed}
-use Rattle.file_rescues.specs.Printed.{IsBytesPart, IsFileFault, IsUnclosedPart}
+use Rattle.file_rescues.specs.Printed.{IsDiskBytesPart, IsFileFault, IsUnclosedPart}
 use Rattle.file_rescues.specs.Forms.{file_as, records_as}
 use Rattle.file_rescues.specs.Records.{records_of}
 use Rattle.command_faults.specs.Outputs.{HandsPart}
@@ -40,7 +40,7 @@ slot-is slots kind name n s first is = same-slot slots n s first.slot
     (slice_get_read slots (length slots) n s refl (slice_get_within slots n first.slot first.there) (sym is)) first.there
 
 -- the file as far as it can be reached, in lists that are equal to those that were filled
-pub find-had : (img : Image) (kind : Kind) (name : List ℕ) (directory : List Place) (entries : List Slot)
+abbrev pub find-had : (img : Image) (kind : Kind) (name : List ℕ) (directory : List Place) (entries : List Slot)
     (ended : Option Fault) → IsReadSoFar img directory entries ended → (slots : List Slot) → slots ≡ entries → (n : ℕ)
     → IsFirstAsked slots kind name n → (s : Slot) → get_or slots n s ≡ s → (blocks : List Place) (broken : Option Fault)
     (last : ℕ) → IsReached img s blocks broken last → (sectors : List Place) → sectors ≡ directory → (all : List Place)
@@ -170,7 +170,7 @@ pub bytes-part : {W : Type 0} (contents : W → Option (List ℕ)) (form : FileF
     (image name : List ℕ) (old new : W) (fault : Option Fault) (file : HasFile image (Any candidates) name fault)
     (now : Image) → now ≡ sectors_in image → (ps : List Place) → ps ≡ file.blocks
     → HandsPart (contents old) (contents new) (file_as form (file_bytes now ps file.last))
-    → IsBytesPart contents form candidates image name old new
+    → IsDiskBytesPart contents form candidates image name old new
 bytes-part contents form candidates image name old new fault file now same ps are part = inr (
   fault,
   file,

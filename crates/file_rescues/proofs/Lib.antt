@@ -3,6 +3,7 @@ pub mod Beginnings
 pub mod Blocks
 pub mod Entries
 pub mod Files
+pub mod Long
 pub mod Pieced
 pub mod Printing
 pub mod ReachedRecords

@@ -21,7 +21,7 @@ within k n L low =
     let all = div-mul-le_self n L in
     omega (arith, row, all)
 
-pub few-records : (n L : ℕ) → n ≤ 182880 → n / L ≤ 182880
+pub few-records : (n L : ℕ) → n ≤ 203708 → n / L ≤ 203708
 few-records n L few = omega (arith, few, div-le_self n L)
 
 -- the line of one record more

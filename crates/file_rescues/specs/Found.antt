@@ -79,3 +79,8 @@ pub record IsHad (img : Image) (kind : Kind) (name : List ℕ) (number : ℕ) (s
   pub all : List Place
   pub owned : IsOwned img directory entries all
   pub fault_is : fault ≡ option_or (option_or (option_or ended broken) (shared_fault (first_shared all blocks))) (unclosed s)
+
+-- Why a file may not be whole, its chain aside: what ends the directory early, its first block that others have too, and that the
+-- entry isn't closed
+abbrev pub apart_from_chain : Slot → (blocks : List Place) → (ended : Option Fault) → (all : List Place) → Option Fault
+apart_from_chain s blocks ended all = option_or (option_or ended (shared_fault (first_shared all blocks))) (unclosed s)

@@ -3,6 +3,7 @@ pub mod Bytes
 pub mod Faults
 pub mod Forms
 pub mod Found
+pub mod Long
 pub mod Printed
 pub mod Programs
 pub mod Records

@@ -1,8 +1,8 @@
-//! The bytes of a file of any type, as they are printed.
+//! The bytes of a file of any type on a disk of 35 tracks, as they are printed.
 ghost use Rattle.std.specs.Prelude.{◌≡◌, IfErr, IfOk, OnErr};
 ghost use Rattle.d64_image.specs.Memory.{disk_image};
 ghost use Rattle.file_rescues.specs.Faults.{IsEnded, end_or_past, keep_none};
-ghost use Rattle.file_rescues.specs.Printed.{AreBytesTaken, IsBytesFault, IsBytesPart};
+ghost use Rattle.file_rescues.specs.Printed.{AreDiskBytesTaken, IsDiskBytesFault, IsDiskBytesPart};
 
 use crate::file_printing::print_file;
 use crate::finding::{Candidates, FoundFile, Kind, find_file};
@@ -50,23 +50,8 @@ pub(crate) fn no_file(ended: Option<Fault>) -> CommandFault
     }
 }
 
-/// Prints the bytes of the first entry of this name among the candidates, whatever its type is, in this form. There are
-/// 254 of each of its blocks, and of the last one those up to its last index. `name` has no shifted spaces at its end; one of more than
-/// sixteen bytes is never found.
-///
-/// On a damaged disk it prints what can be reached. The directory is read as far as its links lead, and so are the file's
-/// blocks. Then the error is `Layout` with the first of these faults: `BadLink` or `Loop` in the directory; `BadLink` or
-/// `Loop` in the file's chain; `OwnedTwice` at the file's first block that the map, the directory or another entry has
-/// too; `Unclosed` at the entry's directory sector. Nothing else is checked.
-///
-/// At Ok it returns the place where the file that was printed is cut short, if the disk is sound and the file is
-/// (`find_cut` of `damaged_files`). `NoProgram` if it isn't, and no program was listed: then all bytes were printed as if it were
-/// one.
-///
-/// Nothing was printed after `ImageSize`, `NoMemory`, and `NoFile` if no candidate has the name; nor after `Layout` if
-/// none has it in a directory that ends early. After `File` the output failed: it has a first part of the bytes in this
-/// form.
-pub fn bytes_image<W: Write>(
+/// Prints the bytes of a file as `bytes_image` does, of a disk of 35 tracks: its bytes are `image`.
+pub(crate) fn disk_bytes<W: Write>(
     alloc: Global,
     image: &[u8],
     candidates: Candidates,
@@ -74,9 +59,9 @@ pub fn bytes_image<W: Write>(
     form: FileForm,
     out: &mut W,
 ) -> Result<Option<Place>, CommandFault>
-    ensures ok { IfOk result (AreBytesTaken W.contents form candidates image.now name.now out.old out.new) }
-    ensures err { IfErr result (IsBytesFault W.contents form candidates image.now name.now out.old out.new) }
-    ensures part { OnErr result (IsBytesPart W.contents form candidates image.now name.now out.old out.new) }
+    ensures ok { IfOk result (AreDiskBytesTaken W.contents form candidates image.now name.now out.old out.new) }
+    ensures err { IfErr result (IsDiskBytesFault W.contents form candidates image.now name.now out.old out.new) }
+    ensures part { OnErr result (IsDiskBytesPart W.contents form candidates image.now name.now out.old out.new) }
 {
     let mut disk = load(alloc, image)?;
     let mut blocks = ArrayVec::new();

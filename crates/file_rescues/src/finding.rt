@@ -39,6 +39,10 @@ pub(crate) struct FoundFile {
     pub(crate) last: u8,
     /// Why this may not be the whole file.
     pub(crate) fault: Option<Fault>,
+    /// What ends its chain early.
+    pub(crate) broken: Option<Fault>,
+    /// Its chain aside, why this may not be the whole file.
+    pub(crate) apart: Option<Fault>,
 }
 
 /// Whether the entry may be found by its name.
@@ -120,16 +124,17 @@ fn unclosed_fault(slot: &Slot) -> Option<Fault>
 /// far as its links lead.
 ///
 /// Its fault is the first of these: what ends the directory early; what ends the file's chain early; `OwnedTwice` at its
-/// first block that the map, the directory or another entry has too; `Unclosed` at its directory sector. Without such an
-/// entry the error is what ends the directory early, or none.
+/// first block that the map, the directory or another entry has too; `Unclosed` at its directory sector. What ends the chain is
+/// returned by itself too, and so is the first of the others. Without such an entry the error is what ends the directory early, or none.
 pub(crate) fn find_file(
     disk: &MemDisk,
     kind: Kind,
     name: &[u8],
     blocks: &mut ArrayVec<Place, MOST_BLOCKS>,
 ) -> Result<FoundFile, Option<Fault>>
-    ensures ok { IfOk result (λ file.
-        IsHad (disk_image disk.now) kind name.now file.number file.slot blocks.new.items file.last file.fault) }
+    ensures ok { IfOk result (λ file. (had : IsHad (disk_image disk.now) kind name.now file.number file.slot
+        blocks.new.items file.last file.fault) × (file.broken ≡ had.broken)
+        × (file.apart ≡ found.apart_from_chain file.slot blocks.new.items had.ended had.all)) }
     ensures err { IfErr result (HasNone (disk_image disk.now) kind name.now) }
 {
     let mut sectors = ArrayVec::new();
@@ -143,13 +148,14 @@ pub(crate) fn find_file(
     let reach = reach_file(disk, &slot, blocks);
     let owners = owners_of(disk, sectors.as_slice(), slots);
     let shared = owners.first_shared(blocks.as_slice());
+    let several = shared_fault(shared);
+    let open = unclosed_fault(&slot);
     Ok(FoundFile {
         number,
         slot,
         last: reach.last,
-        fault: ended
-            .or(reach.fault)
-            .or(shared_fault(shared))
-            .or(unclosed_fault(&slot)),
+        fault: ended.or(reach.fault).or(several).or(open),
+        broken: reach.fault,
+        apart: ended.or(several).or(open),
     })
 }

@@ -50,7 +50,7 @@ fn print_each<W: Write>(
 ) -> Result<(), CommandFault>
     requires low { 1 ≤ size }
     requires high { size ≤ 254 }
-    requires short { length bytes.now ≤ 182880 }
+    requires short { length bytes.now ≤ 203708 }
     ensures ok { OnOk result (Appends (W.contents out.old) (W.contents out.new)
         (form_lines_to form (records_of size bytes.now) (length (records_of size bytes.now)))) }
     ensures part { OnErr result (HandsPart (W.contents out.old) (W.contents out.new)
@@ -90,7 +90,7 @@ fn hand_on<W: Write>(out: &mut W, room: &[u8; ROOM], used: usize) -> Result<usiz
 fn print_gathered<W: Write>(out: &mut W, bytes: &[u8], size: usize) -> Result<(), CommandFault>
     requires low { 1 ≤ size }
     requires high { size ≤ 254 }
-    requires short { length bytes.now ≤ 182880 }
+    requires short { length bytes.now ≤ 203708 }
     ensures ok { OnOk result (Appends (W.contents out.old) (W.contents out.new)
         (records_text (records_of size bytes.now))) }
     ensures part { OnErr result (HandsPart (W.contents out.old) (W.contents out.new)
@@ -120,7 +120,7 @@ pub fn print_pieces<W: Write>(
 ) -> Result<(), CommandFault>
     requires low { 1 ≤ size }
     requires high { size ≤ 254 }
-    requires short { length bytes.now ≤ 182880 }
+    requires short { length bytes.now ≤ 203708 }
     ensures ok { OnOk result (Appends (W.contents out.old) (W.contents out.new)
         (records_as form (records_of size bytes.now))) }
     ensures part { OnErr result (HandsPart (W.contents out.old) (W.contents out.new)

@@ -6,12 +6,16 @@ use Rattle.command_faults.specs.Outputs.{HandsPart}
 use Rattle.d64_image.specs.Images.{Image}
 use Rattle.d64_image.specs.Memory.{disk_image, sectors_in}
 use Rattle.disk_changes.proofs.Copied.{copied-in-memory}
-use Rattle.disk_changes.proofs.Repaired.{repaired-in-memory, repaired-size, undeleted-in-memory}
-use Rattle.disk_changes.specs.Changes.{IsBarred, IsChanged, IsDone, IsRefused}
+use Rattle.disk_changes.proofs.Repaired.{repaired-in-memory, undeleted-in-memory}
+use Rattle.damaged_files.specs.declared.sides.planning.Loss.{Loss}
+use Rattle.disk_changes.specs.Changes.{IsBarredBy, IsChanged, IsRefused}
+use Rattle.disk_changes.specs.Repairs.{frees}
 use Rattle.disk_changes.specs.declared.changes.Change.{Change}
-use Rattle.disk_changes.specs.declared.changes.Change.TheVariants as changes
+use Rattle.disk_changes.specs.declared.changes.ChangeKind.{ChangeKind}
+use Rattle.disk_changes.specs.declared.changes.ChangeKind.TheVariants as kinds
 use Rattle.disk_changes.specs.declared.changes.Changed.{Changed}
 use Rattle.command_faults.specs.declared.faults.CommandFault.{CommandFault}
+use Rattle.file_changes.specs.Names.{name_bytes}
 use Rattle.folder_changes.specs.FolderChanges.{GivesChanged, HasNotBegun, IsLeft, IsMade, IsToldAs, IsUnplaced}
 use Rattle.command_faults.specs.declared.faults.CommandFault.TheVariants as faults
 use Rattle.image_log.specs.life.Bringing.{RestsAlone, RestsWith}
@@ -56,44 +60,33 @@ printed contents Is Refuses Kept before after made is (Err fault) all part outpu
     subst (λ (s : CommandFault). IsToldAs contents Is Refuses Kept before after (Err s)) (sym output) (inr (made, is, part))
 
 -- what bars a change in memory is neither the output nor the device
-barred-in-memory : (what : Change) (image : List ℕ) → (IsBarred what image faults.File → ⊥) × (IsBarred what image faults.Device → ⊥)
-barred-in-memory (changes.Repair free cut) image = repaired-in-memory image free cut
-barred-in-memory (changes.Rebuild free cut) image = (
-  λ why. ⊎_elim (λ w. w) (λ w. (repaired-in-memory w.0 free cut).0 w.2) why,
-  λ why. ⊎_elim (λ w. w) (λ w. (repaired-in-memory w.0 free cut).1 w.2) why,
+barred-in-memory : (kind : ChangeKind) (loss : Loss) (source image : List ℕ)
+    → (IsBarredBy kind loss source image faults.File → ⊥) × (IsBarredBy kind loss source image faults.Device → ⊥)
+barred-in-memory (kinds.Repair unowned) loss source image = repaired-in-memory image (frees unowned) loss
+barred-in-memory (kinds.RepairSides unowned) loss source image = (
+  λ why. ⊎_elim (λ w. w) (λ w. (repaired-in-memory w.0 (frees unowned) loss).0 w.2) why,
+  λ why. ⊎_elim (λ w. w) (λ w. (repaired-in-memory w.0 (frees unowned) loss).1 w.2) why,
 )
-barred-in-memory (changes.Delete name cut) image =
+barred-in-memory (kinds.Delete name) loss source image =
     (λ why. ⊎_elim (λ w. w) (λ w. w.2) why, λ why. ⊎_elim (λ w. w) (λ w. w.2) why)
-barred-in-memory (changes.Undelete kind name cut) image = undeleted-in-memory image name.now kind cut
-barred-in-memory (changes.CopyFile source name to cut) image = copied-in-memory source.now name.now to.now image cut
-barred-in-memory changes.Sort image = (λ why. ⊎_elim (λ w. w) (λ w. w.3) why, λ why. ⊎_elim (λ w. w) (λ w. w.3) why)
-barred-in-memory _ image = (λ why. why, λ why. why)
+barred-in-memory (kinds.Undelete kind name) loss source image = undeleted-in-memory image (name_bytes name) kind loss
+barred-in-memory (kinds.CopyFile from name to) loss source image =
+    copied-in-memory source (name_bytes name) (name_bytes to) image loss
+barred-in-memory kinds.Sort loss source image =
+    (λ why. ⊎_elim (λ w. w) (λ w. w.3) why, λ why. ⊎_elim (λ w. w) (λ w. w.3) why)
+barred-in-memory _ loss source image = (λ why. why, λ why. why)
 
 -- and so it is with art aside
 pub in-memory : (what : Change) (image : List ℕ) → (IsRefused what image faults.File → ⊥) × (IsRefused what image faults.Device → ⊥)
-in-memory what image = (
-  λ why. ⊎_elim (λ w. (barred-in-memory what image).0 w.0) (λ rest. ⊎_elim (λ load. load) (λ w. (barred-in-memory what w.1).0 w.3) rest) why,
-  λ why. ⊎_elim (λ w. (barred-in-memory what image).1 w.0) (λ rest. ⊎_elim (λ load. load) (λ w. (barred-in-memory what w.1).1 w.3) rest) why,
-)
+in-memory what image =
+    let barred = barred-in-memory what.kind.now what.loss what.source.now in (
+      λ why. ⊎_elim (λ w. (barred image).0 w.0) (λ rest. ⊎_elim (λ load. load) (λ w. (barred w.1).0 w.3) rest) why,
+      λ why. ⊎_elim (λ w. (barred image).1 w.0) (λ rest. ⊎_elim (λ load. load) (λ w. (barred w.1).1 w.3) rest) why,
+    )
 
 -- an image that is changed has the size of one
-sized-done : (what : Change) (image : List ℕ) (made : Changed) → IsDone what image made → length image ≡ 174848
-sized-done (changes.Rename from to) image made is = is.before.size
-sized-done (changes.Title id name) image made is = is.before.size
-sized-done (changes.Lock lock name) image made is = is.before.size
-sized-done (changes.Delete name cut) image made is = is.before.taken.0
-sized-done (changes.Undelete kind name cut) image made is = is.retyped.before.size
-sized-done (changes.CopyFile source name to cut) image made is =
-    ⊎_elim (λ plain. plain.1.put.before.taken.0) (λ records. records.3.new.before.taken.0) is.copy
-sized-done changes.Sort image made is = is.before.size
-sized-done (changes.Put name kind content cut) image made is = is.before.taken.0
-sized-done (changes.Make name L cut) image made is = is.before.taken.0
-sized-done (changes.Store name text cut) image made is = is.before.taken.0
-sized-done (changes.Repair free cut) image made is = repaired-size image free cut made is
-sized-done (changes.Rebuild free cut) image made is = ⊎_elim (λ w. w.built.0) (λ w. w.size) is
-
 pub sized : (what : Change) (image : List ℕ) (made : Changed) → IsChanged what image made → length image ≡ 174848
-sized what image made is = ⊎_elim (sized-done what image made) (λ w. w.1.aside.art.size) is
+sized what image made is = is.0
 
 -- nothing is printed of a change that isn't put in place
 pub unplaced : {W D : Type 0} (h : FolderHistory D) (contents : W → Option (List ℕ)) (what : Change) (image : List ℕ) (old new : D)

@@ -37,7 +37,7 @@ pub trait HostImages: HostLogs {
         out: &mut W,
     ) -> io::Result<Result<u16, CommandFault>>
         requires log { MayKeepLogOf Self.rights self.now (string_bytes names.now.image) }
-        requires fit { IsFit what.now }
+        requires fit { IsFit what.now.kind.now }
         ensures run { IfOk result (IsToldAs W.contents
             (λ made. IsChanged what.now image.now made × changed self.now (string_bytes names.now.image) image.now made)
             (IsRefused what.now image.now) ⊤ out.old out.new) }

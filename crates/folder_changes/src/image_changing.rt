@@ -74,7 +74,7 @@ pub fn show_change<W: Write>(
     what: &Change<'_>,
     out: &mut W,
 ) -> Result<u16, CommandFault>
-    requires fit { IsFit what.now }
+    requires fit { IsFit what.now.kind.now }
     ensures { IsChangePrinted what.now image.now W.contents out.old out.new result }
 {
     let made = change(alloc, what, image)?;
@@ -95,7 +95,7 @@ pub fn change_image<F: LogFile, D: LogFolder<F>, W: Write>(
     what: &Change<'_>,
     out: &mut W,
 ) -> Result<u16, CommandFault>
-    requires fit { IsFit what.now }
+    requires fit { IsFit what.now.kind.now }
     ensures run { IsChangeOver D.history what.now image.now folder.old folder.new W.contents out.old out.new result }
     ensures any_moment { RestsAlone D.history folder.old (sectors_in image.now)
         → LeavesFolders D.history folder.old folder.new (GivesChanged what.now image.now) }

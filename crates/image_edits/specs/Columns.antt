@@ -1,8 +1,8 @@
 -- A text of records as a job stores it. Our own.
 use Rattle.std.specs.Prelude.{ℕ, List}
 use Rattle.disk_changes.specs.lines.ColumnLines.{plain_text}
-use Rattle.image_edits.specs.declared.edit.Columns.{Columns}
-use Rattle.image_edits.specs.declared.edit.Columns.TheVariants as columns
+use Rattle.disk_changes.specs.declared.changes.Columns.{Columns}
+use Rattle.disk_changes.specs.declared.changes.Columns.TheVariants as columns
 
 -- the text with one column for each record
 abbrev pub text_in : Columns → List ℕ → List ℕ

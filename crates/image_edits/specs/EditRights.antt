@@ -1,9 +1,9 @@
 -- What a change may do with the files that it names. Our own.
 use Rattle.std.specs.Prelude.{⊤, ℕ, List}
-use Rattle.image_edits.specs.declared.edit.Edit.{Edit}
-use Rattle.image_edits.specs.declared.edit.Edit.TheVariants as edits
-use Rattle.image_edits.specs.declared.edit.Effect.{Effect}
-use Rattle.image_edits.specs.declared.edit.Effect.TheVariants.{Printed, Written}
+use Rattle.disk_changes.specs.declared.changes.ChangeKind.{ChangeKind}
+use Rattle.disk_changes.specs.declared.changes.ChangeKind.TheVariants as kinds
+use Rattle.image_edits.specs.declared.effect.Effect.{Effect}
+use Rattle.image_edits.specs.declared.effect.Effect.TheVariants.{Printed, Written}
 use Rattle.image_file.specs.paths.Rights.{Rights}
 use Rattle.opened_files.specs.Rights.{MayReadImage, MayReadText, MayChangeImage}
 
@@ -14,8 +14,8 @@ module _ {H : Type 0} (rights : Rights H) (host : H) where
   MayEdit Printed path = MayReadImage rights host path
 
   -- the file whose bytes a change takes, or the image, may be read
-  abbrev pub MayReadSource : Edit → Type 0
-  MayReadSource (edits.Put file kind loss name) = MayReadText rights host file.now
-  MayReadSource (edits.Store records columns loss name) = MayReadText rights host records.now
-  MayReadSource (edits.CopyFile from loss name to) = MayReadImage rights host from.now
+  abbrev pub MayReadSource : ChangeKind → Type 0
+  MayReadSource (kinds.Put file kind name) = MayReadText rights host file.now
+  MayReadSource (kinds.Store records columns name) = MayReadText rights host records.now
+  MayReadSource (kinds.CopyFile from name to) = MayReadImage rights host from.now
   MayReadSource _ = ⊤

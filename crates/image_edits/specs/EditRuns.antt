@@ -4,17 +4,19 @@ use Rattle.image_file.specs.Remains.{Remains}
 use Rattle.image_file.specs.paths.Rights.{Rights}
 use Rattle.image_file.specs.paths.Standing.{Stands}
 use Rattle.image_file.specs.paths.Traces.{Traces}
+use Rattle.damaged_files.specs.declared.sides.planning.Loss.{Loss}
+use Rattle.disk_changes.specs.Changes.{IsChangedBy, IsUnchangedBy}
 use Rattle.disk_changes.specs.declared.changes.Changed.{Changed}
+use Rattle.disk_changes.specs.declared.changes.ChangeKind.{ChangeKind}
 use Rattle.image_edits.specs.Changes.{IsChangeEnd, IsChangedAt, IsShownEnd}
 use Rattle.image_edits.specs.Copies.{IsCopyEnd}
-use Rattle.image_edits.specs.Edits.{IsEdited, IsTextFor, IsUnedited, loss_of}
 use Rattle.opened_files.specs.Ends.{JobEnd}
 use Rattle.opened_files.specs.HostFiles.{IsUnread, OfImage, OfWritten, RunEnds}
 use Rattle.opened_files.specs.Losses.{IsNear, NearRunEnds}
 use Rattle.image_edits.specs.Salvages.{IsSalvageEnd}
-use Rattle.image_edits.specs.declared.edit.Edit.{Edit}
-use Rattle.image_edits.specs.declared.edit.Effect.{Effect}
-use Rattle.image_edits.specs.declared.edit.Effect.TheVariants.{Printed, Written}
+use Rattle.image_edits.specs.Sources.{IsSourceFor}
+use Rattle.image_edits.specs.declared.effect.Effect.{Effect}
+use Rattle.image_edits.specs.declared.effect.Effect.TheVariants.{Printed, Written}
 use Rattle.image_log.specs.life.Tags.{SaysLogAway}
 
 module _ {H F W : Type 0} (rights : Rights H) (stands : H → List ℕ → Stands) (traces : Traces H F) (remains : Remains F)
@@ -34,14 +36,15 @@ module _ {H W : Type 0} (rights : Rights H) (stands : H → List ℕ → Stands)
     (changed : H → (path image : List ℕ) → Changed → Type 0) (contents : W → Option (List ℕ)) (host : H) where
   -- Its files were changed, all or nothing, or only what the change would print was printed. That isn't done to an image
   -- whose log has the rest, unless the loss of it is accepted.
-  abbrev pub IsEditOver : Effect → List ℕ → Edit → W → W → JobEnd → Type 0
-  IsEditOver Written path edit old new end = NearRunEnds (loss_of edit)
-      (OfWritten stands host path (λ all. SaysLogAway (take 174849 all))) old new end ((image text : List ℕ)
+  abbrev pub IsEditOver : Effect → List ℕ → ChangeKind → Loss → W → W → JobEnd → Type 0
+  IsEditOver Written path kind loss old new end = NearRunEnds loss
+      (OfWritten stands host path (λ all. SaysLogAway (take 174849 all))) old new end ((image source : List ℕ)
       × OfWritten stands host path (λ all. image ≡ take 174849 all) × (¬ (SaysLogAway image))
-      × IsTextFor rights stands host edit text × IsChangeEnd contents
-      (λ made. IsEdited edit text image made × IsChangedAt rights changed host path image made)
-      (IsUnedited edit text image) old new end)
-  IsEditOver Printed path edit old new end = NearRunEnds (loss_of edit)
-      (OfImage rights stands host path (λ all. SaysLogAway (take 174849 all))) old new end ((image text : List ℕ)
-      × OfImage rights stands host path (λ all. image ≡ take 174849 all) × IsNear (loss_of edit) image
-      × IsTextFor rights stands host edit text × IsShownEnd contents (IsEdited edit text image) (IsUnedited edit text image) old new end)
+      × IsSourceFor rights stands host kind source × IsChangeEnd contents
+      (λ made. IsChangedBy kind loss source image made × IsChangedAt rights changed host path image made)
+      (IsUnchangedBy kind loss source image) old new end)
+  IsEditOver Printed path kind loss old new end = NearRunEnds loss
+      (OfImage rights stands host path (λ all. SaysLogAway (take 174849 all))) old new end ((image source : List ℕ)
+      × OfImage rights stands host path (λ all. image ≡ take 174849 all) × IsNear loss image
+      × IsSourceFor rights stands host kind source
+      × IsShownEnd contents (IsChangedBy kind loss source image) (IsUnchangedBy kind loss source image) old new end)

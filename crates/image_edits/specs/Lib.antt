@@ -4,7 +4,7 @@ pub mod Containers
 pub mod Copies
 pub mod EditRights
 pub mod EditRuns
-pub mod Edits
 pub mod NewDisks
 pub mod Salvages
+pub mod Sources
 pub mod Trims

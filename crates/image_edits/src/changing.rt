@@ -77,7 +77,7 @@ where
     W: Write,
     requires image { MayChangeImage R.rights rt.now path.now }
     requires owned { F.IsOwned file }
-    requires fit { IsFit what.now }
+    requires fit { IsFit what.now.kind.now }
     ensures { RunEnds out.old out.new result (IsChangeEnd W.contents
         (λ made. IsChanged what.now image.now made × IsChangedAt R.rights R.changed rt.now path.now image.now made)
         (IsRefused what.now image.now) out.old out.new result) }

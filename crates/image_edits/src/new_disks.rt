@@ -2,7 +2,7 @@
 ghost use Rattle.std.specs.Prelude.{◌≤◌, IfOk, length};
 ghost use Rattle.d64_image.specs.Memory.{disk_image};
 ghost use Rattle.file_changes.specs.Formats.{IsNewDisk};
-ghost use Rattle.opened_files.specs.Names.{name_bytes};
+ghost use Rattle.file_changes.specs.Names.{name_bytes};
 ghost use Rattle.image_edits.specs.NewDisks.{IsNewDiskEnd};
 ghost use Rattle.opened_files.specs.Rights.{MayMakeImage};
 
@@ -10,9 +10,8 @@ use crate::copying::make_told;
 use command_faults::CommandFault;
 use d64_image::MemDisk;
 use disk_layout::Fault;
-use file_changes::new_disk;
+use file_changes::{Name, new_disk};
 use image_file::{EndedFile, HostFiles, Locks};
-use opened_files::Name;
 use std::alloc::Global;
 use std::fs::OpenFile;
 use std::io::Write;

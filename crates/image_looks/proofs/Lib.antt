@@ -1,3 +1,4 @@
+pub mod Compared
 pub mod EachTold
 pub mod ExtractSaid
 pub mod Listed

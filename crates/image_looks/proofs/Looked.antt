@@ -55,9 +55,11 @@ SaysShort _ = ⊥
 pub no-cut-bytes : {W : Type 0} (contents : W → Option (List ℕ)) (form : FileForm) (candidates : Candidates)
     (image name : List ℕ) (old new : W) (p : Place)
     → WhyNoBytes contents form candidates image name old new (faults.Short p) → ⊥
-no-cut-bytes contents form candidates image name old new p (inl other, part) =
+no-cut-bytes contents form candidates image name old new p (inl (none, inl other), part) =
     subst (λ (why : CommandFault). SaysShort why) other.0 tt
-no-cut-bytes contents form candidates image name old new p (inr never, part) = never
+no-cut-bytes contents form candidates image name old new p (inl (none, inr never), part) = never
+no-cut-bytes contents form candidates image name old new p (inr (inl (never, same)), part) = never
+no-cut-bytes contents form candidates image name old new p (inr (inr (sectors, apart, file, never)), part) = never
 
 -- three clauses of what was done are one
 pub if-all : {T E : Type 0} (P Q R : T → Type 0) (ended : Result T E) → IfOk ended P → IfOk ended Q → IfOk ended R

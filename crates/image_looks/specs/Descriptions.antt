@@ -1,56 +1,62 @@
 -- What comes of images that are described. All of it is our own.
-use Rattle.std.specs.Prelude.{◌≡◌, ◌⊎◌, ℕ, List, [], None, Option, Ok, Err}
+use Rattle.std.specs.Prelude.{◌≡◌, ◌⊎◌, ℕ, List, [], Option, Result, Ok, Err}
 use Rattle.std.specs.Io.KnownBytes.{Appends}
 use Rattle.command_faults.specs.declared.faults.CommandFault.{CommandFault}
-use Rattle.disk_reports.specs.Descriptions.{heading_text, refusal_text}
 use Rattle.disk_reports.specs.Outcomes.{IsDescribeFault, IsDescribed}
 use Rattle.disk_reports.specs.Plans.{plan_heading}
+use Rattle.disk_reports.specs.Rows.{heading, refused_row}
 use Rattle.image_looks.specs.Plans.{IsPlanFault, IsPlanOf, IsPlanRefusal}
 use Rattle.image_looks.specs.declared.descriptions.ImageForm.{ImageForm}
 use Rattle.image_looks.specs.declared.descriptions.ImageForm.TheVariants as forms
 use Rattle.disk_layout.specs.declared.faults.Fault.{Fault}
 use Rattle.image_looks.specs.EachImage.{Loaded}
-use Rattle.image_looks.specs.ShownObjects.{IsShownAs, IsShownFault}
-use Rattle.json_looks.specs.Objects.{IsObjectPrinted, refused_data}
+use Rattle.image_looks.specs.ShownObjects.{IsShownAs, IsShownFault, refusal_data}
+use Rattle.json_looks.specs.Objects.{IsObjectPrinted}
 use Rattle.opened_files.specs.Ends.{end_status}
 use Rattle.command_faults.specs.Faults.{command_status, command_text}
 
 -- what stands before the first image
 abbrev pub heading_of : ImageForm → List ℕ
-heading_of (forms.Described form) = heading_text form
+heading_of forms.Table = heading
 heading_of (forms.Planned form) = plan_heading form
 heading_of (forms.Shown object) = []
 
 -- an image at this path that is refused was printed: by why, and by the size that the system says
 abbrev pub IsRefusalPrinted : {W : Type 0} → (W → Option (List ℕ)) → ImageForm → List ℕ → CommandFault → W → W → Type 0
-IsRefusalPrinted contents (forms.Described form) path refusal old new =
-    (size : Option ℕ) × Appends (contents old) (contents new) (refusal_text form path size (command_text refusal))
+IsRefusalPrinted contents forms.Table path refusal old new =
+    (size : Option ℕ) × Appends (contents old) (contents new) (refused_row path size (command_text refusal))
 IsRefusalPrinted contents (forms.Planned form) path refusal old new = IsPlanRefusal contents form path refusal old new
 IsRefusalPrinted contents (forms.Shown object) path refusal old new =
-    IsObjectPrinted contents (refused_data path (command_text refusal)) old new
+    (size : Option ℕ) × IsObjectPrinted contents (refusal_data object path size (command_text refusal)) old new
 
 -- and its status is that of the refusal
 abbrev pub IsRefusalDescribed : {W : Type 0} → (W → Option (List ℕ)) → ImageForm → List ℕ → CommandFault → W → W → ℕ → Type 0
 IsRefusalDescribed contents form path refusal old new status =
     IsRefusalPrinted contents form path refusal old new × (status ≡ command_status refusal)
 
--- an image at this path with these bytes was described, and a check of it finds this
-abbrev pub IsOneDescribed : {W : Type 0} → (W → Option (List ℕ)) → ImageForm → (path image : List ℕ) → W → W → Option Fault → Type 0
-IsOneDescribed contents (forms.Described form) path image old new found = IsDescribed contents form path image old new found
-IsOneDescribed contents (forms.Planned form) path image old new found = IsPlanOf contents form path image old new found
-IsOneDescribed contents (forms.Shown object) path image old new found =
-    (found ≡ None) × IsShownAs contents object path image old new
+-- the exit status of a check that finds this; or why it isn't made
+abbrev pub found_status : Result (Option Fault) CommandFault → Result ℕ CommandFault
+found_status (Ok found) = Ok (end_status (Ok found))
+found_status (Err fault) = Err fault
+
+-- an image at this path with these bytes was described, and a check of it alone would have this exit status
+abbrev pub IsOneDescribed : {W : Type 0} → (W → Option (List ℕ)) → ImageForm → (path image : List ℕ) → W → W → ℕ → Type 0
+IsOneDescribed contents forms.Table path image old new status =
+    (found : Option Fault) × IsDescribed contents path image old new found × (status ≡ end_status (Ok found))
+IsOneDescribed contents (forms.Planned form) path image old new status =
+    (found : Option Fault) × IsPlanOf contents form path image old new found × (status ≡ end_status (Ok found))
+IsOneDescribed contents (forms.Shown object) path image old new status = IsShownAs contents object path image old new status
 
 -- why it isn't
 abbrev pub IsDescribingFault : ImageForm → (image : List ℕ) → CommandFault → Type 0
-IsDescribingFault (forms.Described form) image fault = IsDescribeFault image fault
+IsDescribingFault forms.Table image fault = IsDescribeFault image fault
 IsDescribingFault (forms.Planned form) image fault = IsPlanFault image fault
 IsDescribingFault (forms.Shown object) image fault = IsShownFault object image fault
 
 -- an image at this path that has these bytes was described, with the status of its check
 abbrev pub IsImageDescribed : {W : Type 0} → (W → Option (List ℕ)) → ImageForm → List ℕ → (image : List ℕ) → W → W → ℕ → Type 0
 IsImageDescribed contents form path image old new status =
-    ((found : Option Fault) × IsOneDescribed contents form path image old new found × (status ≡ end_status (Ok found)))
+    IsOneDescribed contents form path image old new status
     ⊎ ((fault : CommandFault) × IsDescribingFault form image fault
     × IsRefusalDescribed contents form path fault old new status)
 

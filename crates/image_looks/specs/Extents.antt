@@ -10,7 +10,7 @@ use Rattle.opened_files.specs.declared.extents.Extent.{Extent}
 use Rattle.opened_files.specs.declared.extents.Extent.TheVariants.{Disk, FirstTracks, Whole}
 
 -- a directory, a check and a shop of a disk of 35 tracks alone, unless they are asked for as the image is; those of the whole image,
--- and so a map and a page; everything besides of the first 35 tracks of a longer image
+-- and so a map, a page and the bytes of a file; everything besides of the first 35 tracks of a longer image
 abbrev pub extent_of : Look → Extent
 extent_of (looks.List form) = Disk
 extent_of looks.Check = Disk
@@ -19,12 +19,16 @@ extent_of (looks.Show loss) = Disk
 extent_of (looks.AsIs what) = Whole
 extent_of looks.Map = Whole
 extent_of looks.Picture = Whole
+extent_of (looks.Bytes form candidates name) = Whole
 extent_of _ = FirstTracks
 
--- which images are shown as an object: as the look's, and where they may be longer, their first 35 tracks
+-- which images are shown as an object: as the look's, and where they may be longer, their first 35 tracks, but a check and a map of the whole
+-- image
 abbrev pub object_extent : ImageObject → Extent
+object_extent (objects.Check as_is) = if as_is then Whole else Disk
 object_extent (objects.List as_is) = if as_is then FirstTracks else Disk
 object_extent objects.Free = FirstTracks
+object_extent objects.Map = Whole
 object_extent (objects.Show loss as_is) = if as_is then FirstTracks else Disk
 
 -- and which are described

@@ -5,7 +5,7 @@ use Rattle.damaged_files.specs.cut.Told.{shortfall_text}
 use Rattle.damaged_files.specs.reached.Sizes.{IsImageSize, disk_of}
 use Rattle.damaged_files.specs.declared.cut.shortfalls.Shortfall.{Shortfall}
 use Rattle.disk_layout.specs.declared.faults.Fault.{Fault}
-use Rattle.disk_pictures.specs.Missing.{IsMissing}
+use Rattle.disk_pictures.specs.Missing.{IsMisread}
 use Rattle.file_rescues.specs.declared.rescue.mem_folder.MemFile.{MemFile}
 use Rattle.file_rescues.specs.rescue.Folders.{NewFile}
 use Rattle.file_rescues.specs.rescue.Memory.{file_in}
@@ -38,11 +38,11 @@ extracted_text (Some lack) = codes "EXTRACTED\n" ++ (shortfall_text lack ++ code
 
 -- How it is reported whether the job is refused. If it isn't, this text is printed, or the output failed. If it was printed, the
 -- job ends as these lines say
-abbrev pub IsExtractTold : {W : Type 0} → (W → Option (List ℕ)) → Option CommandFault → (text missing : List ℕ) → W → W → JobEnd
+abbrev pub IsExtractTold : {W : Type 0} → (W → Option (List ℕ)) → Option CommandFault → (text errors : List ℕ) → W → W → JobEnd
     → Type 0
-IsExtractTold contents (Some refusal) text missing old new end = (end ≡ Err refusal) × (new ≡ old)
-IsExtractTold contents None text missing old new end =
-    ((end ≡ reported_end None missing) × Appends (contents old) (contents new) text)
+IsExtractTold contents (Some refusal) text errors old new end = (end ≡ Err refusal) × (new ≡ old)
+IsExtractTold contents None text errors old new end =
+    ((end ≡ reported_end None errors) × Appends (contents old) (contents new) text)
     ⊎ ((end ≡ Err faults.File) × AppendsPart (contents old) (contents new) text)
 
 -- a folder wasn't made, for this reason
@@ -54,17 +54,17 @@ abbrev pub IsUnseen : (image : List ℕ) → CommandFault → Type 0
 IsUnseen image fault = (fault ≡ faults.NoMemory) ⊎ ((fault ≡ faults.ImageSize) × ¬ (IsImageSize (length image)))
 
 -- The chosen files of the disk in the image were gathered, or not all for a fault. If they were, the folder was made with them
--- (`Made`), whatever is reported of them: what is seen of files that lack something, and what isn't on that disk. Or it couldn't be
+-- (`Made`), whatever is reported of them: what is seen of files that lack something, and which sectors of that disk weren't read. Or it couldn't be
 -- made, and nothing was printed. Or that couldn't be seen, and nothing was done.
 abbrev pub IsExtractRun : {W : Type 0} → (Made : List MemFile → Type 0) → (Failed : Type 0) → (W → Option (List ℕ)) → Choice
     → (image : List ℕ) → W → W → JobEnd → Type 0
 IsExtractRun Made Failed contents choice image old new end =
     ((fault : CommandFault) × IsUnseen image fault × (end ≡ Err fault) × (new ≡ old))
-    ⊎ ((ended : Result (Option Fault) CommandFault) × (lack : Option Shortfall) × (missing : List ℕ) × (files : List MemFile)
+    ⊎ ((ended : Result (Option Fault) CommandFault) × (lack : Option Shortfall) × (errors : List ℕ) × (files : List MemFile)
     × MatchResult ended (IsExtracted {F = List NewFile} (λ all. Some all) choice image [] (map file_in files))
     (IsExtractFault {F = List NewFile} (λ all. Some all) choice image [] (map file_in files)) × IsSeen (disk_of image) lack
-    × IsMissing image missing
-    × ((IsExtractTold contents (refusal_of ended lack) (extracted_text lack ++ missing) missing old new end
+    × IsMisread image errors
+    × ((IsExtractTold contents (refusal_of ended lack) (extracted_text lack ++ errors) errors old new end
     × (IsOk ended → Made files))
     ⊎ (IsOk ended × Failed × (fault : CommandFault) × (end ≡ Err fault) × IsUnmade fault × (new ≡ old))))
 

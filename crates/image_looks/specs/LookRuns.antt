@@ -31,7 +31,7 @@ module _ {H W : Type 0} (rights : Rights H) (stands : H → List ℕ → Stands)
   abbrev pub IsComparedOver : List ℕ → List ℕ → W → W → JobEnd → Type 0
   IsComparedOver before after old new end = OfImage rights stands host before (λ first.
       OfImage rights stands host after (λ second. RunEnds old new end
-      (IsComparingRun contents before (taken_as FirstTracks first) after (taken_as FirstTracks second) old new end)))
+      (IsComparingRun contents before (taken_as Whole first) after (taken_as Whole second) old new end)))
 
   -- the images at these paths were drawn on a sheet
   abbrev pub AreDrawnOnSheet : List (List ℕ) → W → W → JobEnd → Type 0

@@ -18,7 +18,7 @@ use Rattle.image_log.specs.life.Tags.{SaysLogAway}
 use Rattle.command_faults.specs.declared.faults.CommandFault.{CommandFault}
 use Rattle.opened_files.specs.Ends.{JobEnd, IsPrintEnd, IsQuietPrint}
 use Rattle.opened_files.specs.Losses.{IsAwayEnd, IsNear}
-use Rattle.opened_files.specs.Names.{name_bytes}
+use Rattle.file_changes.specs.Names.{name_bytes}
 use Rattle.damaged_files.specs.declared.sides.planning.Loss.{Loss}
 use Rattle.image_looks.specs.Reports.{IsChecked, IsReportEnd}
 use Rattle.image_looks.specs.declared.reporting.Report.TheVariants as reports

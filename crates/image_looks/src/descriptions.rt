@@ -4,7 +4,7 @@ ghost use Rattle.std.specs.Prelude.{◌≡◌, ◌≢◌, All, IfOk, map, IfErr,
 ghost use Rattle.std.specs.Io.KnownBytes.{Appends};
 ghost use Rattle.command_faults.specs.declared.faults.CommandFault.TheVariants as faults;
 ghost use Rattle.image_looks.specs.Descriptions.{IsDescribedFrom, IsDescribingFault, IsImageDescribed, IsOneDescribed};
-ghost use Rattle.image_looks.specs.Descriptions.{IsRefusalDescribed, IsRefusalPrinted, heading_of as heading_text};
+ghost use Rattle.image_looks.specs.Descriptions.{IsRefusalDescribed, IsRefusalPrinted, found_status, heading_of as heading_text};
 ghost use Rattle.image_looks.specs.EachImage.{IsCutOff, as_loaded};
 ghost use Rattle.image_looks.specs.Extents.{form_extent};
 ghost use Rattle.image_looks.specs.LookRuns.{AreDescribed};
@@ -16,9 +16,7 @@ use crate::objects::{ImageObject, show_object, show_refused};
 use crate::plans::{plan_against, plan_of};
 use command_faults::CommandFault;
 use disk_layout::Fault;
-use disk_reports::{
-    DescriptionForm, PlanForm, describe_image, describe_refusal, heading, plan_heading,
-};
+use disk_reports::{PlanForm, describe_image, describe_refusal, heading, plan_heading};
 use image_file::{HostFiles, Locks};
 use opened_files::{Extent, size_of};
 use std::alloc::Global;
@@ -28,8 +26,8 @@ use std::io::{Read, Write};
 /// How images are described.
 #[derive(Clone, Copy, Debug, PartialEq, Eq)]
 pub enum ImageForm {
-    /// By what is known of each.
-    Described(DescriptionForm),
+    /// By a row of a table of what is known of each: comma-separated values (RFC 4180), below a heading.
+    Table,
     /// By what can be done for each.
     Planned(PlanForm),
     /// By an object of what a look prints of each.
@@ -53,16 +51,15 @@ fn heading_of(form: ImageForm) -> &'static [u8]
     ensures { result.now ≡ heading_text form }
 {
     match form {
-        ImageForm::Described(form) => heading(form),
+        ImageForm::Table => heading(),
         ImageForm::Planned(form) => plan_heading(form),
         ImageForm::Shown(_) => b"",
     }
 }
 
-/// Prints what is known of an image that is refused.
+/// Prints the row of an image that is refused.
 fn print_refused<R, W>(
     rt: &R,
-    form: DescriptionForm,
     path: &str,
     refusal: CommandFault,
     out: &mut W,
@@ -71,19 +68,13 @@ where
     R: HostFiles + AllocGlobal,
     W: Write,
     requires { MayLook R.rights rt.now path.now }
-    ensures ok { OnOk result (IsRefusalPrinted W.contents (forms.Described form) path.now refusal out.old out.new) }
+    ensures ok { OnOk result (IsRefusalPrinted W.contents forms.Table path.now refusal out.old out.new) }
     ensures err { IfErr result IsCutOff }
 {
     let Ok(why) = format!(in rt.alloc(); "{refusal}") else {
         return Err(CommandFault::NoMemory);
     };
-    describe_refusal(
-        form,
-        path.as_bytes(),
-        size_of(rt, path),
-        why.as_bytes(),
-        out,
-    )
+    describe_refusal(path.as_bytes(), size_of(rt, path), why.as_bytes(), out)
 }
 
 /// Prints of the image at a path that is refused what the command would print of it alone.
@@ -102,7 +93,7 @@ where
     ensures err { IfErr result IsCutOff }
 {
     match form {
-        ImageForm::Described(form) => print_refused(rt, form, path, refusal, out),
+        ImageForm::Table => print_refused(rt, path, refusal, out),
         ImageForm::Planned(form) => plan_against(
             rt.alloc(),
             form,
@@ -111,7 +102,14 @@ where
             size_of(rt, path),
             out,
         ),
-        ImageForm::Shown(_) => show_refused(rt.alloc(), path, refusal, out),
+        ImageForm::Shown(object) => show_refused(
+            rt.alloc(),
+            object,
+            path,
+            size_of(rt, path),
+            refusal,
+            out,
+        ),
     }
 }
 
@@ -134,21 +132,32 @@ where
     Ok(refusal.status())
 }
 
-/// Describes an image with these bytes. Returns the fault that a check of it finds.
+/// The exit status of a check that finds this; or why it isn't made.
+fn status_by_fault(found: Result<Option<Fault>, CommandFault>) -> Result<u8, CommandFault>
+    ensures { result ≡ found_status found }
+{
+    match found {
+        Ok(None) => Ok(0),
+        Ok(Some(_)) => Ok(1),
+        Err(fault) => Err(fault),
+    }
+}
+
+/// Describes an image with these bytes. Returns the exit status that a check of it alone would have.
 fn describe_one<W: Write>(
     alloc: Global,
     form: ImageForm,
     path: &str,
     image: &[u8],
     out: &mut W,
-) -> Result<Option<Fault>, CommandFault>
+) -> Result<u8, CommandFault>
     ensures ok { IfOk result (IsOneDescribed W.contents form path.now image.now out.old out.new) }
     ensures err { IfErr result (IsDescribingFault form image.now) }
     ensures untouched { IfErr result (λ fault. (fault ≢ faults.File) → out.new ≡ out.old) }
 {
     match form {
-        ImageForm::Described(form) => describe_image(alloc, form, path.as_bytes(), image, out),
-        ImageForm::Planned(form) => plan_of(alloc, form, path, image, out),
+        ImageForm::Table => status_by_fault(describe_image(alloc, path.as_bytes(), image, out)),
+        ImageForm::Planned(form) => status_by_fault(plan_of(alloc, form, path, image, out)),
         ImageForm::Shown(object) => show_object(alloc, object, path, image, out),
     }
 }
@@ -171,8 +180,7 @@ where
     ensures err { IfErr result IsCutOff }
 {
     match describe_one(rt.alloc(), form, path, image, out) {
-        Ok(None) => Ok(0),
-        Ok(Some(_)) => Ok(1),
+        Ok(status) => Ok(status),
         Err(CommandFault::File) => Err(CommandFault::File),
         Err(fault) => print_refusal(rt, form, path, fault, out),
     }

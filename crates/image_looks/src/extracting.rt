@@ -13,7 +13,7 @@ use crate::reporting::reported_end;
 use command_faults::CommandFault;
 use damaged_files::{Shortfall, disk_in};
 use disk_layout::Fault;
-use disk_pictures::missing_lines;
+use disk_pictures::error_lines;
 use file_rescues::{Choice, extract_image};
 use image_file::{EndedFile, HostFiles, Locks};
 use opened_files::{Extent, image_as, short_refusal, shortfall_in};
@@ -56,36 +56,36 @@ fn add_extracted(text: &mut Vec<u8>, lack: Option<Shortfall>) -> io::Result<()>
     }
 }
 
-/// That all files are made, what one lacks, and these lines, which say what isn't on the disk of the image. `NoMemory`.
+/// That all files are made, what one lacks, and these lines, which say what a drive couldn't read. `NoMemory`.
 fn extracted_lines(
     alloc: Global,
     lack: Option<Shortfall>,
-    missing: &[u8],
+    errors: &[u8],
 ) -> Result<Vec<u8>, CommandFault>
-    ensures ok { IfOk result (λ text. text.items ≡ extracted_text lack ++ missing.now) }
+    ensures ok { IfOk result (λ text. text.items ≡ extracted_text lack ++ errors.now) }
     ensures err { IfErr result (λ fault. fault ≡ faults.NoMemory) }
 {
     let mut text = Vec::new(alloc);
-    if add_extracted(&mut text, lack).is_err() || text.extend_from_slice(missing).is_err() {
+    if add_extracted(&mut text, lack).is_err() || text.extend_from_slice(errors).is_err() {
         return Err(CommandFault::NoMemory);
     }
     Ok(text)
 }
 
-/// Prints this text, unless the job is refused. Returns how it ended, where these lines say what isn't on the disk of the image.
+/// Prints this text, unless the job is refused. Returns how it ended, where these lines say what a drive couldn't read.
 fn tell_extracted<W: Write>(
     refused: Option<CommandFault>,
     text: &[u8],
-    missing: &[u8],
+    errors: &[u8],
     out: &mut W,
 ) -> Result<Option<Fault>, CommandFault>
-    ensures { IsExtractTold W.contents refused text.now missing.now out.old out.new result }
+    ensures { IsExtractTold W.contents refused text.now errors.now out.old out.new result }
 {
     if let Some(refusal) = refused {
         return Err(refusal);
     }
     print_whole(out, text)?;
-    reported_end(None, missing)
+    reported_end(None, errors)
 }
 
 /// Makes a folder with the files that were gathered; none if they weren't all. `Exists` if something stands in its place,
@@ -113,8 +113,8 @@ fn make_gathered<P: FolderPlace>(
 
 /// Makes the chosen files of the disk in an image of 35, 40 or 42 tracks in a new folder, as `extract_image` does, and prints
 /// `EXTRACTED` if all are whole. `FEWER` and a sector follow if a file of a sound disk has fewer blocks than its entry says, and ends
-/// there; and a line for each sector that a drive couldn't read, and for each file that goes on past track 35. Otherwise nothing is
-/// printed.
+/// there; and a line for each sector of tracks 1 to 35 that a drive couldn't read. Otherwise nothing is printed. A file that goes on past
+/// track 35 is whole if the image has all of it.
 ///
 /// `Trimmed`: all were made, and such lines were printed. `Layout` has the first fault of a file or of the directory. `Short`: a file
 /// of a sound disk is cut short. `PathExists` if something stands in the folder's place. `File` if the folder failed, or the output.
@@ -129,16 +129,16 @@ pub fn extract_run<P: FolderPlace, W: Write>(
     ensures { IsExtractRun (λ files. P.IsMade place.now files) (P.HasFailed place.now) W.contents choice image.now
         out.old out.new result }
 {
-    let missing = missing_lines(alloc, image)?;
+    let errors = error_lines(alloc, image)?;
     let lack = shortfall_in(alloc, disk_in(image))?;
-    let text = extracted_lines(alloc, lack, missing.as_slice())?;
+    let text = extracted_lines(alloc, lack, errors.as_slice())?;
     let mut gathered = GatheredFiles::new(alloc);
     let ended = extract_image(alloc, choice, image, &mut gathered);
     match make_gathered(&ended, &gathered, place) {
         Ok(()) => tell_extracted(
             extract_refusal(ended, lack),
             text.as_slice(),
-            missing.as_slice(),
+            errors.as_slice(),
             out,
         ),
         Err(fault) => Err(fault),

@@ -4,8 +4,9 @@ ghost use Rattle.image_looks.specs.Extents.{extent_of};
 
 use d64_image::Place;
 use disk_reports::NameForm;
+use file_changes::Name;
 use file_rescues::{Candidates, FileForm, RecordForm};
-use opened_files::{Extent, Loss, Name};
+use opened_files::{Extent, Loss};
 
 /// What is printed of a disk of 35 tracks alone, unless it is asked for in an image as that is.
 #[derive(Clone, Copy)]
@@ -74,7 +75,7 @@ impl Look {
     {
         match self {
             Look::List(_) | Look::Check | Look::Faults | Look::Show(_) => Extent::Disk,
-            Look::AsIs(_) | Look::Map | Look::Picture => Extent::Whole,
+            Look::AsIs(_) | Look::Map | Look::Picture | Look::Bytes { .. } => Extent::Whole,
             _ => Extent::FirstTracks,
         }
     }

@@ -1,13 +1,30 @@
 -- How deep the objects nest.
 use Rattle.std.proofs.Common.{◌≤◌, ◌++◌, ◌∷◌, [], ℕ, zero, suc, List, None, Option, Some, arith, map}
+use Rattle.std.specs.Prelude.{flat_map, option_map}
 use Rattle.d64_image.specs.Images.{Sector}
+use Rattle.d64_image.specs.Places.{places}
+use Rattle.d64_image.specs.declared.place.Place.{Place}
+use Rattle.damaged_files.specs.declared.cut.shortfalls.Shortfall.{Shortfall}
+use Rattle.damaged_files.specs.reached.Names.{name_of}
+use Rattle.damaged_files.specs.reached.Sizes.{error_of}
+use Rattle.disk_layout.specs.Layout.{File, Layout}
+use Rattle.disk_layout.specs.Texts.{place_text}
+use Rattle.disk_layout.specs.declared.faults.Fault.{Fault}
 use Rattle.disk_layout.specs.declared.slot.Slot.{Slot}
 use Rattle.geos_files.specs.Entries.{geos_entry}
 use Rattle.geos_files.specs.declared.entries.GeosEntry.{GeosEntry}
-use Rattle.json_looks.specs.Entries.{count_if, entry_data, geos_members, record_length_of}
+use Rattle.disk_pictures.specs.Drawings.{owner_of}
+use Rattle.disk_pictures.specs.Trims.{blocks_past, entry_at, error_number, sides_past}
+use Rattle.disk_pictures.specs.declared.verdicts.Verdict.{Verdict}
+use Rattle.json_looks.specs.Checks.{check_data, fewer_end, short_end, unchecked_data}
+use Rattle.json_looks.specs.Entries.{count_if, entry_data, geos_members, record_length_of, typed}
 use Rattle.json_looks.specs.FreeCounts.{free_data, track_data}
 use Rattle.json_looks.specs.Listings.{list_data}
+use Rattle.json_looks.specs.Missing.{beyond_items, error_item, error_items, past_item, past_items, string_if}
 use Rattle.json_looks.specs.Objects.{up_to}
+use Rattle.json_looks.specs.SectorMaps.{file_number, map_data, sector_data}
+use Rattle.json_looks.specs.Verdicts.{found_place}
+use Rattle.line_text.specs.bytes.Texts.{text_of}
 use Rattle.serde_json.specs.Data.{Data, depth, items_depth}
 use Rattle.serde_json.specs.View.{items_of}
 
@@ -68,4 +85,75 @@ pub free-flat : (name : List ℕ) (bytes : Sector) → depth (free_data name byt
 free-flat name bytes =
     let each : ℕ → List Data = λ track. track_data bytes track ∷ [] in
     let inner = items-flat 1 (up_to 35 each) (numbered-flat 1 each (track-flat bytes) 35) in
+    omega arith
+
+-- those of all of these
+pub gathered-flat : {A : Type 0} (n : ℕ) (part : A → List Data) → ((x : A) → AreFlat n (part x)) → (xs : List A) → AreFlat n (flat_map part xs)
+gathered-flat n part flat [] = tt
+gathered-flat n part flat (x ∷ xs) = both-flat n (part x) (flat_map part xs) (flat x) (gathered-flat n part flat xs)
+
+text-flat : (text : Option (List ℕ)) → depth (string_if text) ≤ 0
+text-flat None = omega arith
+text-flat (Some text) = omega arith
+
+past-flat : (s : Slot) (place : Option Place) → AreFlat 1 (past_item s place)
+past-flat s None = tt
+past-flat s (Some p) = (omega arith, tt)
+
+file-past-flat : (image : List ℕ) (f : File) → AreFlat 1 (past_items image f)
+file-past-flat image f =
+    both-flat 1 (past_item f.slot (blocks_past image f)) (past_item f.slot (sides_past image f))
+    (past-flat f.slot (blocks_past image f)) (past-flat f.slot (sides_past image f))
+
+error-flat : (p : Place) (entry : Option Slot) (error : Option ℕ) → AreFlat 1 (error_item p entry error)
+error-flat p entry None = tt
+error-flat p entry (Some e) =
+    let name = text-flat (option_map (λ s. text_of (name_of s)) entry) in
+    (omega arith, tt)
+
+sector-flat : (image : List ℕ) (bytes : Sector) (l : Layout) (p : Place) → depth (sector_data image bytes l p) ≤ 1
+sector-flat image bytes l p =
+    let error = text-flat (option_map error_number (error_of image p)) in
+    let file = count-flat (file_number (owner_of l p)) in
+    omega arith
+
+-- a map
+pub map-flat : (name image : List ℕ) (v : Verdict) (bytes : Sector) (l : Layout) → depth (map_data name image v bytes l) ≤ 127
+map-flat name image v bytes l =
+    let beyond = items-flat 1 (flat_map (past_items image) l.files) (gathered-flat 1 (past_items image) (file-past-flat image) l.files) in
+    let entry : File → Data = λ f. entry_data f.slot in
+    let files = items-flat 2 (map entry l.files) (mapped-flat 2 entry (λ f. entry-flat f.slot) l.files) in
+    let sectors = items-flat 1 (map (sector_data image bytes l) places) (mapped-flat 1 (sector_data image bytes l) (sector-flat image bytes l) places) in
+    let at = count-flat (option_map (λ (p : Place). p.sector) (found_place v.found)) in
+    let on = count-flat (option_map (λ (p : Place). p.track) (found_place v.found)) in
+    let short = text-flat (option_map place_text v.cut) in
+    omega arith
+
+beyond-flat : (image : List ℕ) (drawn : Option Layout) → AreFlat 1 (beyond_items image drawn)
+beyond-flat image None = tt
+beyond-flat image (Some l) = gathered-flat 1 (past_items image) (file-past-flat image) l.files
+
+errors-flat : (image : List ℕ) (drawn : Option Layout) → AreFlat 1 (error_items image drawn)
+errors-flat image drawn =
+    gathered-flat 1 (λ p. error_item p (entry_at drawn p) (error_of image p))
+    (λ p. error-flat p (entry_at drawn p) (error_of image p)) places
+
+-- a check
+pub check-flat : (name image : List ℕ) (found : Option Fault) (files : List Slot) (bytes : Sector) (lack : Option Shortfall)
+    (drawn : Option Layout) → depth (check_data name image found files bytes lack drawn) ≤ 127
+check-flat name image found files bytes lack drawn =
+    let beyond = items-flat 1 (beyond_items image drawn) (beyond-flat image drawn) in
+    let errors = items-flat 1 (error_items image drawn) (errors-flat image drawn) in
+    let fewer = text-flat (option_map place_text (fewer_end lack)) in
+    let name_data : Slot → Data = λ s. typed (name_of s) in
+    let names = items-flat 0 (map name_data files) (mapped-flat 0 name_data (λ s. omega arith) files) in
+    let at = count-flat (option_map (λ (p : Place). p.sector) (found_place found)) in
+    let on = count-flat (option_map (λ (p : Place). p.track) (found_place found)) in
+    let short = text-flat (option_map place_text (short_end lack)) in
+    omega arith
+
+-- and one that is refused
+pub unchecked-flat : (name : List ℕ) (size : Option ℕ) (why : List ℕ) → depth (unchecked_data name size why) ≤ 127
+unchecked-flat name size why =
+    let bytes = count-flat size in
     omega arith

@@ -1,6 +1,11 @@
 -- Objects that are gathered one by one.
-use Rattle.std.proofs.Common.{◌≡◌, ◌<◌, ◌+◌, ◌++◌, ◌∷◌, [], ℕ, suc, List, arith, get_or, length, map, take, ap, ap₂, subst, sym, ◌∙◌}
+use Rattle.std.proofs.Common.{◌≡◌, ◌<◌, ◌≤◌, ◌+◌, ◌++◌, ◌∷◌, [], ℕ, suc, List, arith, get_or, length, map, refl, take, ap, ap₂, subst, sym, ◌∙◌}
+use Rattle.std.specs.Prelude.{flat_map}
+use Rattle.std.proofs.lemmas.Grind.{flat_map-append}
 use Rattle.std.proofs.lemmas.List.{append-nil, map-append, map_more}
+use Rattle.d64_image.proofs.Order.{all-taken, place-taken, text-more}
+use Rattle.d64_image.specs.Places.{index_of, places}
+use Rattle.d64_image.specs.declared.place.Place.{Place}
 use Rattle.json_looks.specs.Objects.{up_to}
 use Rattle.serde_json.specs.Data.{Data}
 use Rattle.serde_json.specs.View.{view}
@@ -43,3 +48,43 @@ pub next-one : (each : ℕ → Data) (n : ℕ) (old new : List Value) (value : V
     → new ≡ old ++ value ∷ [] → map view old ≡ up_to n (λ m. each m ∷ []) → map view new ≡ up_to (n + 1) (λ m. each m ∷ [])
 next-one each n old new value is more before =
     next-more (λ m. each m ∷ []) n old new before (one_added old new value (each (n + 1)) is more)
+
+-- one object more for the next place
+pub next-place : (f : Place → Data) (i : ℕ) (p : Place) (old new : List Value) (value : Value) → index_of p ≡ i
+    → view value ≡ f p → new ≡ old ++ value ∷ [] → map view old ≡ map f (take i places) → map view new ≡ map f (take (i + 1) places)
+next-place f i p old new value at is more before =
+    one_added old new value (f p) is more ∙ ap (λ made. made ++ f p ∷ []) before
+    ∙ sym (map-append f (take i places) (p ∷ [])) ∙ ap (map f) (sym (place-taken i p at))
+
+-- and one for each
+pub all-places : (f : Place → Data) (i : ℕ) (values : List Value) → 683 ≤ i → map view values ≡ map f (take i places)
+    → map view values ≡ map f places
+all-places f i values past before = before ∙ ap (map f) (all-taken i past)
+
+-- the objects of the next place
+pub next-place-part : (part : Place → List Data) (i : ℕ) (p : Place) (old new : List Value) → index_of p ≡ i
+    → map view new ≡ map view old ++ part p → map view old ≡ flat_map part (take i places)
+    → map view new ≡ flat_map part (take (i + 1) places)
+next-place-part part i p old new at more before =
+    more ∙ ap (λ made. made ++ part p) before ∙ text-more part i p at
+
+pub all-place-parts : (part : Place → List Data) (i : ℕ) (values : List Value) → 683 ≤ i
+    → map view values ≡ flat_map part (take i places) → map view values ≡ flat_map part places
+all-place-parts part i values past before = before ∙ ap (flat_map part) (all-taken i past)
+
+single : {B : Type 0} (part : B → List Data) (x : B) → flat_map part (x ∷ []) ≡ part x
+single part x = append-nil (part x)
+
+-- the objects of one of these more, as they are held in another form
+pub next-part : {A B : Type 0} (part : B → List Data) (form : A → B) (xs : List A) (i : ℕ) (d : A) (old new : List Value) → i < length xs
+    → map view new ≡ map view old ++ part (form (get_or xs i d)) → map view old ≡ flat_map part (map form (take i xs))
+    → map view new ≡ flat_map part (map form (take (i + 1) xs))
+next-part part form xs i d old new inside more before =
+    more ∙ ap₂ (λ made next. made ++ next) before (sym (single part (form (get_or xs i d))))
+    ∙ sym (flat_map-append part (map form (take i xs)) (form (get_or xs i d) ∷ []))
+    ∙ ap (flat_map part) (sym (map_more form xs i d inside))
+
+-- the objects of these, as they are held in another form
+pub map-twice : {A B C : Type 0} (f : B → C) (g : A → B) (xs : List A) → map f (map g xs) ≡ map (λ x. f (g x)) xs
+map-twice f g [] = refl
+map-twice f g (x ∷ xs) = ap (λ rest. f (g x) ∷ rest) (map-twice f g xs)

@@ -2,3 +2,4 @@ pub mod Depths
 pub mod Gathered
 pub mod Openings
 pub mod ShopDepths
+pub mod Whole

@@ -1,6 +1,10 @@
+pub mod Checks
 pub mod Entries
 pub mod FreeCounts
 pub mod GeosTypes
 pub mod Listings
+pub mod Missing
 pub mod Objects
+pub mod SectorMaps
 pub mod Shops
+pub mod Verdicts

@@ -57,7 +57,7 @@ fn kind_name(slot: &Slot) -> &'static str
 }
 
 /// The name of an entry, as it can be typed.
-fn typed_name(alloc: Global, slot: &Slot) -> Result<String, AllocError>
+pub(crate) fn typed_name(alloc: Global, slot: &Slot) -> Result<String, AllocError>
     ensures { IfOk result (λ name. string_bytes name ≡ text_of (name_of slot.now)) }
 {
     match format!(in alloc; "{}", Text(entry_name(slot))) {
@@ -67,7 +67,7 @@ fn typed_name(alloc: Global, slot: &Slot) -> Result<String, AllocError>
 }
 
 /// The object of an entry: its name, its type, and what its bytes say.
-fn entry_value(alloc: Global, slot: &Slot) -> Result<Value, AllocError>
+pub(crate) fn entry_value(alloc: Global, slot: &Slot) -> Result<Value, AllocError>
     ensures { IfOk result (λ value. view value ≡ entry_data slot.now) }
 {
     let name = typed_name(alloc, slot)?;

@@ -4,9 +4,9 @@ use Rattle.std.specs.Prelude.{Err, IfOk, MatchResult, Result, codes}
 use Rattle.clap.specs.Words.{Row, Text}
 use Rattle.command_table.specs.Grammar.{value}
 use Rattle.ledger_jobs.specs.Jobs.{IsFit}
-use Rattle.opened_files.specs.Names.{IsNameOf, name_bytes}
+use Rattle.file_changes.specs.Names.{IsNameOf, name_bytes}
 use Rattle.ledger_jobs.specs.declared.jobs.Job.{Job}
-use Rattle.opened_files.specs.declared.names.Name.{Name}
+use Rattle.file_changes.specs.declared.names.Name.{Name}
 use Rattle.ledger_cli.specs.Jobs.{AreRefusedColumns, IsJob, IsNoJob, IsRefusedName}
 use Rattle.ledger_cli.specs.Forms.{candidates_in}
 use Rattle.ledger_cli.specs.Positions.{HasNoColumns}
@@ -49,7 +49,7 @@ pub storing-met : (found : Option (Text × List Row)) (rows : List Row) (image :
     → IsStoringJob rows image r → MatchResult r (IsJob found) (IsNoJob [] found) × IfOk r IsFit
 storing-met found rows image r is by-image (inl (records, columns, by-records, by-columns, named)) =
     named-met found rows _ r
-    (λ name at. record { rows = rows; is = is; holds = (by-image, (at, by-records, by-columns, refl), refl) })
+    (λ name at. record { rows = rows; is = is; holds = (by-image, (at, by-records, by-columns), refl, refl) })
     (λ name. tt)
     (λ missing. inr (inl (record { rows = rows; is = is; holds = missing })))
     named
@@ -75,7 +75,7 @@ pub making-met : (found : Option (Text × List Row)) (rows : List Row) (image : 
     → IsMakingJob rows image r → MatchResult r (IsJob found) (IsNoJob [] found) × IfOk r IsFit
 making-met found rows image r is by-image (inl (name, size, same, at, new, by-size, fit)) =
     let P : Result Job JobFault → Type 0 = λ j. MatchResult j (IsJob found) (IsNoJob [] found) × IfOk j IsFit in
-    subst P (sym same) (record { rows = rows; is = is; holds = (by-image, (at, by-size, refl), refl) }, (new, fit))
+    subst P (sym same) (record { rows = rows; is = is; holds = (by-image, (at, new, by-size), refl, refl) }, (new.few, fit))
 making-met found rows image r is by-image (inr (inl (same, missing))) =
     let P : Result Job JobFault → Type 0 = λ j. MatchResult j (IsJob found) (IsNoJob [] found) × IfOk j IsFit in
     subst P (sym same) ((refl, inr (inr (inl (record { rows = rows; is = is; holds = missing })))), tt)
@@ -89,7 +89,7 @@ pub renaming-met : (found : Option (Text × List Row)) (rows : List Row) (image 
     → IsRenamingJob rows image r → MatchResult r (IsJob found) (IsNoJob [] found) × IfOk r IsFit
 renaming-met found rows image r is by-image (inl (from, to, same, old, new, fit)) =
     let P : Result Job JobFault → Type 0 = λ j. MatchResult j (IsJob found) (IsNoJob [] found) × IfOk j IsFit in
-    subst P (sym same) (record { rows = rows; is = is; holds = (by-image, (old, new, refl), refl) }, fit)
+    subst P (sym same) (record { rows = rows; is = is; holds = (by-image, (old, new, fit), refl, refl) }, fit.few)
 renaming-met found rows image r is by-image (inr (same, missing)) =
     let P : Result Job JobFault → Type 0 = λ j. MatchResult j (IsJob found) (IsNoJob [] found) × IfOk j IsFit in
     subst P (sym same) ((refl, inr (inr (inr (inr (inl (record { rows = rows; is = is; holds = missing })))))), tt)
@@ -117,7 +117,7 @@ pub putting-met : (found : Option (Text × List Row)) (rows : List Row) (image :
     → IsPuttingJob rows image r → MatchResult r (IsJob found) (IsNoJob [] found) × IfOk r IsFit
 putting-met found rows image r is by-image (inl (name, file, kind, same, at, new, by-file, by-type)) =
     let P : Result Job JobFault → Type 0 = λ j. MatchResult j (IsJob found) (IsNoJob [] found) × IfOk j IsFit in
-    subst P (sym same) (record { rows = rows; is = is; holds = (by-image, (at, by-file, by-type, refl), refl) }, new)
+    subst P (sym same) (record { rows = rows; is = is; holds = (by-image, (at, new, by-file, by-type), refl, refl) }, new.few)
 putting-met found rows image r is by-image (inr (inl (same, missing))) =
     let P : Result Job JobFault → Type 0 = λ j. MatchResult j (IsJob found) (IsNoJob [] found) × IfOk j IsFit in
     subst P (sym same) ((refl, inr (inr (inr (inr (inr (inr (inl (record { rows = rows; is = is; holds = missing })))))))), tt)

@@ -12,7 +12,7 @@ use Rattle.ledger_cli.specs.Flags.{is_given}
 use Rattle.ledger_cli.specs.Forms.{effect_in, loss_in, unowned_in}
 use Rattle.ledger_cli.specs.Numbers.{tills_in}
 use Rattle.ledger_jobs.specs.Jobs.{IsFit}
-use Rattle.image_edits.specs.declared.edit.Edit.TheVariants as edits
+use Rattle.disk_changes.specs.declared.changes.ChangeKind.TheVariants as kinds
 use Rattle.ledger_jobs.specs.declared.jobs.Job.{Job}
 use Rattle.damaged_files.specs.declared.sides.planning.Loss.{Loss}
 use Rattle.ledger_jobs.specs.declared.jobs.Job.TheVariants as jobs
@@ -98,16 +98,16 @@ format-fit image tills false fit = fit
 -- that of `repair`: with --sides the side sectors are built anew first
 pub repair-met : (found : Option (Text × List Row)) (rows : List Row) (image : Bor Text) (sides : Bool)
     → is_given (codes "sides") rows ≡ sides → found ≡ Some (codes "repair", rows) → image.now ≡ value (codes "IMAGE") rows
-    → IsJob found (jobs.Change image (effect_in rows) (if sides then edits.RepairSides (loss_in rows) (unowned_in rows)
-    else edits.Repair (loss_in rows) (unowned_in rows)))
+    → IsJob found (jobs.Change image (effect_in rows) (loss_in rows) (if sides then kinds.RepairSides (unowned_in rows)
+    else kinds.Repair (unowned_in rows)))
 repair-met found rows image true given is by-image =
-    record { rows = rows; is = is; holds = (by-image, (refl, refl, given), refl) }
+    record { rows = rows; is = is; holds = (by-image, (refl, given), refl, refl) }
 repair-met found rows image false given is by-image =
-    record { rows = rows; is = is; holds = (by-image, (refl, refl, given), refl) }
+    record { rows = rows; is = is; holds = (by-image, (refl, given), refl, refl) }
 
 pub repair-fit : (rows : List Row) (image : Bor Text) (sides : Bool)
-    → IsFit (jobs.Change image (effect_in rows) (if sides then edits.RepairSides (loss_in rows) (unowned_in rows)
-    else edits.Repair (loss_in rows) (unowned_in rows)))
+    → IsFit (jobs.Change image (effect_in rows) (loss_in rows) (if sides then kinds.RepairSides (unowned_in rows)
+    else kinds.Repair (unowned_in rows)))
 repair-fit rows image true = tt
 repair-fit rows image false = tt
 

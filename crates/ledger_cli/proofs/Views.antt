@@ -14,7 +14,7 @@ use Rattle.image_looks.specs.declared.objects.ImageObject.{ImageObject}
 use Rattle.ledger_cli.specs.Flags.{is_given}
 use Rattle.ledger_cli.specs.Images.{IsCheckJob, IsLookJob, IsPlanJob, IsShowingJob}
 use Rattle.ledger_cli.specs.Forms.{loss_in, name_form_in}
-use Rattle.ledger_cli.specs.Looks.{IsAlone, IsAskedBy, IsObjectAsked, IsOne, IsPlain, check_in, description_in, disk_look_in, object_word, word_of}
+use Rattle.ledger_cli.specs.Looks.{IsAlone, IsAskedBy, IsObjectAsked, IsOne, IsPlain, IsText, check_in, disk_look_in, object_word, word_of}
 use Rattle.ledger_cli.specs.Jobs.{IsJob, IsNoJob}
 use Rattle.ledger_cli.specs.declared.faults.JobFault.{JobFault}
 use Rattle.ledger_cli.proofs.Parses.{met-has}
@@ -59,7 +59,7 @@ viewing-met o found name at what r told some is many by (inr (inr none)) =
 
 -- with --all or without, a check is asked for, of a disk alone or of the one in an image
 check-met : (rows : List Row) (all whole : Bool) → is_given (codes "all") rows ≡ all → is_given (codes "as-is") rows ≡ whole
-    → description_in rows ≡ None
+    → IsText rows
     → (word_of (check_in rows) ≡ codes "check") × IsOfMany (check_in rows) × IsAskedBy (check_in rows) rows
 check-met rows true true given asked plain = rw (given, asked) (refl, tt, (asked, (plain, given)))
 check-met rows true false given asked plain = rw (given, asked) (refl, tt, (asked, (plain, given)))
@@ -110,10 +110,13 @@ pub checking-met : (o : Option (Bor Text × Bor ArgMatches)) (found : Option (Te
 checking-met o found name at r told some is (inl (viewed, job)) =
     let asked = check-met (rows_of (found_of at.now)) _ _ refl refl viewed in
     viewing-met o found name at (check_in (rows_of (found_of at.now))) r told some (is ∙ sym asked.0) asked.1 asked.2 job
-checking-met o found name at r told some is (inr (inl (form, images, same, are))) =
+checking-met o found name at r told some is (inr (inl (images, same, are))) =
+    let P : Result Job JobFault → Type 0 = λ j. MatchResult j (IsJob found) (IsNoJob [] found) × IfOk j IsFit in
+    subst P (sym same) (met-has o found name at (codes "check") _ told some is (refl, are), tt)
+checking-met o found name at r told some is (inr (inr (inl (images, same, are)))) =
     let P : Result Job JobFault → Type 0 = λ j. MatchResult j (IsJob found) (IsNoJob [] found) × IfOk j IsFit in
     subst P (sym same) (met-has o found name at (codes "check") _ told some is are, tt)
-checking-met o found name at r told some is (inr (inr (e, same, kind))) =
+checking-met o found name at r told some is (inr (inr (inr (e, same, kind)))) =
     let P : Result Job JobFault → Type 0 = λ j. MatchResult j (IsJob found) (IsNoJob [] found) × IfOk j IsFit in
     subst P (sym same) (kind, tt)
 

@@ -8,8 +8,8 @@ use Rattle.command_faults.specs.declared.faults.CommandFault.{CommandFault}
 use Rattle.ledger_cli.specs.Making.{AreWrittenInPart, IsImageHanded, image_writes}
 use Rattle.image_edits.specs.Changes.{IsShownEnd, as_change}
 use Rattle.opened_files.specs.Ends.{EndsAs, JobEnd}
-use Rattle.image_edits.specs.declared.edit.Effect.{Effect}
-use Rattle.image_edits.specs.declared.edit.Effect.TheVariants.{Printed, Written}
+use Rattle.image_edits.specs.declared.effect.Effect.{Effect}
+use Rattle.image_edits.specs.declared.effect.Effect.TheVariants.{Printed, Written}
 use Rattle.line_text.specs.Handed.{AppendsPart}
 
 module _ {F W : Type 0} (position : F → Option ℕ) (bytes contents : F → Option (List ℕ)) (told : W → Option (List ℕ))

@@ -3,9 +3,9 @@ use Rattle.std.specs.Prelude.{◌≡◌, ◌<◌, Bool, List, bytes_eq, codes, f
 use Rattle.std.specs.Borrow.{Bor}
 use Rattle.std.specs.declared.alloc.Global.{Global}
 use Rattle.clap.specs.Words.{Text}
-use Rattle.image_edits.specs.declared.edit.Edit.{Edit}
-use Rattle.image_edits.specs.declared.edit.Edit.TheVariants as edits
-use Rattle.image_edits.specs.declared.edit.Effect.TheVariants as effects
+use Rattle.disk_changes.specs.declared.changes.ChangeKind.{ChangeKind}
+use Rattle.disk_changes.specs.declared.changes.ChangeKind.TheVariants as kinds
+use Rattle.image_edits.specs.declared.effect.Effect.TheVariants as effects
 use Rattle.ledger_jobs.specs.declared.jobs.Job.{Job}
 use Rattle.ledger_jobs.specs.declared.jobs.Job.TheVariants as jobs
 use Rattle.opened_files.specs.Rights.{standard_input}
@@ -36,20 +36,20 @@ is_written_dash (jobs.New image name id) = is_dash image.now
 is_written_dash (jobs.Play image script loss) = is_dash image.now
 is_written_dash (jobs.PlayLogged image script loss) = is_dash image.now
 is_written_dash (jobs.Serve image loss) = is_dash image.now
-is_written_dash (jobs.Change image effects.Written edit) = is_dash image.now
+is_written_dash (jobs.Change image effects.Written loss kind) = is_dash image.now
 is_written_dash (jobs.Copy image copy) = is_dash copy.now
 is_written_dash (jobs.Salvage log copy) = is_dash copy.now
 is_written_dash (jobs.Extract choice image folder) = is_dash folder.now
 is_written_dash _ = false
 
 -- the change with its file as it is read
-abbrev pub IsEditRead : Edit → Edit → Type 0
-IsEditRead (edits.Put file kind loss name) edit = (read : Bor Text) × IsReadAs file read × (edit ≡ edits.Put read kind loss name)
-IsEditRead (edits.CopyFile from loss name to) edit =
-    (read : Bor Text) × IsReadAs from read × (edit ≡ edits.CopyFile read loss name to)
-IsEditRead (edits.Store records columns loss name) edit =
-    (read : Bor Text) × IsReadAs records read × (edit ≡ edits.Store read columns loss name)
-IsEditRead other edit = edit ≡ other
+abbrev pub IsChangeRead : ChangeKind → ChangeKind → Type 0
+IsChangeRead (kinds.Put file kind name) changed = (read : Bor Text) × IsReadAs file read × (changed ≡ kinds.Put read kind name)
+IsChangeRead (kinds.CopyFile from name to) changed =
+    (read : Bor Text) × IsReadAs from read × (changed ≡ kinds.CopyFile read name to)
+IsChangeRead (kinds.Store records columns name) changed =
+    (read : Bor Text) × IsReadAs records read × (changed ≡ kinds.Store read columns name)
+IsChangeRead other changed = changed ≡ other
 
 -- the job with each file that it reads as it is read; those that it makes, plays on or serves keep their paths
 abbrev pub IsJobRead : Job → Job → Type 0
@@ -61,8 +61,8 @@ IsJobRead (jobs.Dry script) job = (read : Bor Text) × IsReadAs script read × (
 IsJobRead (jobs.Copy image copy) job = (read : Bor Text) × IsReadAs image read × (job ≡ jobs.Copy read copy)
 IsJobRead (jobs.Extract choice image folder) job =
     (read : Bor Text) × IsReadAs image read × (job ≡ jobs.Extract choice read folder)
-IsJobRead (jobs.Change image effect edit) job = (read : Bor Text) × (changed : Edit) × IsReadAs image read
-    × IsEditRead edit changed × (job ≡ jobs.Change read effect changed)
+IsJobRead (jobs.Change image effect loss kind) job = (read : Bor Text) × (changed : ChangeKind) × IsReadAs image read
+    × IsChangeRead kind changed × (job ≡ jobs.Change read effect loss changed)
 IsJobRead (jobs.Trim image) job = (read : Bor Text) × IsReadAs image read × (job ≡ jobs.Trim read)
 IsJobRead (jobs.Sheet images) job =
     (read : Vec (Bor Text) Global) × AreReadAs images read × (job ≡ jobs.Sheet read)

@@ -2,30 +2,30 @@
 use Rattle.std.specs.Prelude.{◌≡◌, List, Option, Some, None, Result, Ok, Err, codes, if◌then◌else◌}
 use Rattle.std.specs.Borrow.{Bor}
 use Rattle.clap.specs.Words.{Row, Text}
-use Rattle.image_edits.specs.declared.edit.Effect.{Effect}
+use Rattle.image_edits.specs.declared.effect.Effect.{Effect}
 use Rattle.ledger_jobs.specs.declared.jobs.Job.{Job}
 use Rattle.damaged_files.specs.declared.sides.planning.Loss.{Loss}
-use Rattle.image_edits.specs.declared.edit.Unowned.{Unowned}
+use Rattle.disk_changes.specs.declared.changes.Unowned.{Unowned}
 use Rattle.file_rescues.specs.declared.rescue.choices.Choice.{Choice}
 use Rattle.file_rescues.specs.declared.finding.Candidates.{Candidates}
 use Rattle.file_rescues.specs.declared.forms.ByteForm.{ByteForm}
 use Rattle.file_rescues.specs.declared.forms.RecordForm.{RecordForm}
-use Rattle.image_edits.specs.declared.edit.Columns.{Columns}
+use Rattle.disk_changes.specs.declared.changes.Columns.{Columns}
 use Rattle.line_text.specs.declared.petscii.characters.CharacterSet.{CharacterSet}
 use Rattle.line_text.specs.declared.petscii.characters.CharacterSet.TheVariants.{Graphics, Mixed}
 use Rattle.disk_reports.specs.declared.texts.NameForm.{NameForm}
 use Rattle.ledger_cli.specs.Flags.{is_given}
 use Rattle.ledger_cli.specs.Positions.{AsksForColumns, AsksForNone, HasNoColumns}
 use Rattle.ledger_cli.specs.declared.faults.JobFault.{JobFault}
-use Rattle.image_edits.specs.declared.edit.Edit.TheVariants as edits
-use Rattle.image_edits.specs.declared.edit.Effect.TheVariants as effects
+use Rattle.disk_changes.specs.declared.changes.ChangeKind.TheVariants as kinds
+use Rattle.image_edits.specs.declared.effect.Effect.TheVariants as effects
 use Rattle.ledger_jobs.specs.declared.jobs.Job.TheVariants as jobs
 use Rattle.damaged_files.specs.declared.sides.planning.Loss.TheVariants as losses
-use Rattle.image_edits.specs.declared.edit.Unowned.TheVariants as unowneds
+use Rattle.disk_changes.specs.declared.changes.Unowned.TheVariants as unowneds
 use Rattle.file_rescues.specs.declared.finding.Candidates.TheVariants.{All, Closed}
 use Rattle.file_rescues.specs.declared.forms.ByteForm.TheVariants as bytes
 use Rattle.file_rescues.specs.declared.forms.RecordForm.TheVariants as records
-use Rattle.image_edits.specs.declared.edit.Columns.TheVariants as columns
+use Rattle.disk_changes.specs.declared.changes.Columns.TheVariants as columns
 use Rattle.disk_reports.specs.declared.texts.NameForm.TheVariants as names
 
 -- the set of the text that is asked for: with --mixed the one with small letters, with only --text the other
@@ -100,5 +100,5 @@ effect_in rows = if is_given (codes "dry-run") rows then effects.Printed else ef
 -- the job that repairs an image: with --sides its side sectors are built anew first
 abbrev pub repair_job : List Row → Bor Text → Job
 repair_job rows image =
-    jobs.Change image (effect_in rows) (if is_given (codes "sides") rows then edits.RepairSides (loss_in rows) (unowned_in rows)
-    else edits.Repair (loss_in rows) (unowned_in rows))
+    jobs.Change image (effect_in rows) (loss_in rows) (if is_given (codes "sides") rows then kinds.RepairSides (unowned_in rows)
+    else kinds.Repair (unowned_in rows))

@@ -6,7 +6,6 @@ use Rattle.std.specs.declared.alloc.Global.{Global}
 use Rattle.clap.specs.declared.error.Error.{Error}
 use Rattle.clap.specs.Words.{HasKind, Row, Text}
 use Rattle.command_table.specs.Grammar.{value, values}
-use Rattle.disk_reports.specs.declared.describing.DescriptionForm.{DescriptionForm}
 use Rattle.disk_reports.specs.declared.plans.PlanForm.{PlanForm}
 use Rattle.ledger_jobs.specs.declared.jobs.Job.{Job}
 use Rattle.image_looks.specs.declared.descriptions.ImageForm.{ImageForm}
@@ -15,7 +14,8 @@ use Rattle.image_looks.specs.declared.kinds.Look.{Look}
 use Rattle.image_looks.specs.declared.kinds.Look.TheVariants as looks
 use Rattle.ledger_cli.specs.declared.faults.JobFault.{JobFault}
 use Rattle.image_looks.specs.declared.objects.ImageObject.{ImageObject}
-use Rattle.ledger_cli.specs.Looks.{IsForOne, IsOne, IsPlain, check_in, description_in, plan_in}
+use Rattle.image_looks.specs.declared.objects.ImageObject.TheVariants as objects
+use Rattle.ledger_cli.specs.Looks.{IsForOne, IsOne, IsPlain, IsText, check_in, plan_in}
 use Rattle.ledger_cli.specs.Flags.{is_given}
 use Rattle.ledger_jobs.specs.declared.jobs.Job.TheVariants as jobs
 use Rattle.ledger_cli.specs.declared.faults.JobFault.TheVariants as faults
@@ -55,9 +55,14 @@ IsNoPicture rows =
 abbrev pub AreImages : List Row → List (Bor Text) → Type 0
 AreImages rows images = (map (λ image. image.now) images ≡ values (codes "IMAGE") rows) × (2 ≤ length images)
 
--- they are to be described in this form, and these are the images, in their order
-abbrev pub AreDescribed : List Row → DescriptionForm → List (Bor Text) → Type 0
-AreDescribed rows form images = (description_in rows ≡ Some form)
+-- a table of these images is asked for, in their order
+abbrev pub AreTabled : List Row → List (Bor Text) → Type 0
+AreTabled rows images = IsPlain rows × (is_given (codes "csv") rows ≡ true)
+    × (map (λ image. image.now) images ≡ values (codes "IMAGE") rows)
+
+-- an object of JSON is asked for of each of these images, in their order
+abbrev pub AreShown : List Row → List (Bor Text) → Type 0
+AreShown rows images = (is_given (codes "json") rows ≡ true)
     × (map (λ image. image.now) images ≡ values (codes "IMAGE") rows)
 
 -- the job that prints this of these images; or there was no memory for it
@@ -79,13 +84,18 @@ IsDescribing form images result =
     ((all : Vec (Bor Text) Global) × (result ≡ Ok (jobs.Describe form all)) × (vec_items all ≡ images))
     ⊎ ((e : Error) × (result ≡ Err (faults.Words e)) × HasKind [] e)
 
--- the job, or why there is none, of the subcommand that checks images, or describes each
+-- the object of a check, as the flags ask for it
+abbrev pub check_object_in : List Row → ImageObject
+check_object_in rows = objects.Check (is_given (codes "as-is") rows)
+
+-- the job, or why there is none, of the subcommand that checks images, or prints an object or a row of each
 abbrev pub IsCheckJob : List Row → Result Job JobFault → Type 0
 IsCheckJob rows result =
-    ((description_in rows ≡ None) × IsLookJob rows (check_in rows) result)
-    ⊎ (((form : DescriptionForm) × (images : Vec (Bor Text) Global)
-    × (result ≡ Ok (jobs.Describe (forms.Described form) images)) × AreDescribed rows form (vec_items images))
-    ⊎ ((e : Error) × (result ≡ Err (faults.Words e)) × HasKind [] e))
+    (IsText rows × IsLookJob rows (check_in rows) result)
+    ⊎ (((images : Vec (Bor Text) Global) × (result ≡ Ok (jobs.Describe (forms.Shown (check_object_in rows)) images))
+    × AreShown rows (vec_items images))
+    ⊎ (((images : Vec (Bor Text) Global) × (result ≡ Ok (jobs.Describe forms.Table images)) × AreTabled rows (vec_items images))
+    ⊎ ((e : Error) × (result ≡ Err (faults.Words e)) × HasKind [] e)))
 
 -- they are to be planned in this form, and these are the images, in their order
 abbrev pub ArePlanned : List Row → PlanForm → List (Bor Text) → Type 0
@@ -97,11 +107,6 @@ IsPlanJob rows result =
     ((images : Vec (Bor Text) Global) × (result ≡ Ok (jobs.Describe (forms.Planned (plan_in rows)) images))
     × ArePlanned rows (plan_in rows) (vec_items images))
     ⊎ ((e : Error) × (result ≡ Err (faults.Words e)) × HasKind [] e)
-
--- an object of JSON is asked for of each of these images, in their order
-abbrev pub AreShown : List Row → List (Bor Text) → Type 0
-AreShown rows images = (is_given (codes "json") rows ≡ true)
-    × (map (λ image. image.now) images ≡ values (codes "IMAGE") rows)
 
 -- the job, or why there is none, of a subcommand that prints this of one image or of several, or with --json an object of each
 abbrev pub IsShowingJob : List Row → Look → ImageObject → Result Job JobFault → Type 0

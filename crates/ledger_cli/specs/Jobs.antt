@@ -1,19 +1,20 @@
 -- What the words of a command line ask for (our own).
-use Rattle.std.specs.Prelude.{◌≡◌, ◌⊎◌, ◌||◌, Bool, true, false, List, Option, Some, None, Result, Err, [], codes}
+use Rattle.std.specs.Prelude.{◌≡◌, ◌⊎◌, ◌||◌, ⊤, Bool, true, false, List, Option, Some, None, Result, Err, [], codes}
 use Rattle.std.specs.Prelude.{length, vec_items}
 use Rattle.std.specs.Option.{option_map_or}
 use Rattle.clap.specs.Words.{HasKind, Kinds, Row, Text, found_of, rows_of, subcommand_rows_of}
 use Rattle.clap.specs.declared.parser.matches.ArgMatches.{ArgMatches}
 use Rattle.command_table.specs.Grammar.{value}
-use Rattle.image_edits.specs.declared.edit.Edit.{Edit}
-use Rattle.image_edits.specs.declared.edit.Edit.TheVariants as edits
+use Rattle.disk_changes.specs.declared.changes.ChangeKind.{ChangeKind}
+use Rattle.disk_changes.specs.declared.changes.ChangeKind.TheVariants as kinds
 use Rattle.disk_changes.specs.declared.changes.Lock.TheVariants.{Cleared, Set}
+use Rattle.file_changes.specs.NewNames.{IsNewName}
 use Rattle.ledger_jobs.specs.declared.jobs.Job.{Job}
-use Rattle.opened_files.specs.Names.{IsNameOf, name_bytes}
+use Rattle.file_changes.specs.Names.{IsNameOf, name_bytes}
 use Rattle.ledger_cli.specs.declared.faults.JobFault.{JobFault}
 use Rattle.ledger_cli.specs.Numbers.{tills_in, length_in, place_in}
 use Rattle.ledger_cli.specs.Forms.{AreColumns, choice_in, effect_in, loss_in, unowned_in}
-use Rattle.ledger_cli.specs.Images.{AreCompared, AreDescribed, AreImages, AreOnSheet, ArePlanned, AreShown, IsNoPicture}
+use Rattle.ledger_cli.specs.Images.{AreCompared, AreImages, AreOnSheet, ArePlanned, AreShown, AreTabled, IsNoPicture}
 use Rattle.ledger_cli.specs.Looks.{IsAlone, IsAskedBy, IsObjectAsked, object_word, word_of}
 use Rattle.ledger_cli.specs.Names.{HasNoName, HasNoNewName, HasName, HasNewName, IsIdOf, HasNoId, HasNoFileCopying, HasNoRenaming, copy_name, entry_type_in, type_in}
 use Rattle.ledger_cli.specs.Flags.{is_given}
@@ -37,44 +38,42 @@ pub record IsParse (kinds : Kinds) (top : List Row) (found : Option (Text × Lis
     pub is : subcommand_rows_of matches ≡ found
 
 -- the subcommand that changes an image so
-abbrev pub word_of_edit : Edit → Text
-word_of_edit (edits.Repair loss unowned) = codes "repair"
-word_of_edit (edits.RepairSides loss unowned) = codes "repair"
-word_of_edit (edits.Make length loss name) = codes "make"
-word_of_edit (edits.Rename loss from to) = codes "rename"
-word_of_edit (edits.Title id loss name) = codes "title"
-word_of_edit (edits.Lock Set loss name) = codes "lock"
-word_of_edit (edits.Lock Cleared loss name) = codes "unlock"
-word_of_edit (edits.Delete loss name) = codes "delete"
-word_of_edit (edits.Undelete kind loss name) = codes "undelete"
-word_of_edit (edits.Sort loss) = codes "sort"
-word_of_edit (edits.Put file kind loss name) = codes "put"
-word_of_edit (edits.CopyFile from loss name to) = codes "copy-file"
-word_of_edit (edits.Store records columns loss name) = codes "store"
+abbrev pub word_of_change : ChangeKind → Text
+word_of_change (kinds.Repair unowned) = codes "repair"
+word_of_change (kinds.RepairSides unowned) = codes "repair"
+word_of_change (kinds.Make length name) = codes "make"
+word_of_change (kinds.Rename from to) = codes "rename"
+word_of_change (kinds.Title id name) = codes "title"
+word_of_change (kinds.Lock Set name) = codes "lock"
+word_of_change (kinds.Lock Cleared name) = codes "unlock"
+word_of_change (kinds.Delete name) = codes "delete"
+word_of_change (kinds.Undelete kind name) = codes "undelete"
+word_of_change kinds.Sort = codes "sort"
+word_of_change (kinds.Put file kind name) = codes "put"
+word_of_change (kinds.CopyFile from name to) = codes "copy-file"
+word_of_change (kinds.Store records columns name) = codes "store"
 
--- the values and the flags ask for this change
-abbrev pub IsEditIn : Edit → List Row → Type 0
-IsEditIn (edits.Repair loss unowned) rows = (loss ≡ loss_in rows) × (unowned ≡ unowned_in rows)
-    × (is_given (codes "sides") rows ≡ false)
-IsEditIn (edits.RepairSides loss unowned) rows = (loss ≡ loss_in rows) × (unowned ≡ unowned_in rows)
-    × (is_given (codes "sides") rows ≡ true)
-IsEditIn (edits.Make length loss name) rows = IsNameOf (value (codes "NAME") rows) (name_bytes name)
-    × (length_in rows ≡ Some length) × (loss ≡ loss_in rows)
-IsEditIn (edits.Rename loss from to) rows = IsNameOf (value (codes "OLD") rows) (name_bytes from)
-    × IsNameOf (value (codes "NEW") rows) (name_bytes to) × (loss ≡ loss_in rows)
-IsEditIn (edits.Title id loss name) rows = IsNameOf (value (codes "NAME") rows) (name_bytes name)
-    × IsIdOf (value (codes "ID") rows) id × (loss ≡ loss_in rows)
-IsEditIn (edits.Lock lock loss name) rows = IsNameOf (value (codes "NAME") rows) (name_bytes name) × (loss ≡ loss_in rows)
-IsEditIn (edits.Delete loss name) rows = IsNameOf (value (codes "NAME") rows) (name_bytes name) × (loss ≡ loss_in rows)
-IsEditIn (edits.Undelete kind loss name) rows = IsNameOf (value (codes "NAME") rows) (name_bytes name)
-    × (entry_type_in rows ≡ Some kind) × (loss ≡ loss_in rows)
-IsEditIn (edits.Sort loss) rows = loss ≡ loss_in rows
-IsEditIn (edits.Put file kind loss name) rows = IsNameOf (value (codes "NAME") rows) (name_bytes name)
-    × (file.now ≡ value (codes "FILE") rows) × (type_in rows ≡ Some kind) × (loss ≡ loss_in rows)
-IsEditIn (edits.CopyFile from loss name to) rows = IsNameOf (value (codes "NAME") rows) (name_bytes name)
-    × IsNameOf (copy_name rows) (name_bytes to) × (from.now ≡ value (codes "FROM") rows) × (loss ≡ loss_in rows)
-IsEditIn (edits.Store records columns loss name) rows = IsNameOf (value (codes "NAME") rows) (name_bytes name)
-    × (records.now ≡ value (codes "RECORDS") rows) × AreColumns rows columns × (loss ≡ loss_in rows)
+-- the values and the flags ask for this change, and a new file can have each name that a file gets
+abbrev pub IsChangeIn : ChangeKind → List Row → Type 0
+IsChangeIn (kinds.Repair unowned) rows = (unowned ≡ unowned_in rows) × (is_given (codes "sides") rows ≡ false)
+IsChangeIn (kinds.RepairSides unowned) rows = (unowned ≡ unowned_in rows) × (is_given (codes "sides") rows ≡ true)
+IsChangeIn (kinds.Make length name) rows = IsNameOf (value (codes "NAME") rows) (name_bytes name)
+    × IsNewName (name_bytes name) × (length_in rows ≡ Some length)
+IsChangeIn (kinds.Rename from to) rows = IsNameOf (value (codes "OLD") rows) (name_bytes from)
+    × IsNameOf (value (codes "NEW") rows) (name_bytes to) × IsNewName (name_bytes to)
+IsChangeIn (kinds.Title id name) rows = IsNameOf (value (codes "NAME") rows) (name_bytes name)
+    × IsIdOf (value (codes "ID") rows) id
+IsChangeIn (kinds.Lock lock name) rows = IsNameOf (value (codes "NAME") rows) (name_bytes name)
+IsChangeIn (kinds.Delete name) rows = IsNameOf (value (codes "NAME") rows) (name_bytes name)
+IsChangeIn (kinds.Undelete kind name) rows = IsNameOf (value (codes "NAME") rows) (name_bytes name)
+    × (entry_type_in rows ≡ Some kind)
+IsChangeIn kinds.Sort rows = ⊤
+IsChangeIn (kinds.Put file kind name) rows = IsNameOf (value (codes "NAME") rows) (name_bytes name)
+    × IsNewName (name_bytes name) × (file.now ≡ value (codes "FILE") rows) × (type_in rows ≡ Some kind)
+IsChangeIn (kinds.CopyFile from name to) rows = IsNameOf (value (codes "NAME") rows) (name_bytes name)
+    × IsNameOf (copy_name rows) (name_bytes to) × IsNewName (name_bytes to) × (from.now ≡ value (codes "FROM") rows)
+IsChangeIn (kinds.Store records columns name) rows = IsNameOf (value (codes "NAME") rows) (name_bytes name)
+    × (records.now ≡ value (codes "RECORDS") rows) × AreColumns rows columns
 
 -- the words ask for more lines if the job isn't done, before the subcommand or after it
 abbrev pub is_explained : List Row → Option (Text × List Row) → Bool
@@ -96,8 +95,7 @@ IsJob found (jobs.FormatNew image tills) = Has found (codes "format")
     × (is_given (codes "new") rows ≡ true))
 IsJob found (jobs.Look image what) = Has found (word_of what)
     (λ rows. (image.now ≡ value (codes "IMAGE") rows) × IsAlone what rows × IsAskedBy what rows)
-IsJob found (jobs.Describe (forms.Described form) images) = Has found (codes "check")
-    (λ rows. AreDescribed rows form (vec_items images))
+IsJob found (jobs.Describe forms.Table images) = Has found (codes "check") (λ rows. AreTabled rows (vec_items images))
 IsJob found (jobs.Describe (forms.Planned form) images) = Has found (codes "plan")
     (λ rows. ArePlanned rows form (vec_items images))
 IsJob found (jobs.Describe (forms.Shown object) images) = Has found (object_word object)
@@ -125,8 +123,8 @@ IsJob found (jobs.Salvage log copy) = Has found (codes "copy")
 IsJob found (jobs.Extract choice image folder) = Has found (codes "extract")
     (λ rows. (image.now ≡ value (codes "IMAGE") rows) × (folder.now ≡ value (codes "FOLDER") rows)
     × (choice ≡ choice_in rows))
-IsJob found (jobs.Change image effect edit) = Has found (word_of_edit edit)
-    (λ rows. (image.now ≡ value (codes "IMAGE") rows) × IsEditIn edit rows × (effect ≡ effect_in rows))
+IsJob found (jobs.Change image effect loss kind) = Has found (word_of_change kind)
+    (λ rows. (image.now ≡ value (codes "IMAGE") rows) × IsChangeIn kind rows × (effect ≡ effect_in rows) × (loss ≡ loss_in rows))
 IsJob found (jobs.New image name id) = Has found (codes "new")
     (λ rows. (image.now ≡ value (codes "IMAGE") rows) × IsNameOf (value (codes "NAME") rows) (name_bytes name)
     × IsIdOf (value (codes "ID") rows) id)

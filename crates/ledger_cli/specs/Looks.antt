@@ -2,9 +2,7 @@
 use Rattle.std.specs.Prelude.{◌≡◌, ◌<◌, List, None, Option, Some, codes, false, if◌then◌else◌, length, true, ⊤}
 use Rattle.clap.specs.Words.{Row, Text}
 use Rattle.command_table.specs.Grammar.{value, values}
-use Rattle.opened_files.specs.Names.{IsNameOf, name_bytes}
-use Rattle.disk_reports.specs.declared.describing.DescriptionForm.{DescriptionForm}
-use Rattle.disk_reports.specs.declared.describing.DescriptionForm.TheVariants as forms
+use Rattle.file_changes.specs.Names.{IsNameOf, name_bytes}
 use Rattle.disk_reports.specs.declared.plans.PlanForm.{PlanForm}
 use Rattle.disk_reports.specs.declared.plans.PlanForm.TheVariants as plans
 use Rattle.file_rescues.specs.declared.forms.FileForm.TheVariants as files
@@ -60,31 +58,25 @@ faults_in rows = if is_given (codes "all") rows then disks.Faults else disks.Che
 abbrev pub check_in : List Row → Look
 check_in rows = disk_look_in (faults_in rows) rows
 
--- how images are to be described, if they are; --json wins over --csv
-abbrev pub description_in : List Row → Option DescriptionForm
-description_in rows =
-    if is_given (codes "json") rows then Some forms.Json
-    else (if is_given (codes "csv") rows then Some forms.Csv else None)
-
--- how a plan is to be printed: in lines, unless --json or --csv is given
-abbrev pub plan_of : Option DescriptionForm → PlanForm
-plan_of None = plans.Lines
-plan_of (Some forms.Json) = plans.Json
-plan_of (Some forms.Csv) = plans.Csv
-
--- the same, as the flags ask for it
+-- how a plan is to be printed: in lines, unless --json or --csv is given; --json wins over --csv
 abbrev pub plan_in : List Row → PlanForm
-plan_in rows = plan_of (description_in rows)
+plan_in rows =
+    if is_given (codes "json") rows then plans.Json
+    else (if is_given (codes "csv") rows then plans.Csv else plans.Lines)
 
 -- no objects of JSON are asked for
 abbrev pub IsPlain : List Row → Type 0
 IsPlain rows = is_given (codes "json") rows ≡ false
 
+-- nor a table
+abbrev pub IsText : List Row → Type 0
+IsText rows = IsPlain rows × (is_given (codes "csv") rows ≡ false)
+
 -- the values and the flags ask for this of a disk; with --json or --csv images are described in place of it
 abbrev pub IsDiskAsked : DiskLook → List Row → Type 0
 IsDiskAsked (disks.List form) rows = (form ≡ name_form_in rows) × IsPlain rows
-IsDiskAsked disks.Check rows = (description_in rows ≡ None) × (is_given (codes "all") rows ≡ false)
-IsDiskAsked disks.Faults rows = (description_in rows ≡ None) × (is_given (codes "all") rows ≡ true)
+IsDiskAsked disks.Check rows = IsText rows × (is_given (codes "all") rows ≡ false)
+IsDiskAsked disks.Faults rows = IsText rows × (is_given (codes "all") rows ≡ true)
 IsDiskAsked (disks.Show loss) rows = (loss ≡ loss_in rows) × IsPlain rows
 
 -- of a disk alone
@@ -99,6 +91,7 @@ IsAskedBy looks.Faults rows = IsAloneAsked disks.Faults rows
 IsAskedBy (looks.Show loss) rows = IsAloneAsked (disks.Show loss) rows
 IsAskedBy (looks.AsIs what) rows = (is_given (codes "as-is") rows ≡ true) × IsDiskAsked what rows
 IsAskedBy looks.Free rows = IsPlain rows
+IsAskedBy looks.Map rows = IsPlain rows
 IsAskedBy looks.Picture rows = is_given (codes "svg") rows ≡ false
 IsAskedBy looks.Poster rows = is_given (codes "svg") rows ≡ true
 IsAskedBy (looks.Sector place) rows = place_in rows ≡ Some place
@@ -108,18 +101,21 @@ IsAskedBy (looks.Bytes (files.Bytes form) candidates name) rows = IsNameOf (valu
     × (form ≡ byte_form_in rows) × (candidates ≡ candidates_in rows)
 IsAskedBy (looks.Bytes files.Listing candidates name) rows = IsNameOf (value (codes "NAME") rows) (name_bytes name)
     × (candidates ≡ candidates_in rows)
-IsAskedBy _ rows = ⊤
 
 -- the subcommand that shows images as this object
 abbrev pub object_word : ImageObject → Text
+object_word (objects.Check as_is) = codes "check"
 object_word (objects.List as_is) = codes "list"
 object_word objects.Free = codes "free"
+object_word objects.Map = codes "map"
 object_word (objects.Show loss as_is) = codes "show"
 
 -- the values and the flags ask for this object
 abbrev pub IsObjectAsked : ImageObject → List Row → Type 0
+IsObjectAsked (objects.Check as_is) rows = as_is ≡ is_given (codes "as-is") rows
 IsObjectAsked (objects.List as_is) rows = as_is ≡ is_given (codes "as-is") rows
 IsObjectAsked objects.Free rows = ⊤
+IsObjectAsked objects.Map rows = ⊤
 IsObjectAsked (objects.Show loss as_is) rows = (loss ≡ loss_in rows) × (as_is ≡ is_given (codes "as-is") rows)
 
 -- there is one image

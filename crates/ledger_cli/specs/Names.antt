@@ -12,15 +12,15 @@ use Rattle.file_changes.specs.NewNames.{IsNewName}
 use Rattle.rel_records.specs.File.{IsLength}
 use Rattle.command_table.specs.Grammar.{value}
 use Rattle.ledger_jobs.specs.declared.jobs.Job.{Job}
-use Rattle.opened_files.specs.Names.{IsNameOf, name_bytes}
+use Rattle.file_changes.specs.Names.{IsNameOf, name_bytes}
 use Rattle.ledger_cli.specs.declared.faults.JobFault.{JobFault}
-use Rattle.opened_files.specs.declared.names.Name.{Name}
+use Rattle.file_changes.specs.declared.names.Name.{Name}
 use Rattle.ledger_cli.specs.Numbers.{length_in}
 use Rattle.ledger_cli.specs.Forms.{AreColumns, IsRecordForm, candidates_in, effect_in, loss_in}
 use Rattle.ledger_cli.specs.Positions.{HasNoColumns}
 use Rattle.file_rescues.specs.declared.forms.RecordForm.{RecordForm}
-use Rattle.image_edits.specs.declared.edit.Columns.{Columns}
-use Rattle.image_edits.specs.declared.edit.Edit.TheVariants as edits
+use Rattle.disk_changes.specs.declared.changes.Columns.{Columns}
+use Rattle.disk_changes.specs.declared.changes.ChangeKind.TheVariants as kinds
 use Rattle.image_looks.specs.declared.kinds.Look.TheVariants as looks
 use Rattle.ledger_jobs.specs.declared.jobs.Job.TheVariants as jobs
 use Rattle.ledger_cli.specs.declared.faults.JobFault.TheVariants as faults
@@ -69,13 +69,13 @@ IsRecordsJob rows image result = ((form : RecordForm) × IsRecordForm rows form
 abbrev pub IsStoringJob : List Row → Bor Text → Result Job JobFault → Type 0
 IsStoringJob rows image result = ((records : Bor Text) × (columns : Columns)
     × (records.now ≡ value (codes "RECORDS") rows) × AreColumns rows columns
-    × IsNamedJob rows (λ name. jobs.Change image (effect_in rows) (edits.Store records columns (loss_in rows) name)) result)
+    × IsNamedJob rows (λ name. jobs.Change image (effect_in rows) (loss_in rows) (kinds.Store records columns name)) result)
     ⊎ IsColumnFault rows result
 
 -- the job that makes a relative file; or there is no name for it, or no length of its records
 abbrev pub IsMakingJob : List Row → Bor Text → Result Job JobFault → Type 0
 IsMakingJob rows image result =
-    ((name : Name) × (size : ℕ) × (result ≡ Ok (jobs.Change image (effect_in rows) (edits.Make size (loss_in rows) name)))
+    ((name : Name) × (size : ℕ) × (result ≡ Ok (jobs.Change image (effect_in rows) (loss_in rows) (kinds.Make size name)))
     × IsNameOf (value (codes "NAME") rows) (name_bytes name) × IsNewName (name_bytes name)
     × (length_in rows ≡ Some size) × IsLength size)
     ⊎ (((result ≡ Err faults.Name) × HasNoNewName (codes "NAME") rows)
@@ -88,7 +88,7 @@ HasNoRenaming rows = HasNoName (codes "OLD") rows ⊎ HasNoNewName (codes "NEW")
 -- the job that gives a file another name; or one of the two is none
 abbrev pub IsRenamingJob : List Row → Bor Text → Result Job JobFault → Type 0
 IsRenamingJob rows image result =
-    ((from : Name) × (to : Name) × (result ≡ Ok (jobs.Change image (effect_in rows) (edits.Rename (loss_in rows) from to)))
+    ((from : Name) × (to : Name) × (result ≡ Ok (jobs.Change image (effect_in rows) (loss_in rows) (kinds.Rename from to)))
     × IsNameOf (value (codes "OLD") rows) (name_bytes from) × IsNameOf (value (codes "NEW") rows) (name_bytes to)
     × IsNewName (name_bytes to))
     ⊎ ((result ≡ Err faults.Name) × HasNoRenaming rows)
@@ -106,7 +106,7 @@ HasNoFileCopying rows = HasNoName (codes "NAME") rows
 abbrev pub IsFileCopyingJob : List Row → Bor Text → Result Job JobFault → Type 0
 IsFileCopyingJob rows image result =
     ((from : Bor Text) × (name : Name) × (to : Name)
-    × (result ≡ Ok (jobs.Change image (effect_in rows) (edits.CopyFile from (loss_in rows) name to)))
+    × (result ≡ Ok (jobs.Change image (effect_in rows) (loss_in rows) (kinds.CopyFile from name to)))
     × (from.now ≡ value (codes "FROM") rows) × IsNameOf (value (codes "NAME") rows) (name_bytes name)
     × IsNameOf (copy_name rows) (name_bytes to) × IsNewName (name_bytes to))
     ⊎ ((result ≡ Err faults.Name) × HasNoFileCopying rows)
@@ -139,7 +139,7 @@ type_in rows = type_named (value (codes "TYPE") rows)
 -- the job that puts a file on the disk; or there is no name for it, or no type
 abbrev pub IsPuttingJob : List Row → Bor Text → Result Job JobFault → Type 0
 IsPuttingJob rows image result =
-    ((name : Name) × (file : Bor Text) × (kind : FileType) × (result ≡ Ok (jobs.Change image (effect_in rows) (edits.Put file kind (loss_in rows) name)))
+    ((name : Name) × (file : Bor Text) × (kind : FileType) × (result ≡ Ok (jobs.Change image (effect_in rows) (loss_in rows) (kinds.Put file kind name)))
     × IsNameOf (value (codes "NAME") rows) (name_bytes name) × IsNewName (name_bytes name)
     × (file.now ≡ value (codes "FILE") rows) × (type_in rows ≡ Some kind))
     ⊎ (((result ≡ Err faults.Name) × HasNoNewName (codes "NAME") rows)

@@ -11,8 +11,8 @@ use Rattle.command_faults.specs.declared.faults.CommandFault.{CommandFault}
 use Rattle.command_faults.specs.declared.faults.CommandFault.TheVariants as faults
 use Rattle.image_looks.specs.Comparisons.{IsComparingRun}
 use Rattle.opened_files.specs.Ends.{EndsAs, JobEnd, as_run, end_status, refusal_line}
-use Rattle.image_edits.specs.Edits.{IsEdited, IsUnedited}
-use Rattle.opened_files.specs.Names.{name_bytes}
+use Rattle.disk_changes.specs.Changes.{IsChangedBy, IsUnchangedBy}
+use Rattle.file_changes.specs.Names.{name_bytes}
 use Rattle.image_edits.specs.NewDisks.{IsNewImage}
 use Rattle.shop_commands.specs.Images.{AreFreshBytes}
 use Rattle.image_looks.specs.Looks.{IsLook}
@@ -90,8 +90,9 @@ module _ {F : Type 0} (position : F → Option ℕ) (bytes contents : F → Opti
   IsJobRun told (jobs.Copy path copy) image script file after old new end = IsCopyJob told image file after old new end
   IsJobRun told (jobs.Salvage log copy) image script file after old new end =
       (after ≡ file) × (new ≡ old) × (end ≡ Err faults.File)
-  IsJobRun told (jobs.Change path effect edit) image script file after old new end = IsChangeJob position bytes contents told effect
-      (IsEdited edit script image) (IsUnedited edit script image) file after old new end
+  IsJobRun told (jobs.Change path effect loss kind) image script file after old new end =
+      IsChangeJob position bytes contents told effect (IsChangedBy kind loss script image) (IsUnchangedBy kind loss script image)
+      file after old new end
   IsJobRun told (jobs.Trim path) image script file after old new end =
       (after ≡ file) × (new ≡ old) × (end ≡ Err faults.File)
   IsJobRun told (jobs.Compare before later) image script file after old new end =

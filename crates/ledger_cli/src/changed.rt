@@ -23,7 +23,7 @@ fn write_changed<F: Write + Seek, W: Write>(
     file: &mut F,
     out: &mut W,
 ) -> Result<u16, CommandFault>
-    requires fit { IsFit what.now }
+    requires fit { IsFit what.now.kind.now }
     ensures { IsChangeWritten F.stream_position F.stream_bytes F.contents W.contents (IsChanged what.now image.now)
         (IsRefused what.now image.now) file.old file.new out.old out.new result }
 {
@@ -45,7 +45,7 @@ fn change_made<F: Write + Seek + Drop, W: Write>(
     file: Option<F>,
     out: &mut W,
 ) -> (Option<F>, Ended)
-    requires fit { IsFit what.now }
+    requires fit { IsFit what.now.kind.now }
     ensures { IsChangeMade F.stream_position F.stream_bytes F.contents W.contents (IsChanged what.now image.now)
         (IsRefused what.now image.now) file result.0 out.old out.new result.1 }
 {
@@ -65,7 +65,7 @@ pub(crate) fn change_over<F: Write + Seek + Drop, W: Write>(
     file: Option<F>,
     out: &mut W,
 ) -> (Option<F>, Ended)
-    requires fit { IsFit what.now }
+    requires fit { IsFit what.now.kind.now }
     ensures { IsChangeJob F.stream_position F.stream_bytes F.contents W.contents effect (IsChanged what.now image.now)
         (IsRefused what.now image.now) file result.0 out.old out.new result.1 }
 {

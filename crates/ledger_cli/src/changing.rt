@@ -1,14 +1,15 @@
 //! Jobs that make an image or run its shop, over its file.
 ghost use Rattle.std.specs.Prelude.{◌≤◌, length};
 ghost use Rattle.ledger_cli.specs.Runs.{IsCopyJob, IsFormatted, IsNewMade, IsPlayed};
-ghost use Rattle.opened_files.specs.Names.{name_bytes};
+ghost use Rattle.file_changes.specs.Names.{name_bytes};
 
 use crate::making::{copy_image, make_disk, make_image};
 use crate::playing::play_written;
 use crate::stream::{begin, file_of};
 use command_faults::CommandFault;
 use disk_layout::Fault;
-use opened_files::{Name, run_end};
+use file_changes::Name;
+use opened_files::run_end;
 use std::alloc::Global;
 use std::io::{Seek, Write};
 

@@ -1,11 +1,12 @@
 //! `-` in place of a path: standard input, where a file is read.
 ghost use Rattle.std.specs.Prelude.{◌≡◌};
-ghost use Rattle.image_edits.specs.Edits.{IsFitEdit};
-ghost use Rattle.ledger_cli.specs.Dashes.{AreReadAs, IsEditRead, IsJobRead, is_written_dash};
+ghost use Rattle.disk_changes.specs.Changes as changes;
+ghost use Rattle.ledger_cli.specs.Dashes.{AreReadAs, IsChangeRead, IsJobRead, is_written_dash};
 ghost use Rattle.ledger_cli.specs.Dashes as dashes;
 ghost use Rattle.ledger_jobs.specs.Jobs.{IsFit};
 
-use image_edits::{Edit, Effect};
+use disk_changes::ChangeKind;
+use image_edits::Effect;
 use ledger_jobs::Job;
 use opened_files::STANDARD_INPUT;
 
@@ -60,46 +61,32 @@ fn read_paths<'a>(mut paths: Vec<&'a str>) -> Vec<&'a str>
 }
 
 /// The change whose file is read under this path.
-fn read_edit(edit: Edit<'_>) -> Edit<'_>
-    requires { IsFitEdit edit }
-    ensures fit { IsFitEdit result }
-    ensures read { IsEditRead edit.entry result }
+fn read_change(change: ChangeKind<'_>) -> ChangeKind<'_>
+    requires { changes.IsFit change }
+    ensures fit { changes.IsFit result }
+    ensures read { IsChangeRead change.entry result }
 {
-    match edit {
-        Edit::Put {
-            file,
-            kind,
-            loss,
-            name,
-        } => Edit::Put {
+    match change {
+        ChangeKind::Put { file, kind, name } => ChangeKind::Put {
             file: read_path(file),
             kind,
-            loss,
             name,
         },
-        Edit::CopyFile {
-            from,
-            loss,
-            name,
-            to,
-        } => Edit::CopyFile {
+        ChangeKind::CopyFile { from, name, to } => ChangeKind::CopyFile {
             from: read_path(from),
-            loss,
             name,
             to,
         },
-        Edit::Store {
+        ChangeKind::Store {
             records,
             columns,
-            loss,
             name,
-        } => Edit::Store {
+        } => ChangeKind::Store {
             records: read_path(records),
             columns,
-            loss,
             name,
         },
-        edit => edit,
+        change => change,
     }
 }
 
@@ -151,11 +138,13 @@ pub(crate) fn read_dashes(job: Job<'_>) -> Job<'_>
         Job::Change {
             image,
             effect,
-            edit,
+            loss,
+            kind,
         } => Job::Change {
             image: read_path(image),
             effect,
-            edit: read_edit(edit),
+            loss,
+            kind: read_change(kind),
         },
         Job::Trim { image } => Job::Trim {
             image: read_path(image),

@@ -4,13 +4,12 @@ ghost use Rattle.clap.specs.Words.{found_of, rows_of};
 ghost use Rattle.ledger_cli.specs.Names.{IsFileCopyingJob, copy_name as named_copy};
 
 use crate::faults::JobFault;
-use crate::forms::loss;
-use crate::names::{edited, new_name};
+use crate::names::{changing, new_name};
 use crate::values::{optional_value, value_of};
 use clap::ArgMatches;
-use image_edits::Edit;
+use disk_changes::ChangeKind;
+use file_changes::Name;
 use ledger_jobs::Job;
-use opened_files::Name;
 
 /// The name that the words give a copy: that of NEW, otherwise of NAME.
 fn copy_name<'a>(matches: &ArgMatches<'a>) -> &'a str
@@ -35,13 +34,8 @@ pub(crate) fn copying_file<'a>(
     };
     match new_name(copy_name(matches)) {
         Some(to) => {
-            let edit = Edit::CopyFile {
-                from,
-                loss: loss(matches),
-                name,
-                to,
-            };
-            Ok(edited(matches, image, edit))
+            let kind = ChangeKind::CopyFile { from, name, to };
+            Ok(changing(matches, image, kind))
         }
         None => Err(JobFault::Name),
     }

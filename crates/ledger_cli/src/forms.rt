@@ -11,9 +11,10 @@ use crate::faults::JobFault;
 use crate::positions::columns_asked;
 use crate::values::is_given;
 use clap::ArgMatches;
+use disk_changes::{ChangeKind, Columns, Unowned};
 use disk_reports::NameForm;
 use file_rescues::{ByteForm, Candidates, Choice, RecordForm};
-use image_edits::{Columns, Edit, Effect, Unowned};
+use image_edits::Effect;
 use image_looks::{DiskLook, Look};
 use ledger_jobs::Job;
 use line_text::CharacterSet;
@@ -56,16 +57,17 @@ pub(crate) fn effect<'a>(matches: &ArgMatches<'a>) -> Effect
 pub(crate) fn repairing<'a>(matches: &ArgMatches<'a>, image: &'a str) -> Job<'a>
     ensures { result ≡ repair_job (rows_of (found_of matches.now)) image.entry }
 {
-    let (loss, unowned, effect) = (loss(matches), unowned(matches), effect(matches));
-    let edit = if is_given(matches, "sides") {
-        Edit::RepairSides { loss, unowned }
+    let unowned = unowned(matches);
+    let kind = if is_given(matches, "sides") {
+        ChangeKind::RepairSides { unowned }
     } else {
-        Edit::Repair { loss, unowned }
+        ChangeKind::Repair { unowned }
     };
     Job::Change {
         image,
-        edit,
-        effect,
+        effect: effect(matches),
+        loss: loss(matches),
+        kind,
     }
 }
 

@@ -3,14 +3,14 @@ ghost use Rattle.std.specs.Prelude.{◌≡◌};
 ghost use Rattle.clap.specs.Words.{found_of, rows_of};
 ghost use Rattle.ledger_cli.specs.Images.{IsCheckJob, IsDescribing, IsLookJob, IsComparing, IsPictureJob};
 ghost use Rattle.ledger_cli.specs.Images.{IsPlanJob, IsSeveral, IsSheet, IsShowingJob, picture_job, has_two_forms as two_forms};
-ghost use Rattle.ledger_cli.specs.Looks.{description_in, plan_in};
+ghost use Rattle.ledger_cli.specs.Looks.{plan_in};
 
 use crate::faults::JobFault;
 use crate::forms::checked;
 use crate::values::{is_given, value_of, values_of};
 use clap::{ArgMatches, Error};
 use disk_pictures::MOST_TILES;
-use disk_reports::{DescriptionForm, PlanForm};
+use disk_reports::PlanForm;
 use image_looks::{ImageForm, ImageObject, Look};
 use ledger_jobs::Job;
 use std::alloc::{AllocError, Global};
@@ -120,19 +120,6 @@ pub(crate) fn viewing<'a>(
     of_several(alloc, what, images)
 }
 
-/// How images are to be described, if they are.
-fn description_of<'a>(matches: &ArgMatches<'a>) -> Option<DescriptionForm>
-    ensures { result ≡ description_in (rows_of (found_of matches.now)) }
-{
-    if is_given(matches, "json") {
-        Some(DescriptionForm::Json)
-    } else if is_given(matches, "csv") {
-        Some(DescriptionForm::Csv)
-    } else {
-        None
-    }
-}
-
 /// The job that describes these images in a form.
 fn described<'a>(alloc: Global, form: ImageForm, images: &[&'a str]) -> Result<Job<'a>, JobFault>
     ensures { IsDescribing form images.now result }
@@ -144,18 +131,26 @@ fn described<'a>(alloc: Global, form: ImageForm, images: &[&'a str]) -> Result<J
     }
 }
 
-/// The job that checks images, or describes each.
+/// The job that checks images, or prints an object of each with --json, or a row of a table with --csv. --json goes before --csv.
 pub(crate) fn checking<'a>(alloc: Global, matches: &ArgMatches<'a>) -> Result<Job<'a>, JobFault>
     ensures { IsCheckJob (rows_of (found_of matches.now)) result }
 {
-    let Some(form) = description_of(matches) else {
-        return viewing(alloc, matches, checked(matches));
-    };
     let Some(images) = values_of(matches, "IMAGE") else {
         // A parse without an image is refused.
         return Err(JobFault::Words(Error::from(AllocError)));
     };
-    described(alloc, ImageForm::Described(form), images)
+    if is_given(matches, "json") {
+        let as_is = is_given(matches, "as-is");
+        return described(
+            alloc,
+            ImageForm::Shown(ImageObject::Check { as_is }),
+            images,
+        );
+    }
+    if is_given(matches, "csv") {
+        return described(alloc, ImageForm::Table, images);
+    }
+    viewing(alloc, matches, checked(matches))
 }
 
 /// The job that prints this of one image, or of several, or with --json an object of each.
@@ -181,10 +176,12 @@ pub(crate) fn showing<'a>(
 fn plan_form<'a>(matches: &ArgMatches<'a>) -> PlanForm
     ensures { result ≡ plan_in (rows_of (found_of matches.now)) }
 {
-    match description_of(matches) {
-        Some(DescriptionForm::Json) => PlanForm::Json,
-        Some(DescriptionForm::Csv) => PlanForm::Csv,
-        None => PlanForm::Lines,
+    if is_given(matches, "json") {
+        PlanForm::Json
+    } else if is_given(matches, "csv") {
+        PlanForm::Csv
+    } else {
+        PlanForm::Lines
     }
 }
 

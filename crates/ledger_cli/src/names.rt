@@ -7,26 +7,25 @@ ghost use Rattle.ledger_cli.specs.Forms.{candidates_in, effect_in, loss_in};
 ghost use Rattle.clap.specs.Words.{found_of, rows_of};
 ghost use Rattle.line_text.specs.bytes.Texts.{AreBytes};
 ghost use Rattle.file_changes.specs.NewNames.{IsNewName};
-ghost use Rattle.opened_files.specs.Names.{IsNameOf, name_bytes};
-ghost use Rattle.ledger_cli.specs.Names.{IsMakingJob, IsStoringJob, IsNamedJob, IsRecordsJob, IsRenamingJob, IsTitlingJob, IsIdOf};
+ghost use Rattle.file_changes.specs.Names.{IsNameOf, name_bytes};
+ghost use Rattle.ledger_cli.specs.Names.{IsMakingJob, IsStoringJob, IsNamedJob, IsRecordsJob, IsRenamingJob, IsTitlingJob};
 ghost use Rattle.ledger_cli.specs.Names.{IsPuttingJob};
-ghost use Rattle.image_edits.specs.declared.edit.Edit.TheVariants as edits;
+ghost use Rattle.disk_changes.specs.declared.changes.ChangeKind.TheVariants as kinds;
 ghost use Rattle.ledger_jobs.specs.declared.jobs.Job.TheVariants as jobs;
 ghost use Rattle.image_looks.specs.declared.kinds.Look.TheVariants as looks;
 
+use crate::disk_ids::id_of;
 use crate::faults::JobFault;
 use crate::file_types::type_named;
 use crate::forms::{candidates, columns, effect, loss, record_form};
 use crate::numbers::length_of;
 use crate::values::value_of;
 use clap::ArgMatches;
-use disk_changes::{EntryType, Lock};
+use disk_changes::{ChangeKind, Columns, EntryType, Lock};
+use file_changes::Name;
 use file_rescues::{FileForm, RecordForm};
-use image_edits::{Columns, Edit};
 use image_looks::Look;
 use ledger_jobs::Job;
-use line_text::read_text;
-use opened_files::Name;
 
 /// The job that prints the file of a name in this form.
 pub(crate) fn taking_file<'a>(
@@ -82,13 +81,19 @@ pub(crate) fn taking_records<'a>(
 }
 
 /// The job that changes an image so, or only prints what that would print.
-pub(crate) fn edited<'a>(matches: &ArgMatches<'a>, image: &'a str, edit: Edit<'a>) -> Job<'a>
-    ensures { result ≡ jobs.Change image.entry (effect_in (rows_of (found_of matches.now))) edit.entry }
+pub(crate) fn changing<'a>(
+    matches: &ArgMatches<'a>,
+    image: &'a str,
+    kind: ChangeKind<'a>,
+) -> Job<'a>
+    ensures { let rows = rows_of (found_of matches.now) in
+        result ≡ jobs.Change image.entry (effect_in rows) (loss_in rows) kind.entry }
 {
     Job::Change {
         image,
-        edit,
         effect: effect(matches),
+        loss: loss(matches),
+        kind,
     }
 }
 
@@ -112,10 +117,7 @@ pub(crate) fn making<'a>(matches: &ArgMatches<'a>, image: &'a str) -> Result<Job
         return Err(JobFault::Name);
     };
     match length_of(value_of(matches, "BYTES")) {
-        Some(length) => {
-            let loss = loss(matches);
-            Ok(edited(matches, image, Edit::Make { length, loss, name }))
-        }
+        Some(length) => Ok(changing(matches, image, ChangeKind::Make { length, name })),
         None => Err(JobFault::Length),
     }
 }
@@ -129,18 +131,17 @@ fn storing_in<'a>(
     ensures { (records : Bor Text) × (records.now ≡ value (codes "RECORDS") (rows_of (found_of matches.now)))
         × IsNamedJob (rows_of (found_of matches.now)) (λ name.
         let rows = rows_of (found_of matches.now) in
-        jobs.Change image.entry (effect_in rows) (edits.Store records columns (loss_in rows) name)) result }
+        jobs.Change image.entry (effect_in rows) (loss_in rows) (kinds.Store records columns name)) result }
 {
     let records = value_of(matches, "RECORDS");
     match Name::read(value_of(matches, "NAME")) {
         Some(name) => {
-            let edit = Edit::Store {
+            let kind = ChangeKind::Store {
                 records,
                 columns,
-                loss: loss(matches),
                 name,
             };
-            Ok(edited(matches, image, edit))
+            Ok(changing(matches, image, kind))
         }
         None => Err(JobFault::Name),
     }
@@ -159,13 +160,10 @@ pub(crate) fn storing<'a>(matches: &ArgMatches<'a>, image: &'a str) -> Result<Jo
 /// The job that deletes a file of an image.
 pub(crate) fn deleting<'a>(matches: &ArgMatches<'a>, image: &'a str) -> Result<Job<'a>, JobFault>
     ensures { let rows = rows_of (found_of matches.now) in
-        IsNamedJob rows (λ name. jobs.Change image.entry (effect_in rows) (edits.Delete (loss_in rows) name)) result }
+        IsNamedJob rows (λ name. jobs.Change image.entry (effect_in rows) (loss_in rows) (kinds.Delete name)) result }
 {
     match Name::read(value_of(matches, "NAME")) {
-        Some(name) => {
-            let loss = loss(matches);
-            Ok(edited(matches, image, Edit::Delete { loss, name }))
-        }
+        Some(name) => Ok(changing(matches, image, ChangeKind::Delete { name })),
         None => Err(JobFault::Name),
     }
 }
@@ -177,13 +175,10 @@ pub(crate) fn undeleting<'a>(
     kind: EntryType,
 ) -> Result<Job<'a>, JobFault>
     ensures { let rows = rows_of (found_of matches.now) in
-        IsNamedJob rows (λ name. jobs.Change image.entry (effect_in rows) (edits.Undelete kind (loss_in rows) name)) result }
+        IsNamedJob rows (λ name. jobs.Change image.entry (effect_in rows) (loss_in rows) (kinds.Undelete kind name)) result }
 {
     match Name::read(value_of(matches, "NAME")) {
-        Some(name) => {
-            let loss = loss(matches);
-            Ok(edited(matches, image, Edit::Undelete { kind, loss, name }))
-        }
+        Some(name) => Ok(changing(matches, image, ChangeKind::Undelete { kind, name })),
         None => Err(JobFault::Name),
     }
 }
@@ -191,10 +186,9 @@ pub(crate) fn undeleting<'a>(
 /// The job that sorts the directory of an image.
 pub(crate) fn sorting<'a>(matches: &ArgMatches<'a>, image: &'a str) -> Job<'a>
     ensures { let rows = rows_of (found_of matches.now) in
-        result ≡ jobs.Change image.entry (effect_in rows) (edits.Sort (loss_in rows)) }
+        result ≡ jobs.Change image.entry (effect_in rows) (loss_in rows) kinds.Sort }
 {
-    let loss = loss(matches);
-    edited(matches, image, Edit::Sort { loss })
+    changing(matches, image, ChangeKind::Sort)
 }
 
 /// The job that locks or unlocks a file of an image.
@@ -204,13 +198,10 @@ pub(crate) fn locking<'a>(
     lock: Lock,
 ) -> Result<Job<'a>, JobFault>
     ensures { let rows = rows_of (found_of matches.now) in
-        IsNamedJob rows (λ name. jobs.Change image.entry (effect_in rows) (edits.Lock lock (loss_in rows) name)) result }
+        IsNamedJob rows (λ name. jobs.Change image.entry (effect_in rows) (loss_in rows) (kinds.Lock lock name)) result }
 {
     match Name::read(value_of(matches, "NAME")) {
-        Some(name) => {
-            let loss = loss(matches);
-            Ok(edited(matches, image, Edit::Lock { lock, loss, name }))
-        }
+        Some(name) => Ok(changing(matches, image, ChangeKind::Lock { lock, name })),
         None => Err(JobFault::Name),
     }
 }
@@ -223,10 +214,7 @@ pub(crate) fn renaming<'a>(matches: &ArgMatches<'a>, image: &'a str) -> Result<J
         return Err(JobFault::Name);
     };
     match new_name(value_of(matches, "NEW")) {
-        Some(to) => {
-            let loss = loss(matches);
-            Ok(edited(matches, image, Edit::Rename { loss, from, to }))
-        }
+        Some(to) => Ok(changing(matches, image, ChangeKind::Rename { from, to })),
         None => Err(JobFault::Name),
     }
 }
@@ -240,29 +228,9 @@ pub(crate) fn putting<'a>(matches: &ArgMatches<'a>, image: &'a str) -> Result<Jo
         return Err(JobFault::Name);
     };
     match type_named(value_of(matches, "TYPE")) {
-        Some(kind) => {
-            let edit = Edit::Put {
-                file,
-                kind,
-                loss: loss(matches),
-                name,
-            };
-            Ok(edited(matches, image, edit))
-        }
+        Some(kind) => Ok(changing(matches, image, ChangeKind::Put { file, kind, name })),
         None => Err(JobFault::Kind),
     }
-}
-
-/// The ID of a disk that has this text.
-fn id_of(text: &str) -> Option<[u8; 2]>
-    ensures found { IfSome result (λ id. IsIdOf text.now id) }
-    ensures none { IsNone result → (bytes : List ℕ) → AreBytes bytes → ¬ (IsIdOf text.now bytes) }
-{
-    let bytes = read_text(text.as_bytes())?;
-    if bytes.len() != 2 {
-        return None;
-    }
-    Some([bytes[0], bytes[1]])
 }
 
 /// The job that makes the image of an empty disk.
@@ -281,7 +249,7 @@ pub(crate) fn empty_disk<'a>(matches: &ArgMatches<'a>, image: &'a str) -> Result
 /// The job that gives the disk of an image another name and ID.
 pub(crate) fn titling<'a>(matches: &ArgMatches<'a>, image: &'a str) -> Result<Job<'a>, JobFault>
     ensures { let rows = rows_of (found_of matches.now) in
-        IsTitlingJob rows (λ name id. jobs.Change image.entry (effect_in rows) (edits.Title id (loss_in rows) name)) result }
+        IsTitlingJob rows (λ name id. jobs.Change image.entry (effect_in rows) (loss_in rows) (kinds.Title id name)) result }
 {
     let Some(name) = Name::read(value_of(matches, "NAME")) else {
         return Err(JobFault::Name);
@@ -289,6 +257,5 @@ pub(crate) fn titling<'a>(matches: &ArgMatches<'a>, image: &'a str) -> Result<Jo
     let Some(id) = id_of(value_of(matches, "ID")) else {
         return Err(JobFault::Id);
     };
-    let loss = loss(matches);
-    Ok(edited(matches, image, Edit::Title { id, loss, name }))
+    Ok(changing(matches, image, ChangeKind::Title { id, name }))
 }

@@ -9,7 +9,7 @@ fn commands_for(word: &str) -> Option<&'static str> {
         "hexdump" => Some("`sector` and `bytes`"),
         "read" => Some("`bytes`"),
         "write" => Some("`put`"),
-        "attach" | "detach" => Some("an image's path, after each command,"),
+        "attach" | "detach" => Some("the image's path in each command"),
         "convert" => Some("`trim` or `extract`"),
         "cp" => Some("`copy-file` or `copy`"),
         "hash" | "md5" | "sha1" => Some("`check --json`"),

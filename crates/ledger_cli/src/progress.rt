@@ -1,7 +1,7 @@
 //! How far long work is, for a person who waits for it.
 ghost use Rattle.shop_jobs.specs.JobOutputs.{of_no_log};
 
-use image_edits::Edit;
+use disk_changes::ChangeKind;
 use image_log::ImageLog;
 use ledger_jobs::Job;
 use line_text::NotTaken;
@@ -17,7 +17,7 @@ pub(crate) fn is_long(job: &Job<'_>) -> bool {
     match job {
         Job::Play { .. } | Job::PlayLogged { .. } | Job::Dry { .. } => true,
         Job::Change {
-            edit: Edit::Store { .. },
+            kind: ChangeKind::Store { .. },
             ..
         } => true,
         _ => false,

@@ -3,9 +3,10 @@ ghost use Rattle.std.specs.Prelude.{Option};
 ghost use Rattle.ledger_cli.specs.Runs.{IsJobRun, IsRun};
 ghost use Rattle.ledger_jobs.specs.Jobs.{IsFit};
 
+use crate::changed::change_over;
 use crate::changing::{Ended, begin_disk, copy, format, play};
-use crate::editing::edited;
 use command_faults::CommandFault;
+use disk_changes::Change;
 use image_looks::{comparing_run, look};
 use ledger_jobs::Job;
 use opened_files::end;
@@ -34,10 +35,18 @@ fn obey<F: Write + Seek + Drop, W: Write>(
         Job::Play { .. } | Job::PlayLogged { .. } => play(alloc, image, script, file, out),
         Job::Copy { .. } => copy(image, file, out),
         Job::Change {
-            ref edit,
             effect,
+            loss,
+            ref kind,
             ..
-        } => edited(alloc, image, edit, script, effect, file, out),
+        } => {
+            let what = Change {
+                kind,
+                loss,
+                source: script,
+            };
+            change_over(alloc, image, &what, effect, file, out)
+        }
         Job::Compare { before, after } => (
             file,
             comparing_run(alloc, before, image, after, script, out),

@@ -61,7 +61,7 @@ fn looks_at_each(words: &[String]) -> bool {
     };
     if !matches!(
         command.as_str(),
-        "check" | "free" | "list" | "plan" | "show"
+        "check" | "free" | "list" | "map" | "plan" | "show"
     ) {
         return false;
     }

@@ -84,7 +84,7 @@ fn job_of<'a>(alloc: Global, matches: &ArgMatches<'a>) -> Result<Job<'a>, JobFau
         },
         "sort" => Ok(sorting(found, image)),
         "new" => empty_disk(found, image),
-        "map" => viewing(alloc, found, Look::Map),
+        "map" => showing(alloc, found, Look::Map, ImageObject::Map),
         "picture" => picturing(alloc, found),
         "dry" => Ok(Job::Dry { script }),
         "free" => showing(alloc, found, Look::Free, ImageObject::Free),

@@ -2,8 +2,8 @@
 use Rattle.std.specs.Prelude.{⊤, ℕ, All, IfSome, List, None, Option, Some}
 use Rattle.ledger_jobs.specs.declared.jobs.Job.{Job}
 use Rattle.ledger_jobs.specs.declared.jobs.Job.TheVariants as jobs
+use Rattle.disk_changes.specs.declared.changes.ChangeKind.TheVariants as kinds
 use Rattle.image_file.specs.paths.Rights.{MayRead, Rights}
-use Rattle.image_edits.specs.declared.edit.Edit.TheVariants as edits
 use Rattle.image_edits.specs.EditRights.{MayEdit, MayReadSource}
 use Rattle.opened_files.specs.Rights.{MayLook, MayLookAside, MayReadImage, MayReadText, MayChangeImage, MayMakeImage, MayFillAt}
 
@@ -13,7 +13,7 @@ first_file (jobs.Format image tills) = Some image.now
 first_file (jobs.FormatNew image tills) = Some image.now
 first_file (jobs.New image name id) = Some image.now
 first_file (jobs.Look image what) = Some image.now
-first_file (jobs.Change image effect edit) = Some image.now
+first_file (jobs.Change image effect loss kind) = Some image.now
 first_file (jobs.Play image script loss) = Some image.now
 first_file (jobs.PlayLogged image script loss) = Some image.now
 first_file (jobs.Dry script) = Some script.now
@@ -36,7 +36,7 @@ made_path _ = None
 
 -- the other image, of which a job copies a file
 abbrev pub source_file : Job → Option (List ℕ)
-source_file (jobs.Change image effect (edits.CopyFile from loss name to)) = Some from.now
+source_file (jobs.Change image effect loss (kinds.CopyFile from name to)) = Some from.now
 source_file _ = None
 
 -- the script that a job plays, or the file of the host whose bytes a change takes
@@ -44,8 +44,8 @@ abbrev pub text_file : Job → Option (List ℕ)
 text_file (jobs.Play image script loss) = Some script.now
 text_file (jobs.PlayLogged image script loss) = Some script.now
 text_file (jobs.Dry script) = Some script.now
-text_file (jobs.Change image effect (edits.Put file kind loss name)) = Some file.now
-text_file (jobs.Change image effect (edits.Store records columns loss name)) = Some records.now
+text_file (jobs.Change image effect loss (kinds.Put file kind name)) = Some file.now
+text_file (jobs.Change image effect loss (kinds.Store records columns name)) = Some records.now
 text_file _ = None
 
 module _ {H : Type 0} (rights : Rights H) (host : H) where
@@ -55,7 +55,7 @@ module _ {H : Type 0} (rights : Rights H) (host : H) where
   MayDo (jobs.FormatNew image tills) = MayMakeImage rights host image.now
   MayDo (jobs.New image name id) = MayMakeImage rights host image.now
   MayDo (jobs.Look image what) = MayReadImage rights host image.now
-  MayDo (jobs.Change image effect edit) = MayEdit rights host effect image.now × MayReadSource rights host edit
+  MayDo (jobs.Change image effect loss kind) = MayEdit rights host effect image.now × MayReadSource rights host kind
   MayDo (jobs.Play image script loss) = MayChangeImage rights host image.now × MayReadText rights host script.now
   MayDo (jobs.PlayLogged image script loss) = MayChangeImage rights host image.now × MayReadText rights host script.now
   MayDo (jobs.Dry script) = MayReadText rights host script.now

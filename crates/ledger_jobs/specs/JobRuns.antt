@@ -14,7 +14,7 @@ use Rattle.image_file.specs.paths.Standing.{Stands}
 use Rattle.image_file.specs.paths.Traces.{Traces}
 use Rattle.image_log.specs.life.HostLogs.{FolderHistories, LogHistories}
 use Rattle.opened_files.specs.Ends.{JobEnd}
-use Rattle.opened_files.specs.Names.{name_bytes}
+use Rattle.file_changes.specs.Names.{name_bytes}
 use Rattle.shop_jobs.specs.Replies.{IsShopAt, IsLoggedService}
 use Rattle.ledger_jobs.specs.declared.jobs.Job.{Job}
 use Rattle.ledger_jobs.specs.declared.jobs.Job.TheVariants as jobs
@@ -48,8 +48,8 @@ module _ {H F W : Type 0} (g : HostGhosts H F) (r : ReadGhosts F) (s : SeekGhost
       IsSalvagedFrom rights stands traces remains contents host log.now copy.now old new end
   IsJobOver (jobs.Extract choice image folder) old new end =
       IsExtractedFrom rights stands traces remains contents host choice image.now folder.now old new end
-  IsJobOver (jobs.Change image effect edit) old new end =
-      IsEditOver rights stands changed contents host effect image.now edit old new end
+  IsJobOver (jobs.Change image effect loss kind) old new end =
+      IsEditOver rights stands changed contents host effect image.now kind loss old new end
   IsJobOver (jobs.Format image tills) old new end =
       IsFormattedEnd remains traces rights replaced contents host image.now tills old new end
   IsJobOver (jobs.FormatNew image tills) old new end = IsNewShopEnd traces remains contents host image.now tills old new end

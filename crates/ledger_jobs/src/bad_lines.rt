@@ -1,7 +1,7 @@
 //! Why a line isn't one of a record: what a person has to mend, and in which column.
 
+use disk_changes::Columns;
 use file_rescues::ColumnForm;
-use image_edits::Columns;
 use line_text::{next_line, number_before_comma};
 
 /// The greatest number of a record that a line can have.

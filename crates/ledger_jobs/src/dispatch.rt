@@ -29,7 +29,7 @@ use std::io::Read;
 /// `InUse` if another program has the image; `Log` if its log gives no image; `LogAway` if that has the rest of a shop and
 /// isn't there, and the job shows, plays, serves or changes an image and accepts no loss; `File` if a file couldn't be opened
 /// or read, `NotReady` if input that is read whole is set not to wait. The other faults are those of `look`, `dry_run`,
-/// `do_format`, `make_image`, `play_durably`, `play_logged`, `serve_logged_guarded`, `salvage`,
+/// `do_format`, `make_image`, `play_durably`, `play_logged`, `serve_logged`, `salvage`,
 /// `change_image`, `show_change`, `extract_run` and `comparing_run`.
 /// `Trim` ends with `File`, since it reports on standard error: call `do_trim`. What is wrong with one of several images is
 /// printed; only a failed output ends the job before the last of them.
@@ -73,9 +73,10 @@ where
         } => do_extracting(rt, choice, image, folder, out),
         Job::Change {
             image,
-            ref edit,
             effect,
-        } => do_edit(rt, image, edit, effect, out),
+            loss,
+            ref kind,
+        } => do_edit(rt, image, kind, loss, effect, out),
         Job::Trim { .. } => Err(CommandFault::File),
         Job::Compare { before, after } => do_comparing(rt, before, after, out),
         Job::Sheet { ref images } => do_sheet(rt, images.as_slice(), out),

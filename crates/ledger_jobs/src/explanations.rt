@@ -12,7 +12,7 @@ use crate::near_names::tell_name;
 use crate::refusal_subjects::{Advice, LOG_AWAY, said_of_fault, subject_of};
 use crate::size_lines::{missized_of, tell_size};
 use command_faults::CommandFault;
-use image_file::{Failure, HostFiles, Locks};
+use image_file::{Failure, HostFiles, Locks, Subject};
 use std::fs::OpenFile;
 use std::io::{Read, Write};
 
@@ -49,6 +49,17 @@ where
     }
 }
 
+/// Whether the call that failed was about something beside a job's files, such as the folder of a file that the job made.
+fn is_of_folder(cause: &Option<Failure<'_>>) -> bool {
+    matches!(
+        cause,
+        Some(Failure {
+            subject: Subject::Beside(_),
+            ..
+        })
+    )
+}
+
 /// Prints for a person, in a line below the refusal's own, which file it is about, what the system said of it, or what to
 /// do. `cause` is why a call of the system failed, if one did. No file is opened for it, with three exceptions: if no file
 /// has the name, or the image has another size, it is locked with others that read it, and read again; and a text whose
@@ -69,8 +80,11 @@ where
     let image = image_of(job);
     match subject_of(job, refusal) {
         Advice::Files => {
+            let is_of_folder = is_of_folder(&cause);
             tell_files(rt, job, cause, err);
-            tell_standing(rt, job, err);
+            if is_of_folder {
+                tell_standing(rt, job, err);
+            }
         }
         Advice::Size => {
             if let Some(image) = missized_of(rt, job) {

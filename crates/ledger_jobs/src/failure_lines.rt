@@ -7,7 +7,7 @@ use crate::jobs::Job;
 use crate::made_paths::tell_ten_of_first;
 use crate::read_again::text_again;
 use crate::text_warnings::takes_no_file;
-use image_edits::Edit;
+use disk_changes::ChangeKind;
 use image_file::{Failure, HostFiles, MOST_SCRIPT, ShownPath, regular_at};
 use opened_files::{STANDARD_INPUT, size_of};
 use std::fmt::Display;
@@ -129,7 +129,7 @@ fn tell_unread<R: HostFiles + AllocGlobal, E: Write>(rt: &R, job: &Job<'_>, err:
     }
     match job {
         Job::Change {
-            edit: Edit::Put { file, .. },
+            kind: ChangeKind::Put { file, .. },
             ..
         } if takes_no_file(rt, job) => tell_of(err, file, TAPE),
         Job::Change { image, .. } => tell_of(err, image, UNMADE),

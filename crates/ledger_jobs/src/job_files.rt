@@ -4,7 +4,7 @@ ghost use Rattle.ledger_jobs.specs.JobRights as specs;
 
 use crate::jobs::Job;
 use arrayvec::ArrayVec;
-use image_edits::Edit;
+use disk_changes::ChangeKind;
 use opened_files::STANDARD_INPUT;
 
 /// The file that a job reads or writes first. None of a job over several images.
@@ -37,8 +37,8 @@ pub(crate) fn source_file<'a>(job: &Job<'a>) -> Option<&'a str>
     ensures { option_map (λ path. path.now) result ≡ specs.source_file job.now }
 {
     match job {
-        Job::Change { edit, .. } => match edit {
-            Edit::CopyFile { from, .. } => Some(from),
+        Job::Change { kind, .. } => match kind {
+            ChangeKind::CopyFile { from, .. } => Some(from),
             _ => None,
         },
         _ => None,
@@ -52,11 +52,11 @@ pub(crate) fn text_of<'a>(job: &Job<'a>) -> Option<&'a str> {
             script,
         ),
         Job::Change {
-            edit: Edit::Store { records, .. },
+            kind: ChangeKind::Store { records, .. },
             ..
         } => Some(records),
         Job::Change {
-            edit: Edit::CopyFile { from, .. },
+            kind: ChangeKind::CopyFile { from, .. },
             ..
         } => Some(from),
         _ => None,
@@ -69,7 +69,7 @@ fn second_of<'a>(job: &Job<'a>) -> Option<&'a str> {
         Job::Compare { after, .. } => Some(after),
         Job::Copy { copy, .. } | Job::Salvage { copy, .. } => Some(copy),
         Job::Change {
-            edit: Edit::Put { file, .. },
+            kind: ChangeKind::Put { file, .. },
             ..
         } => Some(file),
         Job::Extract { folder, .. } => Some(folder),

@@ -1,9 +1,11 @@
 //! What the program can be asked to do.
 
+use disk_changes::ChangeKind;
+use file_changes::Name;
 use file_rescues::Choice;
-use image_edits::{Edit, Effect};
+use image_edits::Effect;
 use image_looks::{ImageForm, Look};
-use opened_files::{Loss, Name};
+use opened_files::Loss;
 
 /// What the words of a command line ask for.
 #[derive(Drop)]
@@ -100,8 +102,10 @@ pub enum Job<'a> {
         image: &'a str,
         /// Whether the image is written.
         effect: Effect,
+        /// What is done if the disk has lost a part of a file, or the image its log.
+        loss: Loss,
         /// How they are changed.
-        edit: Edit<'a>,
+        kind: ChangeKind<'a>,
     },
     /// Tracks 1 to 35 of an image that may have more, or error bytes.
     Trim {

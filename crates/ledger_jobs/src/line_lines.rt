@@ -7,7 +7,7 @@ use crate::job_files::{image_of, text_of};
 use crate::jobs::Job;
 use crate::read_again::{bytes_of_text, text_again};
 use crate::refusal_subjects::BAD_LINE;
-use image_edits::{Columns, Edit};
+use disk_changes::{ChangeKind, Columns};
 use image_file::{HostFiles, ShownPath};
 use std::io::Write;
 
@@ -18,7 +18,7 @@ const LETTERS: usize = 26;
 fn columns_of(job: &Job<'_>) -> Columns {
     match job {
         Job::Change {
-            edit: Edit::Store { columns, .. },
+            kind: ChangeKind::Store { columns, .. },
             ..
         } => *columns,
         _ => Columns::One,

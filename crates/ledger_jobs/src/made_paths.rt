@@ -110,7 +110,9 @@ pub(crate) fn tell_made<R: HostFiles + AllocGlobal, E: Write>(rt: &R, job: &Job<
     tell_ten(err, path);
 }
 
-/// Prints of a file or a folder that a job made, though a later call failed, that it is there, and what is left beside it.
+/// Prints of a file or a folder that stands at the path at which a job makes one, where a call of its folder failed, that it is there,
+/// and what is left beside it. Whether this run made it isn't known here, so the line says what holds if it did. A second name that
+/// ends with `.new` is given only by a run that made the file whole before.
 pub(crate) fn tell_standing<R: HostFiles + AllocGlobal, E: Write>(
     rt: &R,
     job: &Job<'_>,
@@ -135,7 +137,7 @@ pub(crate) fn tell_standing<R: HostFiles + AllocGlobal, E: Write>(
         }
         None => writeln!(
             err,
-            "ledger: {shown} is there, and whole; if power fails now, it may be gone"
+            "ledger: {shown} is there: if this run made it, it is whole, but it may be gone if power fails now"
         ),
     };
 }

@@ -2,11 +2,12 @@
 ghost use Rattle.opened_files.specs.Rights.{MayReadImage};
 
 use crate::jobs::Job;
+use disk_changes::ChangeKind;
 use disk_reports::print_near_names;
-use image_edits::Edit;
+use file_changes::Name;
 use image_file::{HostFiles, Locks, ShownPath};
 use image_looks::Look;
-use opened_files::{Name, STANDARD_INPUT, image_of_file};
+use opened_files::{STANDARD_INPUT, image_of_file};
 use std::fs::OpenFile;
 use std::io::{Read, Write};
 
@@ -30,7 +31,7 @@ fn is_of_pattern(byte: &u8) -> bool {
 fn said_of_none(job: &Job<'_>) -> &'static str {
     match job {
         Job::Change {
-            edit: Edit::Undelete { .. },
+            kind: ChangeKind::Undelete { .. },
             ..
         } => NO_DELETED_FILE,
         job => match name_of(job) {
@@ -47,13 +48,7 @@ fn name_of<'j>(job: &'j Job<'_>) -> Option<&'j Name> {
             what: Look::Records { name, .. } | Look::Bytes { name, .. },
             ..
         } => Some(name),
-        Job::Change {
-            edit: Edit::Store { name, .. }
-            | Edit::Delete { name, .. }
-            | Edit::Lock { name, .. }
-            | Edit::Rename { from: name, .. },
-            ..
-        } => Some(name),
+        Job::Change { kind, .. } => kind.asked_name(),
         _ => None,
     }
 }

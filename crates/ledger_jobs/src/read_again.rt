@@ -3,7 +3,7 @@ ghost use Rattle.std.specs.Prelude.{◌≡◌, IfSome, option_map};
 ghost use Rattle.ledger_jobs.specs.JobRights.{MayExplain, MayReadAgain, text_file as file_of_text};
 
 use crate::jobs::Job;
-use image_edits::Edit;
+use disk_changes::ChangeKind;
 use image_file::{HostFiles, read_script};
 use opened_files::STANDARD_INPUT;
 
@@ -15,9 +15,9 @@ pub(crate) fn text_file<'a>(job: &Job<'a>) -> Option<&'a str>
         Job::Play { script, .. } | Job::PlayLogged { script, .. } | Job::Dry { script } => Some(
             script,
         ),
-        Job::Change { edit, .. } => match edit {
-            Edit::Put { file, .. } => Some(file),
-            Edit::Store { records, .. } => Some(records),
+        Job::Change { kind, .. } => match kind {
+            ChangeKind::Put { file, .. } => Some(file),
+            ChangeKind::Store { records, .. } => Some(records),
             _ => None,
         },
         _ => None,

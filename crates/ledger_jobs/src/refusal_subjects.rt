@@ -3,8 +3,8 @@
 use crate::cures::{FORMAT, GEOS};
 use crate::jobs::Job;
 use command_faults::CommandFault;
+use disk_changes::ChangeKind;
 use disk_layout::Fault;
-use image_edits::Edit;
 
 /// What a line for a person is about.
 pub(crate) enum Advice {
@@ -184,7 +184,7 @@ pub(crate) fn subject_of(job: &Job<'_>, refusal: CommandFault) -> Advice {
         (
             Job::Change {
                 image,
-                edit: Edit::CopyFile { from, .. },
+                kind: ChangeKind::CopyFile { from, .. },
                 ..
             },
             fault,

@@ -8,7 +8,7 @@ use crate::formats::said_of_format;
 use crate::job_files::{first_file, source_file};
 use crate::jobs::Job;
 use d64_image::IMAGE_BYTES;
-use image_edits::Edit;
+use disk_changes::ChangeKind;
 use image_file::{HostFiles, Locks, ShownPath};
 use opened_files::{STANDARD_INPUT, image_of_file, size_of};
 use std::fs::OpenFile;
@@ -40,7 +40,7 @@ pub(crate) fn missized_of<'a, R: HostFiles>(rt: &R, job: &Job<'a>) -> Option<&'a
         }
         Job::Change {
             image,
-            edit: Edit::CopyFile { .. },
+            kind: ChangeKind::CopyFile { .. },
             ..
         } if size_of(rt, image) == Some(IMAGE_BYTES as u64) => source_to_read(rt, job),
         _ => first_file(job),

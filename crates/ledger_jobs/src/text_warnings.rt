@@ -3,7 +3,8 @@ ghost use Rattle.ledger_jobs.specs.JobRights.{MayExplain, MayReadAgain};
 
 use crate::jobs::Job;
 use crate::read_again::{bytes_of_text, text_again};
-use image_edits::{Edit, cut_in, has_no_file};
+use disk_changes::ChangeKind;
+use image_edits::{cut_in, has_no_file};
 use image_file::{HostFiles, ShownPath};
 use opened_files::{STANDARD_INPUT, size_of};
 use std::io::Write;
@@ -28,7 +29,7 @@ pub(crate) fn takes_no_file<R: HostFiles + AllocGlobal>(rt: &R, job: &Job<'_>) -
     requires { MayExplain R.rights rt.now job.now }
 {
     let Job::Change {
-        edit: Edit::Put { .. },
+        kind: ChangeKind::Put { .. },
         ..
     } = job
     else {
@@ -73,7 +74,7 @@ where
     E: Write,
     requires { MayExplain R.rights rt.now job.now }
 {
-    let Job::Change { edit, .. } = job else {
+    let Job::Change { kind, .. } = job else {
         return;
     };
     let Some(path) = text_again(rt, job) else {
@@ -82,9 +83,9 @@ where
     let Some(bytes) = text_bytes(rt, path) else {
         return;
     };
-    match edit {
-        Edit::Put { .. } => tell_cut(path, bytes.as_slice(), err),
-        Edit::Store { .. } => tell_small(path, bytes.as_slice(), err),
+    match kind {
+        ChangeKind::Put { .. } => tell_cut(path, bytes.as_slice(), err),
+        ChangeKind::Store { .. } => tell_small(path, bytes.as_slice(), err),
         _ => {}
     }
 }

@@ -1,9 +1,8 @@
 //! What is printed for a person of a name that a file is going to get, if a C64 can't ask for it.
 
 use crate::jobs::Job;
-use image_edits::Edit;
+use file_changes::Name;
 use line_text::Text;
-use opened_files::Name;
 use std::io::{self, Write};
 
 /// What is said of a name in which a drive reads a byte as something else.
@@ -13,13 +12,7 @@ const OTHERWISE: &str =
 /// The name that a job gives a file.
 fn given_name<'j>(job: &'j Job<'_>) -> Option<&'j Name> {
     match job {
-        Job::Change {
-            edit: Edit::Put { name, .. }
-            | Edit::Make { name, .. }
-            | Edit::Rename { to: name, .. }
-            | Edit::CopyFile { to: name, .. },
-            ..
-        } => Some(name),
+        Job::Change { kind, .. } => kind.given_name(),
         _ => None,
     }
 }

@@ -1,4 +1,3 @@
 pub mod HostFiles
 pub mod Made
-pub mod Named
 pub mod Near

@@ -3,5 +3,4 @@ pub mod Extents
 pub mod HostFiles
 pub mod Losses
 pub mod Makings
-pub mod Names
 pub mod Rights

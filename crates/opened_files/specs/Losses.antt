@@ -60,13 +60,6 @@ abbrev pub IsJudged : (image : List ℕ) → Loss → Option CommandFault → Ty
 IsJudged image loss None = MayBeLost image loss
 IsJudged image loss (Some refusal) = (loss ≡ losses.Refused) × IsLossFault image refusal
 
--- A job that may change the image ended so. It was refused for what is lost, and what was passed to it is untouched; or a
--- run over the image ended so.
-abbrev pub IsGuarded : (image : List ℕ) → Loss → (Untouched : Type 0) → (IsRun : JobEnd → Type 0) → JobEnd → Type 0
-IsGuarded image loss Untouched IsRun end =
-    ((refusal : CommandFault) × (end ≡ Err refusal) × (loss ≡ losses.Refused) × IsLossFault image refusal × Untouched)
-    ⊎ (MayBeLost image loss × IsRun end)
-
 -- a run that prints no fault and ended so is reported as this end
 abbrev pub IsEndOfRun : (Result Unit CommandFault → Type 0) → JobEnd → Type 0
 IsEndOfRun IsRun end = (ended : Result Unit CommandFault) × (end ≡ as_run ended) × IsRun ended

@@ -8,7 +8,6 @@ mod files;
 mod image_logs;
 mod locks;
 mod losses;
-mod names;
 mod new_images;
 mod outcomes;
 mod put_images;
@@ -24,7 +23,6 @@ pub use image_logs::{
 };
 pub use locks::{read_owned, read_shared, read_synced};
 pub use losses::{Loss, loss_refusal, see_log_away, see_untagged, short_refusal, shortfall_in};
-pub use names::Name;
 pub use new_images::make_image;
 pub use outcomes::run_end;
 pub use put_images::put_image;

@@ -1,6 +1,6 @@
 -- What was left of a log and of its folder, from how lines were served over it and how it was landed.
 use Rattle.std.proofs.Common.{◌≡◌, ◌∙◌, ◌++◌, [], ℕ, Bool, true, false, List, Option, None, Some, Result, Ok, Err, ap, append-nil, arith, inl, inr, length, refl, subst, sym}
-use Rattle.std.specs.Prelude.{IfSome, IsErr, IsOk, IsSome, OnOk, OnSome, option_to_list}
+use Rattle.std.specs.Prelude.{IfSome, IsOk, IsSome, OnOk, OnSome, option_to_list}
 use Rattle.std.specs.Io.KnownBytes.{Consumes, IsAtEnd}
 use Rattle.std.proofs.lemmas.Bool.{false≢true}
 use Rattle.std.proofs.lemmas.Option.{none-some, same_Some}
@@ -45,14 +45,6 @@ all_of None new bs x end all is = absurd (none-some all is)
 all_of (Some xs) None bs x end all is = absurd x
 all_of (Some xs) (Some ys) bs x end all is =
     sym (same_Some xs all is) ∙ x ∙ ap (λ (rest : List ℕ). bs ++ rest) end ∙ append-nil bs
-
--- how a job ends whose run didn't end well
-pub ended-err : {F D : Type 0} {G : Ghosts F} (h : FolderHistory D) (left : LiveLog F D G) (gone : Bool) (ended : JobEnd)
-    (folder : Option D) (end : JobEnd) → IsLandedEnd h left (watched_end gone ended) folder end → IsErr ended → IsErr end
-ended-err h left gone ended folder (Err refusal) landed bad = refl
-ended-err h left gone (Ok found) folder (Ok printed) landed bad = absurd (false≢true bad)
-ended-err h left gone (Err refusal) folder (Ok printed) landed bad =
-    absurd (false≢true (landed-ok h left gone (Err refusal) folder (Ok printed) landed refl))
 
 -- a device that failed is no such end
 no_device : (end : JobEnd) → IsServedOut end → end ≡ Err faults.Device → ⊥

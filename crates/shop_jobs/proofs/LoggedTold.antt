@@ -12,9 +12,8 @@ use Rattle.image_log.specs.declared.log_file.LogFile.{Ghosts}
 use Rattle.shop_jobs.specs.ServiceEnds.{IsLoggedEnd, IsQuietEnd}
 use Rattle.opened_files.specs.Ends.{JobEnd, as_run}
 use Rattle.shop_jobs.specs.LandedRuns.{IsDoneAndLanded, watched_end}
-use Rattle.shop_jobs.specs.LoggedRuns.{IsLoggedRun, IsUnlogged}
-use Rattle.opened_files.specs.Losses.{IsEndOfRun, IsGuarded}
-use Rattle.damaged_files.specs.declared.sides.planning.Loss.{Loss}
+use Rattle.shop_jobs.specs.LoggedRuns.{IsLoggedRun}
+use Rattle.opened_files.specs.Losses.{IsEndOfRun}
 use Rattle.shop_jobs.specs.declared.watched_files.RepliesWhileNamed.{RepliesWhileNamed}
 
 -- before its log is landed, a service that is done printed no fault; one that isn't printed nothing, unless the input, the
@@ -33,13 +32,9 @@ module _ {L R T : Type 0} (h : LogHistory L) (i : BatchInput R) (o : LogOutput L
   run-quiet (Err (faults.ScriptLine line)) run = absurd run
   run-quiet (Err _) run = (tt, λ _ _. run.1.2)
 
-  pub guarded-quiet : (loss : Loss) (end : JobEnd)
-      → IsGuarded image loss (IsUnlogged log after old_in new_in old new)
-      (IsEndOfRun (IsLoggedRun h i o image log after old_in new_in old new)) end → IsServiceEnd old new end
-  guarded-quiet loss end (inl (refusal, is, refused, why, same)) =
-      subst (λ e. IsServiceEnd old new e) (sym is) (tt, λ _ _. same.2)
-  guarded-quiet loss end (inr (may, (ended, is, run))) =
-      subst (λ e. IsServiceEnd old new e) (sym is) (run-quiet ended run)
+  pub service-quiet : (end : JobEnd) → IsEndOfRun (IsLoggedRun h i o image log after old_in new_in old new) end
+      → IsServiceEnd old new end
+  service-quiet end (ended, is, run) = subst (λ e. IsServiceEnd old new e) (sym is) (run-quiet ended run)
 
 module _ {T : Type 0} (old new : T) where
   -- if the file had gone, the end is `Device`

@@ -1,6 +1,6 @@
 -- What a service left of its log and of the folder, from how its lines were served and its log was landed.
 use Rattle.std.proofs.Common.{◌≡◌, ◌++◌, ◌∷◌, [], ℕ, Bool, List, None, Option, Some, Result, Ok, Err, inl, inr, refl, subst, sym}
-use Rattle.std.specs.Prelude.{IsErr, OnOk}
+use Rattle.std.specs.Prelude.{OnOk}
 use Rattle.line_server.specs.Batches.{BatchInput}
 use Rattle.image_log.specs.life.Folders.{FolderHistory}
 use Rattle.image_log.specs.life.LiveLogs.{of_live}
@@ -9,16 +9,15 @@ use Rattle.image_log.specs.declared.log_file.LogFile.{Ghosts}
 use Rattle.line_server.specs.logged.Reporting.{IsToldTo, LogOutput}
 use Rattle.request_cards.specs.declared.reply.Reply.{Reply}
 use Rattle.command_faults.specs.declared.faults.CommandFault.{CommandFault}
-use Rattle.damaged_files.specs.declared.sides.planning.Loss.{Loss}
 use Rattle.opened_files.specs.Ends.{JobEnd}
-use Rattle.opened_files.specs.Losses.{IsEndOfRun, IsGuarded}
-use Rattle.shop_jobs.proofs.LandedKept.{ended-err, of_run}
+use Rattle.opened_files.specs.Losses.{IsEndOfRun}
+use Rattle.shop_jobs.proofs.LandedKept.{of_run}
 use Rattle.shop_jobs.proofs.LoggedTold.{passed-back, watched-back}
 use Rattle.shop_jobs.proofs.ReplyTold.{lent-passed, lent-same}
 use Rattle.shop_jobs.specs.JobOutputs.{ArePassed, lent_over}
 use Rattle.shop_jobs.specs.KeptServices.{IsServedIn, IsServedOrNot}
 use Rattle.shop_jobs.specs.LandedRuns.{IsDoneAndLanded, IsLandedEnd, watched_end}
-use Rattle.shop_jobs.specs.LoggedRuns.{IsLoggedRun, IsUnlogged}
+use Rattle.shop_jobs.specs.LoggedRuns.{IsLoggedRun}
 use Rattle.shop_jobs.specs.WatchedFiles.{IsBrokenOff, media_for, while_there}
 use Rattle.shop_jobs.specs.declared.reply_lines.LentOutput.{LentOutput}
 use Rattle.shop_jobs.specs.declared.watched_files.RepliesWhileNamed.{RepliesWhileNamed}
@@ -55,7 +54,7 @@ module _ {F D : Type 0} {G : Ghosts F} (h : FolderHistory D) (image : List ℕ) 
   }
 
 module _ {F D N R T : Type 0} {G : Ghosts F} (h : FolderHistory D) (i : BatchInput R) (o : LogOutput (LiveLog F D G) T)
-    (image : List ℕ) (log : LiveLog F D G) (loss : Loss) (old_in new_in : R) (old new : RepliesWhileNamed N T) (first final : T)
+    (image : List ℕ) (log : LiveLog F D G) (old_in new_in : R) (old new : RepliesWhileNamed N T) (first final : T)
     (begun : old.out.now ≡ first) (back : old.out.ghost_name ≡ new.out.ghost_name → final ≡ new.out.now) where
   abbrev Run : LiveLog F D G → Result Unit CommandFault → Type 0
   Run left ended = IsLoggedRun (of_live h) i (while_there o) image log left old_in new_in old new ended
@@ -76,19 +75,12 @@ module _ {F D N R T : Type 0} {G : Ghosts F} (h : FolderHistory D) (i : BatchInp
 
   -- what a service left whose log was landed
   pub served-kept : (gone : Bool) (folder : Option D) (end : JobEnd)
-      → IsDoneAndLanded h (λ left ended. IsGuarded image loss (IsUnlogged log left old_in new_in old new)
-      (IsEndOfRun (Run left)) ended) gone folder end → Kept end
-  served-kept gone folder end x = of_done x.done
-    where
-      of_done : IsGuarded image loss (IsUnlogged log x.left old_in new_in old new) (IsEndOfRun (Run x.left)) x.ended → Kept end
-      of_done (inl (refusal, is, refused, why, same)) = inl (
-        ended-err h x.left gone x.ended folder end x.landed (subst (λ (e : JobEnd). IsErr e) (sym is) refl),
-        watched-back old new first final begun back same.2,
-      )
-      of_done (inr (may, (run, is, ran))) =
-          of_run h i (while_there o) image log old_in new_in old new first final (ArePassed o first final)
-          (watched-back old new first final begun back) told-so x.left gone folder run end ran
-          (subst (λ (e : JobEnd). IsLandedEnd h x.left (watched_end gone e) folder end) is x.landed)
+      → IsDoneAndLanded h (λ left ended. IsEndOfRun (Run left) ended) gone folder end → Kept end
+  served-kept gone folder end x =
+      let (run, is, ran) = x.done in
+      of_run h i (while_there o) image log old_in new_in old new first final (ArePassed o first final)
+      (watched-back old new first final begun back) told-so x.left gone folder run end ran
+      (subst (λ (e : JobEnd). IsLandedEnd h x.left (watched_end gone e) folder end) is x.landed)
 
 -- what was passed to an output that was lent was passed to the caller's
 module _ {L W : Type 0} (o : LogOutput L W) (old new : LentOutput W) (first final : W) (begun : old.out.now ≡ first)

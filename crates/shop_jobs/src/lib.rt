@@ -3,7 +3,6 @@
 
 mod durable_runs;
 mod formatting;
-mod guarding;
 mod job_outputs;
 mod landing_logs;
 mod logged_plays;
@@ -18,7 +17,6 @@ mod watched_files;
 
 pub use durable_runs::play_durably;
 pub use formatting::do_format;
-pub use guarding::serve_logged_guarded;
 pub use job_outputs::{JobOutput, print_to_writer};
 pub use logged_plays::play_logged;
 pub use logged_runs::serve_logged;

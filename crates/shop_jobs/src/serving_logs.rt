@@ -1,5 +1,5 @@
 //! Serving the shop of the image at a path, over a log beside it.
-ghost use Rattle.std.specs.Prelude.{◌≡◌, ◌∷◌, [], Bool, IfOk, IfSome, Some, flat_map, length, string_bytes, take, true, vec_items};
+ghost use Rattle.std.specs.Prelude.{◌≡◌, ◌∷◌, [], Bool, IfErr, IfOk, IfSome, Some, flat_map, length, string_bytes, take, true, vec_items};
 ghost use Rattle.shop_jobs.specs.ServiceEnds.{IsLoggedEnd};
 ghost use Rattle.d64_image.specs.Images.{Image};
 ghost use Rattle.d64_image.specs.Memory.{sectors_in};
@@ -11,8 +11,9 @@ ghost use Rattle.shop_jobs.specs.KeptServices.{IsBegunIn, IsFolderAt, IsServedOr
 ghost use Rattle.shop_jobs.specs.LandedRuns.{IsDoneAndLanded};
 ghost use Rattle.shop_jobs.specs.Replies.{IsShopAt, IsLoggedService, IsShopOf};
 ghost use Rattle.opened_files.specs.HostFiles.{OfWritten};
-ghost use Rattle.shop_jobs.specs.LoggedRuns.{IsLoggedRun, IsUnlogged};
-ghost use Rattle.opened_files.specs.Losses.{IsEndOfRun, IsGuarded};
+ghost use Rattle.shop_jobs.specs.LoggedRuns.{IsLoggedRun};
+ghost use Rattle.opened_files.specs.Losses.{IsEndOfRun, IsLossFault, MayBeLost};
+ghost use Rattle.damaged_files.specs.declared.sides.planning.Loss.TheVariants.{Refused};
 ghost use Rattle.shop_jobs.specs.WatchedFiles.{while_there};
 ghost use Rattle.image_log.specs.life.HostLogs.{asked_logs, untagged_folders};
 ghost use Rattle.image_log.specs.life.LiveLogs.{of_live};
@@ -22,9 +23,9 @@ ghost use Rattle.image_file.specs.paths.Rights.{Look, May, MayWrite};
 ghost use Rattle.image_file.specs.paths.Standing.{AreOf};
 ghost use Rattle.image_log.specs.life.LogRights.{MayForget, MayKeepLogOf};
 
-use crate::guarding::serve_logged_guarded;
 use crate::job_outputs::JobOutput;
 use crate::landing_logs::landed_end;
+use crate::logged_runs::serve_logged;
 use crate::reply_lines::LentOutput;
 use crate::watched_files::{RepliesWhileNamed, name_of, served_end};
 use command_faults::CommandFault;
@@ -36,8 +37,8 @@ use image_log::{
 };
 use line_server::{BatchReplies, BatchSource};
 use opened_files::{
-    Loss, accept_loss, log_refusal, loss_refusal, opened_alone, read_shared, see_no_lost_log,
-    see_size, see_untagged,
+    Loss, accept_loss, log_refusal, loss_refusal, opened_alone, read_shared, run_end,
+    see_no_lost_log, see_size, see_untagged,
 };
 use std::alloc::Global;
 use std::fs::OpenFile;
@@ -90,7 +91,6 @@ fn serve_begun<L, D, N, I, T>(
     alloc: Global,
     image: &[u8],
     log: LiveLog<L, D>,
-    loss: Loss,
     input: &mut I,
     answers: &mut RepliesWhileNamed<'_, N, T>,
 ) -> (Option<D>, Result<Option<Fault>, CommandFault>)
@@ -101,13 +101,12 @@ where
     I: BatchSource,
     T: BatchReplies<LiveLog<L, D>>,
     ensures { (gone : Bool) × (answers.new.gone ≡ true → gone ≡ true)
-        × IsDoneAndLanded D.history (λ left ended. IsGuarded image.now loss
-        (IsUnlogged log left input.old input.new answers.old answers.new)
-        (IsEndOfRun (IsLoggedRun (of_live D.history) I.input (while_there T.output) image.now log left
-        input.old input.new answers.old answers.new)) ended) gone result.0 result.1 }
+        × IsDoneAndLanded D.history (λ left ended.
+        IsEndOfRun (IsLoggedRun (of_live D.history) I.input (while_there T.output) image.now log left
+        input.old input.new answers.old answers.new) ended) gone result.0 result.1 }
 {
     let mut log = log;
-    let ended = serve_logged_guarded(alloc, image, &mut log, loss, input, answers);
+    let ended = run_end(serve_logged(alloc, image, &mut log, input, answers));
     landed_end(log, served_end(ended, answers.has_gone()))
 }
 
@@ -116,7 +115,6 @@ fn serve_watched<L, D, N, I, T>(
     alloc: Global,
     image: &[u8],
     log: LiveLog<L, D>,
-    loss: Loss,
     input: &mut I,
     name: N,
     out: &mut T,
@@ -132,7 +130,7 @@ where
         (ArePassed T.output out.old out.new) out.old out.new result }
 {
     let mut answers = RepliesWhileNamed::new(&name, out);
-    let (_, ended) = serve_begun(alloc, image, log, loss, input, &mut answers);
+    let (_, ended) = serve_begun(alloc, image, log, input, &mut answers);
     ended
 }
 
@@ -142,7 +140,6 @@ fn serve_printed<L, D, N, I, W>(
     alloc: Global,
     image: &[u8],
     log: LiveLog<L, D>,
-    loss: Loss,
     input: &mut I,
     name: N,
     out: &mut W,
@@ -158,7 +155,7 @@ where
         (ArePassed (lines_over W.contents (W.replies _)) out.old out.new) out.old out.new result }
 {
     let mut printer = LentOutput::new(out);
-    serve_watched(alloc, image, log, loss, input, name, &mut printer)
+    serve_watched(alloc, image, log, input, name, &mut printer)
 }
 
 /// The end of a job over a log that couldn't be made, or renewed. What was made of a further log is removed, since it
@@ -205,6 +202,18 @@ fn landed_bytes<F: Locks>(
     Ok(bytes)
 }
 
+/// Sees that no file of the image is cut short, or that a loss is accepted. `Short` if that isn't so, and otherwise why it isn't
+/// known.
+fn see_no_loss(alloc: Global, image: &[u8], loss: Loss) -> Result<(), CommandFault>
+    ensures ok { IfOk result (λ _. MayBeLost image.now loss) }
+    ensures err { IfErr result (λ refusal. (loss ≡ Refused) × IsLossFault image.now refusal) }
+{
+    match loss_refusal(alloc, image, loss) {
+        Some(refusal) => Err(refusal),
+        None => Ok(()),
+    }
+}
+
 /// The bytes of the shop of the image at a path, and a log beside it that was begun with them. A log that stood there was
 /// landed: the image has these bytes then. Other programs may read it from then on. `Short` if a file of the image is cut
 /// short and `cut` accepts no loss, `LogAway` if its log is away and `away` accepts none.
@@ -228,6 +237,7 @@ where
     ensures begun { IfOk result (λ begun. IsBegunIn (untagged_folders R.folders _ _ _) (IsFolderAt R.rights R.traces rt.now path.now)
         (vec_items begun.0) begun.1) }
     ensures read { IfOk result (λ begun. OfWritten R.stands rt.now path.now (λ all. vec_items begun.0 ≡ take 174849 all)) }
+    ensures whole { IfOk result (λ begun. MayBeLost (vec_items begun.0) cut) }
 {
     let alloc = rt.alloc();
     accept_loss(rt, names, path, away)?;
@@ -240,9 +250,7 @@ where
         return Err(CommandFault::NoMemory);
     };
     let bytes = landed_bytes(alloc, image, shop.as_slice(), away)?;
-    if let Some(refusal) = loss_refusal(alloc, bytes.as_slice(), cut) {
-        return Err(refusal);
-    }
+    see_no_loss(alloc, bytes.as_slice(), cut)?;
     let log = match LiveLog::begin(alloc, folder, room, shop, kept) {
         Ok(log) => log,
         Err((error, _)) => return cleared_end(rt, path, image, names, Err(error.into())),
@@ -280,6 +288,6 @@ where
     let name = name_of(rt, path, &image)?;
     let names = LogNames::of(rt, alloc, path)?;
     let (bytes, log) = begun_beside(rt, path, &names, &mut image, loss, loss)?;
-    let ended = serve_printed(alloc, bytes.as_slice(), log, loss, &mut input, name, out);
+    let ended = serve_printed(alloc, bytes.as_slice(), log, &mut input, name, out);
     cleared_end(rt, path, &image, &names, ended)
 }

@@ -1,4 +1,4 @@
-//! The calls of the program that change something, each after which other one, so that one can be left out.
+//! The calls of the program that change something, each after which other one, so that one can be left out or made late.
 
 /// A kind of call that changes something.
 #[derive(Clone, Copy, PartialEq, Eq)]
@@ -60,12 +60,25 @@ pub static ACTS: [&str; 16] = [
     "set a length",
 ];
 
-/// Which calls were made after which other ones, and which one isn't made at all. Calls of one kind in a row count as one.
+/// What becomes of a call that comes.
+#[derive(Clone, Copy, PartialEq, Eq)]
+pub(crate) enum Turn {
+    /// It is made.
+    Now,
+    /// It isn't made.
+    Never,
+    /// It is made after the next call of another kind.
+    Later,
+}
+
+/// Which calls were made after which other ones, which one isn't made at all, and which one is made late. Calls of one kind in a row
+/// count as one.
 #[derive(Clone, Copy)]
 pub struct Acts {
     now: Act,
     before: Act,
     left_out: Option<usize>,
+    late: Option<usize>,
     seen: [bool; 256],
 }
 
@@ -75,6 +88,7 @@ impl Acts {
         now: Act::Begin,
         before: Act::Begin,
         left_out: None,
+        late: None,
         seen: [false; 256],
     };
 
@@ -85,8 +99,15 @@ impl Acts {
         acts
     }
 
-    /// A call comes. Whether it is made.
-    pub(crate) fn come(&mut self, act: Act) -> bool {
+    /// The same with one that is made late.
+    pub(crate) fn delaying(number: usize) -> Acts {
+        let mut acts = Acts::ALL;
+        acts.late = Some(number);
+        acts
+    }
+
+    /// A call comes. What becomes of it.
+    pub(crate) fn come(&mut self, act: Act) -> Turn {
         if act != self.now {
             self.before = self.now;
             self.now = act;
@@ -97,7 +118,13 @@ impl Acts {
         if let Some(seen) = self.seen.get_mut(number) {
             *seen = true;
         }
-        self.left_out != Some(number)
+        if self.left_out == Some(number) {
+            return Turn::Never;
+        }
+        if self.late == Some(number) {
+            return Turn::Later;
+        }
+        Turn::Now
     }
 
     /// Those that came on another machine came too.

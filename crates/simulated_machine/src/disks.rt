@@ -2,6 +2,7 @@
 ghost use Rattle.std.specs.Prelude.{◌≡◌, ◌≤◌, length};
 
 use crate::bytes::copied;
+use crate::calls::Call;
 use crate::files::Inode;
 use crate::names::{
     Name, NameChange, added, bring, file_at, is_named, path_of, position, restart, set_now,
@@ -190,6 +191,22 @@ impl Disk {
         Ok(())
     }
 
+    /// Makes a call.
+    pub(crate) fn change(&mut self, call: &Call) -> io::Result<()> {
+        match call {
+            Call::Write { number, at, bytes } => self.write(*number, *at, bytes.as_slice()),
+            Call::End { number, length } => self.end(*number, *length),
+            Call::Sync { number } => self.sync(*number),
+            Call::Make { path } => {
+                self.make(path.as_str())?;
+                Ok(())
+            }
+            Call::Link { from, to } => self.link(from.as_str(), to.as_str()),
+            Call::Remove { path } => self.remove(path.as_str()),
+            Call::Rename { from, to } => self.rename(from.as_str(), to.as_str()),
+        }
+    }
+
     /// Forgets what files hold that have no name. No program has one open.
     pub(crate) fn sweep(&mut self) {
         for (number, file) in self.files.as_mut_slice().iter_mut().enumerate() {
@@ -221,6 +238,20 @@ impl Disk {
             leave_file(file, random)?;
         }
         Ok(())
+    }
+
+    /// The same files under the same names, all synced.
+    pub(crate) fn copy(&self) -> io::Result<Disk> {
+        let mut other = Disk::new(self.alloc);
+        for file in self.files.as_slice() {
+            other
+                .files
+                .push(Inode::new(self.alloc, file.held.as_slice())?)?;
+        }
+        for name in self.names.as_slice() {
+            other.names.push(name.copy(self.alloc)?)?;
+        }
+        Ok(other)
     }
 
     /// What the file at a path holds.

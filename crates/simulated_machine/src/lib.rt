@@ -5,6 +5,7 @@
 
 mod acts;
 mod bytes;
+mod calls;
 mod disks;
 mod files;
 mod hosts;
@@ -12,6 +13,7 @@ mod inputs;
 mod machines;
 mod names;
 mod open_files;
+mod others;
 mod plans;
 mod power;
 mod random;
@@ -21,5 +23,6 @@ pub use hosts::Host;
 pub use inputs::GivenInput;
 pub use machines::Machine;
 pub use open_files::MachineFile;
+pub use others::Record;
 pub use plans::{Counted, Lock, Plan, Strike};
 pub use random::Random;

@@ -1,9 +1,11 @@
 //! A machine: its files, its streams, and what happens to the calls of a run.
 ghost use Rattle.std.specs.Prelude.{◌≤◌, IfOk, length};
 
-use crate::acts::{Act, Acts};
-use crate::bytes::{copied, front, rest, take};
+use crate::acts::{Act, Acts, Turn};
+use crate::bytes::{copied, front, rest, take, text_of};
+use crate::calls::Call;
 use crate::disks::{Disk, FOLDER};
+use crate::others::{Deed, Other, Record};
 use crate::plans::{Counted, Lock, Plan, Strike};
 use crate::random::Random;
 use std::alloc::Global;
@@ -19,6 +21,8 @@ struct Run {
     plan: Plan,
     struck: bool,
     stopped: bool,
+    /// Whether the call that is made was one of those that wait.
+    is_late: bool,
     /// How many bytes of the input were read, and how many lines a read gives at most.
     taken: usize,
     lines: u64,
@@ -37,6 +41,10 @@ pub struct Machine {
     output: Cell<Vec<u8>>,
     words: Cell<&'static [&'static str]>,
     acts: Cell<Acts>,
+    waiting: Cell<Vec<Call>>,
+    /// What the program does, if that is recorded.
+    record: Cell<Option<Record>>,
+    other: Cell<Other>,
 }
 
 /// The error of a call that fails.
@@ -74,6 +82,7 @@ impl Run {
             plan,
             struck: false,
             stopped: false,
+            is_late: false,
             taken: 0,
             lines,
             random: Random::new(seed),
@@ -98,6 +107,10 @@ impl Run {
         if !is_counted || number != self.plan.at {
             return Strike::Passes;
         }
+        // a late call has returned before, so it can't fail
+        if self.is_late && self.plan.what == Strike::Fails {
+            return Strike::Passes;
+        }
         self.struck = true;
         self.stopped = self.plan.what == Strike::Stops;
         self.plan.what
@@ -115,6 +128,9 @@ impl Machine {
             output: Cell::new(Vec::new(alloc)),
             words: Cell::new(&[]),
             acts: Cell::new(Acts::ALL),
+            waiting: Cell::new(Vec::new(alloc)),
+            record: Cell::new(None),
+            other: Cell::new(Other::none(alloc)),
         }
     }
 
@@ -124,17 +140,23 @@ impl Machine {
         self.acts.set(Acts::without(number));
     }
 
+    /// From now on one call is made late, after the next call of another kind that changes or prints something, or at the run's end:
+    /// the number of its kind, and 16 times that of the kind of the call before it. The program may be stopped between the two.
+    pub fn delay(&self, number: usize) {
+        self.acts.set(Acts::delaying(number));
+    }
+
     /// Which calls were made after which other ones.
     pub fn acts(&self) -> Acts {
         self.acts.get()
     }
 
-    /// A call comes that changes something. Whether it is made.
-    fn comes(&self, act: Act) -> bool {
+    /// A call comes that changes something. What becomes of it.
+    fn comes(&self, act: Act) -> Turn {
         let mut acts = self.acts.get();
-        let is_made = acts.come(act);
+        let turn = acts.come(act);
         self.acts.set(acts);
-        is_made
+        turn
     }
 
     /// The files, which are put back.
@@ -155,6 +177,7 @@ impl Machine {
         self.words.set(words);
         self.input.set(input);
         self.output.set(Vec::new(self.alloc));
+        self.waiting.set(Vec::new(self.alloc));
         let _ = self.comes(Act::Begin);
         let mut run = Run::new(plan, lines, seed);
         run.naps = self.run.get().naps;
@@ -162,6 +185,11 @@ impl Machine {
         let mut disk = self.disk();
         disk.sweep();
         self.disk.set(disk);
+    }
+
+    /// The program has ended. What waits is made, unless the program was stopped.
+    pub fn finish(&self) {
+        self.catch_up(!self.is_stopped());
     }
 
     /// Whether the program was stopped.
@@ -266,13 +294,15 @@ impl Machine {
         run.naps = run.naps.saturating_sub(1);
         let frees = was_locked && run.naps == 0;
         self.run.set(run);
+        self.go_on();
         if frees {
             self.free_locks();
         }
     }
 
-    /// Counts a call. What happens to it.
+    /// Counts a call, before which another program goes on. What happens to it.
     fn next(&self, is_step: bool) -> Strike {
+        self.go_on();
         let mut run = self.run.get();
         let strike = run.next(is_step);
         self.run.set(run);
@@ -397,10 +427,15 @@ impl Machine {
         let disk = self.disk();
         let lock = disk.lock(number);
         self.disk.set(disk);
-        match lock {
-            Lock::Alone => Err(TryLockError::WouldBlock),
-            Lock::Shared if is_alone => Err(TryLockError::WouldBlock),
-            Lock::Shared | Lock::Free => Ok(()),
+        if lock == Lock::Alone || lock == Lock::Shared && is_alone {
+            return Err(TryLockError::WouldBlock);
+        }
+        if is_alone {
+            return Ok(());
+        }
+        match self.record_deed(Deed::Shared) {
+            Ok(()) => Ok(()),
+            Err(error) => Err(TryLockError::Error(error)),
         }
     }
 
@@ -435,11 +470,7 @@ impl Machine {
     }
 
     /// The same of a call that is counted.
-    pub(crate) fn write(&self, number: usize, at: u64, bytes: &[u8]) -> io::Result<()> {
-        let at = at as usize;
-        if !self.comes(write_of(self.role(number), bytes.len())) {
-            return Ok(());
-        }
+    fn put_counted(&self, number: usize, at: usize, bytes: &[u8]) -> io::Result<()> {
         match self.next(false) {
             Strike::Passes => self.put(number, at, bytes),
             Strike::IsShort => self.put_twice(number, at, bytes),
@@ -476,80 +507,205 @@ impl Machine {
         }
     }
 
+    /// Makes a call on the files.
+    fn change(&self, call: &Call) -> io::Result<()> {
+        let mut disk = self.disk();
+        let changed = disk.change(call);
+        self.disk.set(disk);
+        changed
+    }
+
+    /// The same of a call that is counted.
+    fn change_counted(&self, call: &Call) -> io::Result<()> {
+        let (does, passes) = self.step(call.is_step());
+        // a link that fails isn't made, since the program then takes the other name for somebody's file
+        let does = does && (passes || !call.is_link() || self.is_stopped());
+        let changed = if does { self.change(call) } else { Ok(()) };
+        if passes { changed } else { Err(failed()) }
+    }
+
+    /// Makes a call, to which something may happen.
+    fn make_call(&self, call: &Call) -> io::Result<()> {
+        match call {
+            Call::Write { number, at, bytes } => self.put_counted(*number, *at, bytes.as_slice()),
+            _ => self.change_counted(call),
+        }
+    }
+
+    /// Which kind of call it is.
+    fn act_of(&self, call: &Call) -> Act {
+        match call {
+            Call::Write { number, bytes, .. } => write_of(self.role(*number), bytes.len()),
+            Call::End { .. } => Act::End,
+            Call::Sync { number } => sync_of(self.role(*number)),
+            Call::Make { .. } => Act::Make,
+            Call::Link { .. } => Act::Link,
+            Call::Remove { .. } => Act::Remove,
+            Call::Rename { .. } => Act::Rename,
+        }
+    }
+
+    /// Keeps a call that waits.
+    fn keep(&self, call: Call) -> io::Result<()> {
+        let mut waiting = self.waiting.replace(Vec::new(self.alloc));
+        let kept = waiting.push(call);
+        self.waiting.set(waiting);
+        Ok(kept?)
+    }
+
+    /// Whether the next call is one of those that waited.
+    fn set_late(&self, is_late: bool) {
+        let mut run = self.run.get();
+        run.is_late = is_late;
+        self.run.set(run);
+    }
+
+    /// Another call was made, for which some wait: they are made, too. If it failed they aren't, as if they stood after it.
+    fn catch_up(&self, is_made: bool) {
+        let waiting = self.waiting.replace(Vec::new(self.alloc));
+        if is_made {
+            self.set_late(true);
+            for call in waiting.as_slice() {
+                // for the program it has returned before
+                let _ = self.make_call(call);
+            }
+            self.set_late(false);
+        }
+    }
+
+    /// A call comes that changes files: it is made now, or not at all, or late.
+    fn ask(&self, call: Call) -> io::Result<()> {
+        match self.comes(self.act_of(&call)) {
+            Turn::Never => Ok(()),
+            Turn::Later => self.keep(call),
+            Turn::Now => {
+                let made = self.make_call(&call);
+                self.catch_up(made.is_ok());
+                made?;
+                self.record_deed(Deed::Changed(call))
+            }
+        }
+    }
+
+    /// Puts bytes over those of a file from there on.
+    pub(crate) fn write(&self, number: usize, at: u64, bytes: &[u8]) -> io::Result<()> {
+        let bytes = copied(self.alloc, bytes)?;
+        let at = at as usize;
+        self.ask(Call::Write { number, at, bytes })
+    }
+
     /// Gives a file a length.
     pub(crate) fn end(&self, number: usize, length: u64) -> io::Result<()> {
-        if !self.comes(Act::End) {
-            return Ok(());
-        }
-        let (does, passes) = self.step(false);
-        let mut disk = self.disk();
-        let ended = if does {
-            disk.end(number, length as usize)
-        } else {
-            Ok(())
-        };
-        self.disk.set(disk);
-        if passes { ended } else { Err(failed()) }
+        let length = length as usize;
+        self.ask(Call::End { number, length })
     }
 
     /// Syncs a file, or the folder.
     pub(crate) fn sync(&self, number: usize) -> io::Result<()> {
-        if !self.comes(sync_of(self.role(number))) {
-            return Ok(());
-        }
-        let (does, passes) = self.step(true);
-        let mut disk = self.disk();
-        let synced = if does { disk.sync(number) } else { Ok(()) };
-        self.disk.set(disk);
-        if passes { synced } else { Err(failed()) }
+        self.ask(Call::Sync { number })
     }
 
     /// Makes a file without bytes at a path, at which there is none.
     pub(crate) fn make(&self, path: &str) -> io::Result<usize> {
-        let _ = self.comes(Act::Make);
-        let (does, passes) = self.step(true);
-        let mut disk = self.disk();
-        let made = if does { disk.make(path) } else { Ok(0) };
-        self.disk.set(disk);
-        if passes { made } else { Err(failed()) }
+        self.ask(Call::Make {
+            path: text_of(self.alloc, path)?,
+        })?;
+        self.find(path)
     }
 
     /// Gives the file at a path another name besides, at which there is none.
     pub(crate) fn link(&self, from: &str, to: &str) -> io::Result<()> {
-        if !self.comes(Act::Link) {
-            return Ok(());
-        }
-        let (does, passes) = self.step(true);
-        // one that fails isn't done, since the program then takes the other name for somebody's file
-        let does = does && (passes || self.is_stopped());
-        let mut disk = self.disk();
-        let linked = if does { disk.link(from, to) } else { Ok(()) };
-        self.disk.set(disk);
-        if passes { linked } else { Err(failed()) }
+        let from = text_of(self.alloc, from)?;
+        let to = text_of(self.alloc, to)?;
+        self.ask(Call::Link { from, to })
     }
 
     /// Takes the name of a file away.
     pub(crate) fn remove(&self, path: &str) -> io::Result<()> {
-        if !self.comes(Act::Remove) {
-            return Ok(());
-        }
-        let (does, passes) = self.step(true);
-        let mut disk = self.disk();
-        let removed = if does { disk.remove(path) } else { Ok(()) };
-        self.disk.set(disk);
-        if passes { removed } else { Err(failed()) }
+        let path = text_of(self.alloc, path)?;
+        self.ask(Call::Remove { path })
     }
 
     /// Gives the file at a path another name, in the place of the file that had it.
     pub(crate) fn rename(&self, from: &str, to: &str) -> io::Result<()> {
-        if !self.comes(Act::Rename) {
-            return Ok(());
+        let from = text_of(self.alloc, from)?;
+        let to = text_of(self.alloc, to)?;
+        self.ask(Call::Rename { from, to })
+    }
+}
+
+// What is done while others read.
+impl Machine {
+    /// What the program does is recorded from now on. Nothing may happen to its calls.
+    pub fn watch(&self) {
+        self.record.set(Some(Record::new(self.alloc)));
+    }
+
+    /// What the program did since `watch`. Nothing is recorded any more.
+    pub fn recorded(&self) -> Record {
+        match self.record.replace(None) {
+            Some(record) => record,
+            None => Record::new(self.alloc),
         }
-        let (does, passes) = self.step(true);
-        let mut disk = self.disk();
-        let renamed = if does { disk.rename(from, to) } else { Ok(()) };
+    }
+
+    /// Records a deed, if deeds are recorded.
+    fn record_deed(&self, deed: Deed) -> io::Result<()> {
+        let Some(mut record) = self.record.replace(None) else {
+            return Ok(());
+        };
+        let added = record.add(deed);
+        self.record.set(Some(record));
+        added
+    }
+
+    /// A machine with the files that this one holds, all synced, of the same numbers: there a record of what is done here can be
+    /// done again.
+    pub fn copy(&self) -> io::Result<Machine> {
+        let disk = self.disk();
+        let copied = disk.copy();
         self.disk.set(disk);
-        if passes { renamed } else { Err(failed()) }
+        let other = Machine::new(self.alloc);
+        other.disk.set(copied?);
+        Ok(other)
+    }
+
+    /// The first deeds of a record are done here, of which there are so many. The program that runs then has the others done
+    /// meanwhile: before each of its calls fewer than so many, by a seed.
+    pub fn run_beside(&self, record: Record, count: usize, most: u64, seed: u64) -> io::Result<()> {
+        let mut disk = self.disk();
+        let mut done = Ok(());
+        for number in 0..count {
+            if let Some(Deed::Changed(call)) = record.deed(number) {
+                done = done.and(disk.change(call));
+            }
+        }
+        self.disk.set(disk);
+        self.other.set(Other {
+            record,
+            next: count,
+            most,
+            random: Random::new(seed),
+        });
+        done
+    }
+
+    /// The record of `run_beside`. No other program goes on any more.
+    pub fn end_beside(&self) -> Record {
+        self.other.replace(Other::none(self.alloc)).record
+    }
+
+    /// The other program does its next deeds.
+    fn go_on(&self) {
+        let mut other = self.other.replace(Other::none(self.alloc));
+        for _ in 0..other.random.below(other.most) {
+            if let Some(Deed::Changed(call)) = other.record.deed(other.next) {
+                // it could be done where it was recorded
+                let _ = self.change(call);
+            }
+            other.next = other.next.saturating_add(1);
+        }
+        self.other.set(other);
     }
 }
 
@@ -585,7 +741,8 @@ impl Machine {
         let mut output = self.output.replace(Vec::new(self.alloc));
         let printed = output.extend_from_slice(bytes);
         self.output.set(output);
-        Ok(printed?)
+        printed?;
+        self.record_deed(Deed::Printed(bytes.len()))
     }
 
     /// Prints bytes; how many of them.
@@ -595,16 +752,27 @@ impl Machine {
         let count = match self.next(false) {
             Strike::Passes => bytes.len(),
             Strike::IsShort => bytes.len() / 2 + bytes.len() % 2,
-            Strike::Fails | Strike::Stops => return Err(failed()),
+            Strike::Fails | Strike::Stops => {
+                self.catch_up(false);
+                return Err(failed());
+            }
         };
-        self.print(&bytes[..count])?;
+        let printed = self.print(&bytes[..count]);
+        self.catch_up(printed.is_ok());
+        printed?;
         Ok(count)
     }
 
     /// Prints all bytes.
     pub(crate) fn print_all(&self, bytes: &[u8]) -> io::Result<()> {
-        self.pass()?;
-        self.print(bytes)
+        let passes = self.pass();
+        let printed = if passes.is_ok() {
+            self.print(bytes)
+        } else {
+            passes
+        };
+        self.catch_up(printed.is_ok());
+        printed
     }
 
     /// A machine with the files that this one holds, all synced, under these paths.

@@ -22,6 +22,17 @@ pub(crate) enum NameChange {
     Renamed { from: usize, to: usize },
 }
 
+impl Name {
+    /// The same name. The file that has it has it on the disk, too.
+    pub(crate) fn copy(&self, alloc: Global) -> io::Result<Name> {
+        Ok(Name {
+            path: text_of(alloc, self.path.as_str())?,
+            now: self.now,
+            disk: self.now,
+        })
+    }
+}
+
 /// The number of a name.
 pub(crate) fn position(names: &[Name], path: &str) -> Option<usize> {
     for (number, name) in names.iter().enumerate() {

@@ -20,8 +20,9 @@ pub(crate) struct Asked {
     /// Whether it is printed how many events of each kind were played. The gate's run has no words, and prints nothing that changes with
     /// the number of the program's calls.
     pub(crate) counts: bool,
-    /// Which call isn't made, if one isn't; and whether the numbers of calls are printed.
+    /// Which call isn't made, if one isn't; which one is made late; and whether the numbers of calls are printed.
     pub(crate) without: Option<usize>,
+    pub(crate) late: Option<usize>,
     pub(crate) lists: bool,
 }
 
@@ -33,6 +34,7 @@ const USUAL: Asked = Asked {
     shows: false,
     counts: false,
     without: None,
+    late: None,
     lists: false,
 };
 
@@ -48,6 +50,7 @@ fn take_word(asked: &mut Asked, word: &str, number: Option<u64>) -> Option<bool>
             return Some(false);
         }
         "--without" => asked.without = Some(number? as usize),
+        "--late" => asked.late = Some(number? as usize),
         "--seed" => {
             asked.seed = number?;
             asked.seeds = 1;

@@ -109,21 +109,32 @@ pub(crate) fn after_top(out: &[u8]) -> &[u8] {
     &out[top.len().min(out.len())..]
 }
 
+/// A shop that is shown: the one after some first ones of some lines, and how many these are.
+#[derive(Clone, Copy)]
+pub(crate) struct Found {
+    pub(crate) shop: Shop,
+    pub(crate) count: usize,
+}
+
 /// The shop that is shown, if it is this one, or the one after some first ones of these lines.
 pub(crate) fn shop_shown(
     alloc: Global,
     shop: &Shop,
     lines: &[Line],
     out: &[u8],
-) -> Result<Option<Shop>, Stop> {
+) -> Result<Option<Found>, Stop> {
     let mut now = *shop;
     let wanted = after_top(out);
-    for line in lines {
+    for (count, line) in lines.iter().enumerate() {
         if shown(alloc, &now)?.as_slice() == wanted {
-            return Ok(Some(now));
+            return Ok(Some(Found { shop: now, count }));
         }
         reply_of(alloc, &mut now, line)?;
     }
     let is_last = shown(alloc, &now)?.as_slice() == wanted;
-    Ok(if is_last { Some(now) } else { None })
+    let last = Found {
+        shop: now,
+        count: lines.len(),
+    };
+    Ok(if is_last { Some(last) } else { None })
 }

@@ -5,10 +5,13 @@ use crate::runs::{Ended, Program, draw_plan};
 use crate::stops::{Stop, see};
 use crate::stories::Story;
 use crate::words::{CHECK, COPY, COPY_MAKING, COPYING, IMAGE, SERVE, SHOW, SHOW_COPY, Words};
-use simulated_machine::{Lock, Plan};
+use simulated_machine::{Counted, Lock, Plan, Strike};
 
 /// What `copy` prints.
 const COPIED: &[u8] = b"COPIED\n";
+
+/// The step of a `copy` that gives the new file its name besides that under which it was made. If a log is read, it is the next one.
+const LINKED: u64 = 5;
 
 /// What is reported of an image that another program has.
 const IN_USE: &[u8] = b"IN USE\n";
@@ -28,26 +31,54 @@ impl<P: Program> Story<'_, P> {
         see(out == COPIED, "copy doesn't print COPIED")
     }
 
+    /// A copy that was reported has its name, and no other.
+    fn see_named(&mut self, ended: &Ended) -> Result<(), Stop> {
+        let has_name = self.machine.has_file(COPY) && !self.machine.has_file(COPY_MAKING);
+        see(
+            has_name || ended.out.as_slice() != COPIED,
+            "copy prints COPIED, and the copy hasn't its name alone",
+        )
+    }
+
     /// A copy that is there is whole.
     fn see_copy(&mut self) -> Result<(), Stop> {
         if self.machine.has_file(COPY) {
             self.see_shop(&SHOW_COPY, "a copy has another shop")?;
             self.machine.remove_file(COPY)?;
         }
+        self.clear_making()
+    }
+
+    /// No copy is in the making.
+    fn clear_making(&mut self) -> Result<(), Stop> {
         if self.machine.has_file(COPY_MAKING) {
             self.machine.remove_file(COPY_MAKING)?;
         }
         Ok(())
     }
 
+    /// What happens while a copy is made. Once in four times no link can be made, as on some file systems.
+    fn draw_copying(&mut self) -> Plan {
+        if !self.random.once_in(4) {
+            return draw_plan(&mut self.random, 120, 8);
+        }
+        Plan {
+            counted: Counted::Steps,
+            at: self.random.below(2).saturating_add(LINKED),
+            what: Strike::Fails,
+            part: 0,
+        }
+    }
+
     /// Runs a command that only reads.
-    fn read_by(&mut self, words: Words) -> Result<(), Stop> {
+    fn read_by(&mut self, words: Words, plan: Plan) -> Result<(), Stop> {
         self.counts.add(Event::Look, 1);
-        let plan = draw_plan(&mut self.random, 120, 8);
         let input = self.machine.copy_of(b"")?;
         let ended = self.run(words, input, 1, plan)?;
+        self.see_named(&ended)?;
         if ended.is_stopped {
             self.fall(true)?;
+            self.see_named(&ended)?;
             self.recover()?;
         } else if ended.status != 0 {
             see_failure(&ended)?;
@@ -60,11 +91,17 @@ impl<P: Program> Story<'_, P> {
 
     /// Reads the disk.
     pub(crate) fn read(&mut self) -> Result<(), Stop> {
-        match self.random.below(4) {
-            0 => self.read_by(&SHOW),
-            1 => self.read_by(&CHECK),
-            _ => self.read_by(&COPYING),
-        }
+        let words: Words = match self.random.below(4) {
+            0 => &SHOW,
+            1 => &CHECK,
+            _ => {
+                self.clear_making()?;
+                let plan = self.draw_copying();
+                return self.read_by(&COPYING, plan);
+            }
+        };
+        let plan = draw_plan(&mut self.random, 120, 8);
+        self.read_by(words, plan)
     }
 
     /// A command is run while another program has the image, which it lets go after some naps, or not at all.

@@ -2,31 +2,32 @@
 use crate::changes::see_refusal;
 use crate::counts::Event;
 use crate::judging::see_replies;
-use crate::runs::{Ended, Program};
+use crate::runs::{Ended, Program, run, stop_at};
 use crate::services::between;
 use crate::stops::{Stop, see};
 use crate::stories::Story;
 use crate::words::{DELETE_A, PLAY, PUT_A, SCRIPT, SERVE, SHOW, TITLE, TITLE_BACK, Words};
-use simulated_machine::{Counted, Plan, Strike};
+use simulated_machine::{Counted, Plan};
 
 /// How often logs are stopped while they are made.
 const MAKINGS: usize = 6;
+
+/// How often power goes while a change ends, and in how many of its last steps that is.
+const ENDINGS: usize = 3;
+
+const ENDING: u64 = 5;
+
+/// How often the tag is taken away.
+const UNTAGGINGS: usize = 2;
+
+/// How many steps a service has after it has synced that the tag was taken away: it removes the log, and syncs the folder.
+const UNTAGGED: u64 = 2;
 
 /// The step of a `play` that syncs the image.
 const PLAYED: u64 = 2;
 
 /// The step of a change that syncs the folder when its log has got its name.
 const NAMED: u64 = 8;
-
-/// A run ends at this step, which isn't done.
-fn stop_at(step: u64) -> Plan {
-    Plan {
-        counted: Counted::Steps,
-        at: step,
-        what: Strike::Stops,
-        part: 0,
-    }
-}
 
 impl<P: Program> Story<'_, P> {
     /// A run ends at this step, or at one of the next; so many may be drawn. It may be done.
@@ -104,6 +105,22 @@ impl<P: Program> Story<'_, P> {
         self.see_shop(&SHOW, "a change of the disk changed the shop")
     }
 
+    /// Power goes in one of the last steps of a change, or when it is done.
+    fn change_and_lose(&mut self) -> Result<(), Stop> {
+        self.look(&SERVE)?;
+        self.machine.put_file(SCRIPT, b"some bytes of a file\r")?;
+        let words = self.draw_change()?;
+        let made = self.made(words)?;
+        see_refusal(&made.ended)?;
+        let most = made.steps.saturating_add(1);
+        let plan = stop_at(most.saturating_sub(self.random.below(ENDING)));
+        let ended = self.run_alone(words, plan)?;
+        self.lose_power()?;
+        self.look(&SERVE)?;
+        self.see_half(&made, ended.out.as_slice().ends_with(b"\n"))?;
+        self.see_shop(&SHOW, "a change of the disk changed the shop")
+    }
+
     /// A service is killed when it has removed its log. The next command writes the image itself, and then power goes: the removal has
     /// to be on the disk by then.
     fn serve_and_play(&mut self) -> Result<(), Stop> {
@@ -136,6 +153,32 @@ impl<P: Program> Story<'_, P> {
         self.see_shop(&SHOW, "a log that was made anew gives another shop")
     }
 
+    /// Power goes while a service takes the tag away. Without its log the image has to be the shop then, or to say that its log is
+    /// away.
+    fn untag(&mut self) -> Result<(), Stop> {
+        self.look(&SERVE)?;
+        let lines = self.draw_lines()?;
+        let text = self.text_of(lines.as_slice())?;
+        let twin = self.machine.copy()?;
+        let input = twin.copy_of(text.as_slice())?;
+        run(self.program, &twin, &SERVE, input, 1, Plan::NONE);
+        let untagged = twin.calls(Counted::Steps).saturating_sub(UNTAGGED);
+        let ended = self.run(&SERVE, text, 1, stop_at(untagged))?;
+        let mut shop = self.shop;
+        see_replies(
+            self.alloc,
+            &mut shop,
+            lines.as_slice(),
+            ended.out.as_slice(),
+        )?;
+        self.lose_power()?;
+        if self.has_log() {
+            self.see_alone(&shop, &[])?;
+        }
+        self.look(&SERVE)?;
+        self.find(&shop, &[])
+    }
+
     /// Faults meet.
     pub fn meet_faults(&mut self) -> Result<(), Stop> {
         let plan = self.stop_near(7, 4);
@@ -148,7 +191,13 @@ impl<P: Program> Story<'_, P> {
         let plan = self.stop_near(6, 3);
         self.play_and_log(words, plan)?;
         self.change_and_land()?;
+        for _ in 0..ENDINGS {
+            self.change_and_lose()?;
+        }
         self.serve_and_play()?;
+        for _ in 0..UNTAGGINGS {
+            self.untag()?;
+        }
         self.make_again()
     }
 }

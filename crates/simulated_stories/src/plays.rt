@@ -85,6 +85,9 @@ fn play_seed<R: Print + AllocGlobal, P: Program>(
     if let Some(number) = asked.without {
         story.leave_out(number);
     }
+    if let Some(number) = asked.late {
+        story.delay(number);
+    }
     let ended = play_steps(rt, &mut story, seed, asked.shows)?;
     all.stories = all.stories.saturating_add(1);
     all.counts.add_all(&story.counts());
@@ -166,7 +169,7 @@ where
 {
     let Some(asked) = read_words(rt) else {
         println!(rt;
-            "simulator [--seed N] [--seeds N] [--hours H] [--steps] [--acts] [--without NUMBER]"
+            "simulator [--seed N] [--seeds N] [--hours H] [--steps] [--acts] [--without NUMBER | --late NUMBER]"
         )?;
         return Ok(2);
     };

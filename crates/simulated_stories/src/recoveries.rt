@@ -1,7 +1,7 @@
 //! What happens after a program was stopped.
 use crate::counts::Event;
-use crate::judging::OK;
-use crate::runs::{Ended, Program, draw_strike};
+use crate::judging::{Found, OK, shop_shown};
+use crate::runs::{Ended, Program, draw_strike, stop_at};
 use crate::stops::{Stop, see};
 use crate::stories::Story;
 use crate::words::{AWAY, CHECK, IMAGE, LOG, PLAY_SYNC, SCRIPT, SERVE, SHOW, Words};
@@ -10,6 +10,9 @@ use simulated_shop::{Line, Shop};
 
 /// What is reported of an image without its log.
 const LOG_AWAY: &[u8] = b"LOG AWAY\n";
+
+/// The step of a command that reads in which it syncs the log.
+const READ: u64 = 1;
 
 /// How many times a recovery is stopped at most.
 const DEPTH: usize = 3;
@@ -100,7 +103,7 @@ impl<P: Program> Story<'_, P> {
     }
 
     /// Without its log the image has a shop with all that was answered, or it says that its log is away.
-    fn see_alone(&mut self, shop: &Shop, lines: &[Line]) -> Result<(), Stop> {
+    pub(crate) fn see_alone(&mut self, shop: &Shop, lines: &[Line]) -> Result<(), Stop> {
         self.counts.add(Event::Hand, 1);
         self.machine.move_file(LOG, AWAY)?;
         let ended = self.look(&SHOW)?;
@@ -116,6 +119,24 @@ impl<P: Program> Story<'_, P> {
         Ok(())
     }
 
+    /// A command that reads the log is stopped when it has printed its text, if it prints that before it has synced what it read.
+    /// Then power goes: what was printed has to stay. How many of these lines count at least.
+    pub(crate) fn peek(&mut self, shop: &Shop, lines: &[Line]) -> Result<Found, Stop> {
+        let input = self.machine.copy_of(b"")?;
+        let ended = self.run(&SHOW, input, 1, stop_at(READ))?;
+        let out = ended.out.as_slice();
+        match shop_shown(self.alloc, shop, lines, out)? {
+            Some(found) => {
+                self.lose_power()?;
+                Ok(found)
+            }
+            None => Ok(Found {
+                shop: *shop,
+                count: 0,
+            }),
+        }
+    }
+
     /// The shop after some first ones of these lines is the one that is found, and the disk is sound.
     pub(crate) fn find(&mut self, shop: &Shop, lines: &[Line]) -> Result<(), Stop> {
         if self.has_log() && !self.is_untagged && self.random.once_in(3) {
@@ -124,7 +145,7 @@ impl<P: Program> Story<'_, P> {
         let Some(found) = self.shown(&SHOW, shop, lines)? else {
             return Err(Stop::Wrong("after a recovery the shop isn't one that may be there"));
         };
-        self.shop = found;
+        self.shop = found.shop;
         let checked = self.look(&CHECK)?;
         see(
             checked.status == 0 && checked.out.as_slice() == OK,

@@ -35,6 +35,7 @@ pub(crate) fn run<P: Program>(
     let host = Host::new(machine);
     let mut err = Vec::new(host.alloc());
     let status = program.run(&host, &mut err);
+    machine.finish();
     Ended {
         status,
         out: machine.printed(),
@@ -92,6 +93,16 @@ pub(crate) fn draw_plan(random: &mut Random, calls: u64, steps: u64) -> Plan {
         _ => Strike::Stops,
     };
     draw_strike(random, calls, steps, what)
+}
+
+/// A run ends at this step, which isn't done.
+pub(crate) fn stop_at(step: u64) -> Plan {
+    Plan {
+        counted: Counted::Steps,
+        at: step,
+        what: Strike::Stops,
+        part: 0,
+    }
 }
 
 /// Notes a run for a person who follows a story.

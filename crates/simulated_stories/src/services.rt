@@ -11,8 +11,8 @@ use simulated_shop::{Line, Request, Shop, draw_line, write_line};
 /// How many lines fill a log.
 const FULL: u32 = 1000;
 
-/// How many bytes of a text stand in its first lines, of which there are so many.
-fn count_lines(text: &[u8]) -> usize {
+/// How many lines of a text end.
+pub(crate) fn count_lines(text: &[u8]) -> usize {
     let mut count = 0usize;
     for byte in text {
         if *byte == b'\n' {
@@ -98,12 +98,13 @@ impl<P: Program> Story<'_, P> {
     /// What comes after a run that wasn't done. A `play` promises nothing of a loss of power that comes before the next command has
     /// synced the image.
     fn end(&mut self, shop: &Shop, lines: &[Line], is_logged: bool) -> Result<(), Stop> {
-        if is_logged {
-            self.recover()?;
-        } else {
+        if !is_logged {
             self.settle()?;
+            return self.find(shop, lines);
         }
-        self.find(shop, lines)
+        self.recover()?;
+        let least = self.peek(shop, lines)?;
+        self.find(&least.shop, between(lines, least.count, lines.len()))
     }
 
     /// Runs a command over a script of these lines.

@@ -1,6 +1,6 @@
 //! A story.
 use crate::counts::{Counts, Event};
-use crate::judging::shop_shown;
+use crate::judging::{Found, shop_shown};
 use crate::runs::{Ended, Program, count_strike, note, run};
 use crate::stops::{Stop, see};
 use crate::words::{NEW, Words};
@@ -56,6 +56,11 @@ impl<'p, P: Program> Story<'p, P> {
         self.machine.leave_out(number);
     }
 
+    /// One call is made late on this machine (`Machine::delay`).
+    pub fn delay(&self, number: usize) {
+        self.machine.delay(number);
+    }
+
     /// Which calls were made after which other ones.
     pub fn acts(&self) -> Acts {
         self.machine.acts()
@@ -99,7 +104,7 @@ impl<'p, P: Program> Story<'p, P> {
         words: Words,
         shop: &Shop,
         lines: &[Line],
-    ) -> Result<Option<Shop>, Stop> {
+    ) -> Result<Option<Found>, Stop> {
         let ended = self.look(words)?;
         if ended.status != 0 {
             return Ok(None);
@@ -128,7 +133,7 @@ impl<'p, P: Program> Story<'p, P> {
 
     /// Does something.
     fn act(&mut self) -> Result<(), Stop> {
-        match self.random.below(24) {
+        match self.random.below(28) {
             0..=7 => self.serve(),
             8 | 9 => self.play_sync(),
             10 => self.play(),
@@ -136,6 +141,9 @@ impl<'p, P: Program> Story<'p, P> {
             17 => self.format(),
             18 => self.lock(),
             19 | 20 => self.hand(),
+            21 => self.mend(),
+            22 | 23 => self.format_over(),
+            24 => self.serve_readers(),
             _ => self.read(),
         }
     }

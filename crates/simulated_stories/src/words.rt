@@ -18,15 +18,23 @@ pub(crate) const COPY: &str = "copy.d64";
 /// The path under which it is made.
 pub(crate) const COPY_MAKING: &str = "copy.d64.new";
 
+/// The path of a file that is no image.
+pub(crate) const OLD: &str = "old.d64";
+
 /// The path of a script.
 pub(crate) const SCRIPT: &str = "s.txt";
 
+/// The path of lines that are stored as records.
+pub(crate) const LINES: &str = "lines.csv";
+
 /// The paths of all files that a command reads.
-pub(crate) static PATHS: [&str; 5] = [IMAGE, LOG, "shop.d64-log.new", SCRIPT, COPY];
+pub(crate) static PATHS: [&str; 6] = [IMAGE, LOG, "shop.d64-log.new", SCRIPT, LINES, COPY];
 
 pub(crate) static NEW: [&str; 6] = ["ledger", "format", "--new", IMAGE, "--tills", "4"];
 
 pub(crate) static FORMAT: [&str; 5] = ["ledger", "format", IMAGE, "--tills", "4"];
+
+pub(crate) static FORMAT_OLD: [&str; 5] = ["ledger", "format", OLD, "--tills", "4"];
 
 pub(crate) static SERVE: [&str; 3] = ["ledger", "serve", IMAGE];
 
@@ -37,6 +45,8 @@ pub(crate) static PLAY_SYNC: [&str; 5] = ["ledger", "play", "--sync", IMAGE, SCR
 pub(crate) static SHOW: [&str; 3] = ["ledger", "show", IMAGE];
 
 pub(crate) static SHOW_COPY: [&str; 3] = ["ledger", "show", COPY];
+
+pub(crate) static SHOW_OLD: [&str; 3] = ["ledger", "show", OLD];
 
 pub(crate) static CHECK: [&str; 3] = ["ledger", "check", IMAGE];
 
@@ -56,7 +66,23 @@ static DELETE_C: [&str; 4] = ["ledger", "delete", IMAGE, "C"];
 
 static DELETE_SHOP: [&str; 4] = ["ledger", "delete", IMAGE, "STOCK"];
 
+static UNDELETE_A: [&str; 6] = ["ledger", "undelete", IMAGE, "A", "--type", "seq"];
+
+static LOCK_A: [&str; 4] = ["ledger", "lock", IMAGE, "A"];
+
+static UNLOCK_A: [&str; 4] = ["ledger", "unlock", IMAGE, "A"];
+
+static MAKE_R: [&str; 6] = ["ledger", "make", IMAGE, "R", "--length", "40"];
+
+static STORE_R: [&str; 5] = ["ledger", "store", IMAGE, "R", LINES];
+
+static DELETE_R: [&str; 4] = ["ledger", "delete", IMAGE, "R"];
+
+static SORT: [&str; 3] = ["ledger", "sort", IMAGE];
+
 static REPAIR: [&str; 3] = ["ledger", "repair", IMAGE];
+
+pub(crate) static REPAIR_MAP: [&str; 5] = ["ledger", "repair", IMAGE, "--free", "--accept-loss"];
 
 pub(crate) static TITLE: [&str; 7] = ["ledger", "title", IMAGE, "--name", "OLD SHOP", "--id", "84"];
 
@@ -65,7 +91,7 @@ pub(crate) static TITLE_BACK: [&str; 7] = [
 ];
 
 /// How many commands there are that change the disk, and leave the shop as it is.
-pub(crate) const CHANGES: u64 = 10;
+pub(crate) const CHANGES: u64 = 18;
 
 /// One of these commands.
 pub(crate) fn change_of(number: u64) -> Words {
@@ -79,6 +105,13 @@ pub(crate) fn change_of(number: u64) -> Words {
         6 => &DELETE_SHOP,
         7 => &REPAIR,
         8 => &TITLE,
+        9 => &UNDELETE_A,
+        10 => &LOCK_A,
+        11 => &UNLOCK_A,
+        12 => &MAKE_R,
+        13 | 14 => &STORE_R,
+        15 => &DELETE_R,
+        16 => &SORT,
         _ => &TITLE_BACK,
     }
 }

@@ -1,5 +1,6 @@
 //! Plays the whole program over a machine in memory, by seeds: `simulator [--seed N] [--seeds N] [--hours H] [--steps]`. To try the
-//! simulator itself, `--acts` prints the numbers of the calls that were made, and `--without NUMBER` leaves out one of them.
+//! simulator itself, `--acts` prints the numbers of the calls that were made, `--without NUMBER` leaves out one of them, and
+//! `--late NUMBER` makes one of them later.
 #![tactic(auto)]
 
 use ledger_cli::{Audience, program};

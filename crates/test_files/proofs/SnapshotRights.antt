@@ -2,10 +2,10 @@
 use Rattle.std.proofs.Common.{List, refl, ℕ}
 use Rattle.std.specs.Prelude.{slice_index_or}
 use Rattle.image_edits.specs.EditRights.{MayEdit, MayReadSource}
-use Rattle.image_edits.specs.declared.edit.Edit.{Edit}
-use Rattle.image_edits.specs.declared.edit.Edit.TheVariants as edits
-use Rattle.image_edits.specs.declared.edit.Effect.{Effect}
-use Rattle.image_edits.specs.declared.edit.Effect.TheVariants.{Printed, Written}
+use Rattle.disk_changes.specs.declared.changes.ChangeKind.{ChangeKind}
+use Rattle.disk_changes.specs.declared.changes.ChangeKind.TheVariants as kinds
+use Rattle.image_edits.specs.declared.effect.Effect.{Effect}
+use Rattle.image_edits.specs.declared.effect.Effect.TheVariants.{Printed, Written}
 use Rattle.ledger_jobs.specs.JobRights.{MayDo}
 use Rattle.ledger_jobs.specs.declared.jobs.Job.{Job}
 use Rattle.ledger_jobs.specs.declared.jobs.Job.TheVariants as jobs
@@ -40,18 +40,18 @@ module _ (host : Snapshot) where
   edit Written path = change path
   edit Printed path = read path
 
-  source : (what : Edit) → MayReadSource snapshot_rights host what
-  source (edits.Put file kind loss name) = λ other. refl
-  source (edits.Store records columns loss name) = λ other. refl
-  source (edits.CopyFile from loss name to) = read from.now
-  source what = tt
+  source : (kind : ChangeKind) → MayReadSource snapshot_rights host kind
+  source (kinds.Put file kind name) = λ other. refl
+  source (kinds.Store records columns name) = λ other. refl
+  source (kinds.CopyFile from name to) = read from.now
+  source _ = tt
 
   pub may-do : (job : Job) → MayDo snapshot_rights host job
   may-do (jobs.Format image tills) = (make image.now, change image.now)
   may-do (jobs.FormatNew image tills) = make image.now
   may-do (jobs.New image name id) = make image.now
   may-do (jobs.Look image what) = read image.now
-  may-do (jobs.Change image effect what) = (edit effect image.now, source what)
+  may-do (jobs.Change image effect loss kind) = (edit effect image.now, source kind)
   may-do (jobs.Play image script loss) = (change image.now, λ other. refl)
   may-do (jobs.PlayLogged image script loss) = (change image.now, λ other. refl)
   may-do (jobs.Dry script) = λ other. refl

@@ -2,7 +2,8 @@
 ghost use Rattle.std.specs.Prelude.{◌≡◌, ◌≤◌, IfErr, IfOk, OnOk, length, option_map, take};
 ghost use Rattle.std.specs.Io.KnownBytes.{Appends};
 ghost use Rattle.disk_pictures.specs.Held.{drawn_in};
-ghost use Rattle.disk_pictures.specs.Missing.{IsMissing, IsMissingBeside, IsMissingFault, missing_text, past_text};
+ghost use Rattle.disk_pictures.specs.Missing.{IsMisread, IsMisreadBeside, IsMissing, IsMissingBeside, IsMissingFault, missing_text, past_text};
+ghost use Rattle.disk_pictures.specs.Trims.{errors_text};
 ghost use Rattle.damaged_files.specs.reached.Sizes.{IsImageSize};
 ghost use Rattle.command_faults.specs.declared.faults.CommandFault.TheVariants as faults;
 
@@ -91,4 +92,49 @@ pub fn missing_lines(alloc: Global, image: &[u8]) -> Result<Vec<u8>, CommandFaul
         return Ok(Vec::new(alloc));
     }
     lines_beside(alloc, image, tracks)
+}
+
+/// The lines of the sectors that weren't read, in memory. `NoMemory`.
+fn errors_of(
+    alloc: Global,
+    image: &[u8],
+    drawing: Option<&Drawing>,
+) -> Result<Vec<u8>, CommandFault>
+    ensures ok { IfOk result
+        (λ lines. lines.items ≡ errors_text image.now (option_map (λ drawn. drawn_in drawn.now) drawing.entry)) }
+    ensures err { IfErr result (λ fault. fault ≡ faults.NoMemory) }
+{
+    let mut lines = Vec::new(alloc);
+    match print_errors(&mut lines, image, drawing) {
+        Ok(()) => Ok(lines),
+        Err(_) => Err(CommandFault::NoMemory),
+    }
+}
+
+/// These lines of an image whose first 35 tracks are these. `NoMemory`.
+fn errors_beside(alloc: Global, image: &[u8], tracks: &[u8]) -> Result<Vec<u8>, CommandFault>
+    requires size { IsImageSize (length image.now) }
+    requires tracks { tracks.now ≡ take 174848 image.now }
+    requires whole { length tracks.now ≡ 174848 }
+    ensures ok { IfOk result (λ lines. IsMisreadBeside image.now lines.items) }
+    ensures err { IfErr result (λ fault. fault ≡ faults.NoMemory) }
+{
+    match &drawn_of(alloc, tracks)? {
+        Ok(drawing) => errors_of(alloc, image, Some(drawing)),
+        Err(_) => errors_of(alloc, image, None),
+    }
+}
+
+/// Those of the lines of `missing_lines` that say which sectors of tracks 1 to 35 weren't read. `ImageSize`, `NoMemory`.
+pub fn error_lines(alloc: Global, image: &[u8]) -> Result<Vec<u8>, CommandFault>
+    ensures ok { IfOk result (λ lines. IsMisread image.now lines.items) }
+    ensures err { IfErr result (IsMissingFault image.now) }
+{
+    let Some(tracks) = first_tracks(image) else {
+        return Err(CommandFault::ImageSize);
+    };
+    if image.len() == IMAGE_BYTES {
+        return Ok(Vec::new(alloc));
+    }
+    errors_beside(alloc, image, tracks)
 }

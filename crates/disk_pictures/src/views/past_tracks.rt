@@ -43,16 +43,17 @@ fn chain_past(image: &[u8], slot: &Slot, at: usize, last: Option<Place>) -> Opti
     }
 }
 
-/// Where the blocks of a file go on past track 35.
-fn blocks_past(image: &[u8], file: &DrawnFile) -> Option<Place>
+/// Where the blocks of a file go on past track 35: the sector whose link leads to one of tracks 36 to 42, or the sector of the entry if
+/// the first block is there. `image` has at least 174,848 bytes.
+pub fn blocks_past(image: &[u8], file: &DrawnFile) -> Option<Place>
     requires { 174848 ≤ length image.now }
     ensures { result ≡ blocks_past_of image.now (file_in file.now) }
 {
     chain_past(image, &file.slot, 3, file.blocks.as_slice().last().copied())
 }
 
-/// Where the side sectors of a relative file go on past track 35.
-fn sides_past(image: &[u8], file: &DrawnFile) -> Option<Place>
+/// The same of the side sectors of a relative file. None if the file isn't relative.
+pub fn sides_past(image: &[u8], file: &DrawnFile) -> Option<Place>
     requires { 174848 ≤ length image.now }
     ensures { result ≡ sides_past_of image.now (file_in file.now) }
 {

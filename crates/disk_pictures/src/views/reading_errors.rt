@@ -16,9 +16,9 @@ use line_text::Text;
 use std::fmt::{self, Display, Formatter};
 use std::io::Write;
 
-/// The drive's number of an error byte.
+/// The drive's number of an error byte, such as 23 for 5, and 74 for 15. A byte that has none is printed itself, for example `BYTE 200`.
 #[derive(Clone, Copy)]
-struct ErrorNumber(u8);
+pub struct ErrorNumber(pub u8);
 
 impl Display for ErrorNumber {
     ghost output = { λ error. Some (error_number error.0) };
@@ -69,7 +69,7 @@ impl Display for ErrorLine<'_> {
 }
 
 /// The entry that has the sector, if this is drawn.
-fn entry_with(drawing: Option<&Drawing>, place: Place) -> Option<&Slot>
+pub fn entry_with(drawing: Option<&Drawing>, place: Place) -> Option<&Slot>
     ensures { option_map (λ slot. slot.now) result
         ≡ entry_at (option_map (λ drawn. drawn_in drawn.now) drawing.entry) place }
 {

@@ -32,7 +32,7 @@ impl Display for LayoutLine {
 }
 
 /// What is drawn of the tracks, or why their directory can't be read.
-pub(crate) fn drawn_of(alloc: Global, tracks: &[u8]) -> Result<Result<Drawing, Fault>, CommandFault>
+pub fn drawn_of(alloc: Global, tracks: &[u8]) -> Result<Result<Drawing, Fault>, CommandFault>
     requires { length tracks.now ≡ 174848 }
     ensures ok { IfOk result (λ drawn. MatchResult drawn
         (λ drawing. IsDrawn (sectors_in tracks.now) (drawn_in drawing))
@@ -54,6 +54,18 @@ fn print_tracks<W: Write>(out: &mut W, tracks: &[u8]) -> Result<(), CommandFault
     flush(out)
 }
 
+/// Whether the image has all that it says of itself: each sector of tracks 1 to 35 was read, and no file that is drawn goes on past track
+/// 35. `image` has at least 174,848 bytes.
+pub fn is_all_there(image: &[u8], drawing: &Drawing) -> bool
+    requires { 174848 ≤ length image.now }
+    ensures { IsTrue result ↔ IsAllThere image.now (drawn_in drawing.now) }
+{
+    let files = drawing.files.as_slice();
+    let read = is_read(image);
+    let whole = are_files_whole(image, files);
+    read && whole
+}
+
 /// Reports the sectors that weren't read, and the files that go on past track 35. Whether there are none.
 fn report<E: Write>(err: &mut E, image: &[u8], drawing: &Drawing) -> Result<bool, CommandFault>
     requires { 174848 ≤ length image.now }
@@ -62,13 +74,10 @@ fn report<E: Write>(err: &mut E, image: &[u8], drawing: &Drawing) -> Result<bool
         × (IsTrue whole ↔ IsAllThere image.now (drawn_in drawing.now))) }
     ensures err { IfErr result (λ fault. fault ≡ faults.File) }
 {
-    let files = drawing.files.as_slice();
     print_errors(err, image, Some(drawing))?;
-    print_files(err, image, files)?;
+    print_files(err, image, drawing.files.as_slice())?;
     flush(err)?;
-    let read = is_read(image);
-    let whole = are_files_whole(image, files);
-    Ok(read && whole)
+    Ok(is_all_there(image, drawing))
 }
 
 /// Reports the sectors that weren't read, and why the directory can't be.

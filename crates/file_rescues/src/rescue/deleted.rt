@@ -90,13 +90,14 @@ fn add_unshared(
 /// can be reached is also the map's, the directory's or one of the files'. The only error is `NoMemory`.
 fn add_undeleted(
     alloc: Global,
+    image: &[u8],
     disk: &MemDisk,
     directory: &[Place],
     files: &mut Vec<Rescued>,
 ) -> Result<(), CommandFault>
     requires { length directory.now ≤ 18 }
     ensures ok { OnOk result ((found : List Rescued) × (files.new.items ≡ files.old.items ++ found)
-        × AreUndeleted (disk_image disk.now) directory.now files.old.items
+        × AreUndeleted image.now (disk_image disk.now) directory.now files.old.items
         (deleted.deleted_slots (disk_image disk.now) directory.now) found) }
     ensures err { IfErr result (λ fault. fault ≡ faults.NoMemory) }
 {
@@ -105,30 +106,31 @@ fn add_undeleted(
     let entries = deleted_of(disk, directory);
     let slots = entries.as_slice();
     for slot in slots {
-        let file = rescue(alloc, disk, slot, &mut room)?;
+        let file = rescue(alloc, image, disk, slot, &mut room)?;
         let shared = shared_with(directory, &files.as_slice()[..used], &file);
         add_unshared(files, file, shared)?;
     }
     Ok(())
 }
 
-/// What can be reached of the files of the entries of these directory sectors, and of the deleted ones that are chosen.
+/// What can be reached of the files of the entries of these directory sectors of an image's disk, and of the deleted ones that are chosen.
 /// The only error is `NoMemory`.
 pub(crate) fn rescue_chosen(
     alloc: Global,
+    image: &[u8],
     disk: &MemDisk,
     choice: Choice,
     directory: &[Place],
 ) -> Result<Vec<Rescued>, CommandFault>
     requires { length directory.now ≤ 18 }
-    ensures ok { IfOk result (λ files. AreChosen choice (disk_image disk.now) directory.now files.items) }
+    ensures ok { IfOk result (λ files. AreChosen choice image.now (disk_image disk.now) directory.now files.items) }
     ensures few { IfOk result (λ files. length files.items ≤ 144) }
     ensures err { IfErr result (λ fault. fault ≡ faults.NoMemory) }
 {
     let entries = used_of(disk, directory);
-    let mut files = rescue_all(alloc, disk, entries.as_slice())?;
+    let mut files = rescue_all(alloc, image, disk, entries.as_slice())?;
     if choice.deleted {
-        add_undeleted(alloc, disk, directory, &mut files)?;
+        add_undeleted(alloc, image, disk, directory, &mut files)?;
     }
     Ok(files)
 }

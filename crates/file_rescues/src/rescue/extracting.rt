@@ -3,7 +3,7 @@ ghost use Rattle.std.specs.Prelude.{◌≡◌, ◌≤◌, ◌++◌, List, IfErr,
 ghost use Rattle.std.specs.List.{AllByRecursion};
 ghost use Rattle.d64_image.specs.Memory.{disk_image};
 ghost use Rattle.d64_image.specs.declared.place.Place.{Place};
-ghost use Rattle.file_rescues.specs.rescue.Errors.{errors_text, misread_in};
+ghost use Rattle.file_rescues.specs.rescue.Errors.{errors_of};
 ghost use Rattle.file_rescues.specs.rescue.Folders.{AddsFiles, AddsPart};
 ghost use Rattle.file_rescues.specs.rescue.Index.{row_text};
 ghost use Rattle.damaged_files.specs.reached.Owned.{CountsAll};
@@ -14,7 +14,7 @@ ghost use Rattle.file_rescues.specs.rescue.Sharing.{owned};
 use crate::rescue::art::is_art;
 use crate::rescue::choices::Choice;
 use crate::rescue::deleted::rescue_chosen;
-use crate::rescue::errors::{Errors, misread_blocks};
+use crate::rescue::errors::{Errors, misread_blocks, misread_past};
 use crate::rescue::folders::NewFolder;
 use crate::rescue::making::{make, make_files};
 use crate::rescue::output::put;
@@ -41,19 +41,20 @@ const HEADING: &str =
 /// failed, or `NoMemory`.
 fn make_row<F: NewFolder>(
     alloc: Global,
+    image: &[u8],
     disk: &MemDisk,
     folder: &mut F,
     owners: &Owners,
     number: u8,
     file: &Rescued,
 ) -> Result<Row, CommandFault>
-    requires rescued { IsRescued (disk_image disk.now) file.now }
+    requires rescued { IsRescued image.now (disk_image disk.now) file.now }
     ensures row { IfOk result (λ row. (all : List Place) → CountsAll owners.now all
-        → row ≡ row_of (disk_image disk.now) all number file.now) }
+        → row ≡ row_of image.now (disk_image disk.now) all number file.now) }
     ensures ok { IfOk result (λ row. AddsFiles (F.files folder.old) (F.files folder.new)
-        (files_of (disk_image disk.now) number file.now)) }
+        (files_of image.now (disk_image disk.now) number file.now)) }
     ensures err { IfErr result (λ fault. IsMakeFault fault
-        × AddsPart (F.files folder.old) (F.files folder.new) (files_of (disk_image disk.now) number file.now)) }
+        × AddsPart (F.files folder.old) (F.files folder.new) (files_of image.now (disk_image disk.now) number file.now)) }
 {
     if is_art(&file.slot) {
         return Ok(Row {
@@ -66,15 +67,14 @@ fn make_row<F: NewFolder>(
             hash: None,
         });
     }
-    let bytes = make_files(alloc, disk, folder, number, file)?;
-    let blocks = file.blocks.as_slice();
+    let bytes = make_files(alloc, image, disk, folder, number, file)?;
     Ok(Row {
         number,
         slot: file.slot,
-        blocks: blocks.len(),
+        blocks: file.block_count(),
         bytes: bytes.len(),
         fault: file.fault,
-        shared: owners.first_shared(blocks),
+        shared: owners.first_shared(file.blocks.as_slice()),
         hash: Some(Sha256::digest(bytes.as_slice())),
     })
 }
@@ -90,21 +90,23 @@ fn extract_entry<F: NewFolder>(
     file: &Rescued,
     index: &mut Vec<u8>,
 ) -> Result<Row, CommandFault>
-    requires rescued { IsRescued (disk_image disk.now) file.now }
+    requires rescued { IsRescued image.now (disk_image disk.now) file.now }
     ensures row { IfOk result (λ row. (all : List Place) → CountsAll owners.now all
-        → row ≡ row_of (disk_image disk.now) all number file.now) }
+        → row ≡ row_of image.now (disk_image disk.now) all number file.now) }
     ensures index { IfOk result (λ row. index.new.items
-        ≡ index.old.items ++ row_text row (errors_text image.now (misread_in image.now file.now))) }
+        ≡ index.old.items ++ row_text row (errors_of image.now file.now)) }
     ensures ok { IfOk result (λ row. AddsFiles (F.files folder.old) (F.files folder.new)
-        (files_of (disk_image disk.now) number file.now)) }
+        (files_of image.now (disk_image disk.now) number file.now)) }
     ensures err { IfErr result (λ fault. IsMakeFault fault
-        × AddsPart (F.files folder.old) (F.files folder.new) (files_of (disk_image disk.now) number file.now)) }
+        × AddsPart (F.files folder.old) (F.files folder.new) (files_of image.now (disk_image disk.now) number file.now)) }
 {
-    let row = make_row(alloc, disk, folder, owners, number, file)?;
+    let row = make_row(alloc, image, disk, folder, owners, number, file)?;
     let misread = misread_blocks(alloc, image, file)?;
+    let past = misread_past(alloc, image, file)?;
     let errors = Errors {
         image,
         places: misread.as_slice(),
+        past: past.as_slice(),
     };
     put(index, Line { row, errors })?;
     Ok(row)
@@ -122,16 +124,16 @@ fn extract_entries<F: NewFolder>(
     index: &mut Vec<u8>,
     before: Option<Fault>,
 ) -> Result<Option<Fault>, CommandFault>
-    requires rescued { AllByRecursion (IsRescued (disk_image disk.now)) files.now }
+    requires rescued { AllByRecursion (IsRescued image.now (disk_image disk.now)) files.now }
     requires few { length files.now ≤ 144 }
     ensures made { IfOk result (λ _. AddsFiles (F.files folder.old) (F.files folder.new)
-        (files_from (disk_image disk.now) 1 files.now)) }
+        (files_from image.now (disk_image disk.now) 1 files.now)) }
     ensures rows { IfOk result (λ _. (all : List Place) → CountsAll owners.now all
         → index.new.items ≡ index.old.items ++ rows_from image.now (disk_image disk.now) all 1 files.now) }
     ensures told { IfOk result (λ fault. (all : List Place) → CountsAll owners.now all
-        → fault ≡ first_fault (disk_image disk.now) all 1 before files.now) }
+        → fault ≡ first_fault image.now (disk_image disk.now) all 1 before files.now) }
     ensures err { IfErr result (λ fault. IsMakeFault fault
-        × AddsPart (F.files folder.old) (F.files folder.new) (files_from (disk_image disk.now) 1 files.now)) }
+        × AddsPart (F.files folder.old) (F.files folder.new) (files_from image.now (disk_image disk.now) 1 files.now)) }
 {
     let mut found = before;
     let mut number = 0;
@@ -153,11 +155,11 @@ fn extract_files<F: NewFolder>(
     files: &[Rescued],
     found: Option<Fault>,
 ) -> Result<Option<Fault>, CommandFault>
-    requires rescued { AllByRecursion (IsRescued (disk_image disk.now)) files.now }
+    requires rescued { AllByRecursion (IsRescued image.now (disk_image disk.now)) files.now }
     requires few { length files.now ≤ 144 }
     ensures ok { IfOk result (λ fault. AddsFiles (F.files folder.old) (F.files folder.new)
         (all_files image.now (disk_image disk.now) sectors.now files.now)
-        × (fault ≡ first_fault (disk_image disk.now) (owned sectors.now files.now) 1 found files.now)) }
+        × (fault ≡ first_fault image.now (disk_image disk.now) (owned sectors.now files.now) 1 found files.now)) }
     ensures err { IfErr result (λ fault. IsMakeFault fault
         × AddsPart (F.files folder.old) (F.files folder.new) (all_files image.now (disk_image disk.now) sectors.now files.now)) }
 {
@@ -201,7 +203,7 @@ pub fn extract_image<F: NewFolder>(
     let mut entries = ArrayVec::new();
     let found = read_so_far(&disk, &mut sectors, &mut entries);
     add_chosen(&disk, choice, &mut sectors);
-    let files = rescue_chosen(alloc, &disk, choice, sectors.as_slice())?;
+    let files = rescue_chosen(alloc, image, &disk, choice, sectors.as_slice())?;
     extract_files(
         alloc,
         image,

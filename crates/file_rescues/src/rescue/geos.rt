@@ -1,10 +1,11 @@
 //! Files of GEOS, each as one file of bytes.
-ghost use Rattle.std.specs.Prelude.{◌≡◌, ◌≤◌, ◌++◌, IfErr, IfOk, OnOk, drop, length};
+ghost use Rattle.std.specs.Prelude.{◌≡◌, ◌≤◌, IfErr, IfOk, drop, length};
 ghost use Rattle.d64_image.specs.Memory.{disk_image};
 ghost use Rattle.command_faults.specs.declared.faults.CommandFault.TheVariants as faults;
 ghost use Rattle.file_rescues.specs.rescue.Geos as geos;
 
 use crate::chains::read_file;
+use crate::long_files::append;
 use crate::rescue::rescuing::Rescued;
 use command_faults::CommandFault;
 use d64_image::{MemDisk, Place};
@@ -13,17 +14,6 @@ use std::alloc::Global;
 
 /// The zeros after the signature.
 const ZEROS: [u8; 196] = [0; 196];
-
-/// Appends these bytes. `NoMemory` if there was none.
-fn append(out: &mut Vec<u8>, bytes: &[u8]) -> Result<(), CommandFault>
-    ensures ok { OnOk result (out.new.items ≡ out.old.items ++ bytes.now) }
-    ensures err { IfErr result (λ fault. fault ≡ faults.NoMemory) }
-{
-    match out.extend_from_slice(bytes) {
-        Ok(()) => Ok(()),
-        Err(_) => Err(CommandFault::NoMemory),
-    }
-}
 
 /// How many blocks come before those of the data.
 fn leading(has_records: bool) -> usize

@@ -2,11 +2,12 @@
 ghost use Rattle.std.specs.Prelude.{◌≡◌, ◌≤◌, IfErr, IfOk, OnOk, [], ◌∷◌, length};
 ghost use Rattle.d64_image.specs.Memory.{disk_image};
 ghost use Rattle.file_rescues.specs.rescue.Folders.{AddsFiles, AddsPart, StaysInside, new_file};
-ghost use Rattle.file_rescues.specs.rescue.Rescues.{IsMakeFault, IsRescued, bytes_in, line_files, own_files};
+ghost use Rattle.file_rescues.specs.rescue.Rescues.{IsMakeFault, IsRescued, bytes_by, bytes_in, line_files, own_files};
 ghost use Rattle.file_rescues.specs.rescue.Named.{first_name};
 ghost use Rattle.file_rescues.specs.Found.{records_length};
 ghost use Rattle.file_rescues.specs.Records.{records_of, records_text};
 ghost use Rattle.damaged_files.specs.reached.Names.{name_of};
+ghost use Rattle.geos_files.specs.Entries.{geos_entry};
 ghost use Rattle.line_text.specs.petscii.FileNames.{file_name_of};
 ghost use Rattle.line_text.specs.declared.petscii.file_names.Ending.TheVariants as endings;
 ghost use Rattle.command_faults.specs.declared.faults.CommandFault.TheVariants as faults;
@@ -14,6 +15,7 @@ ghost use Rattle.command_faults.specs.declared.faults.CommandFault.TheVariants a
 use crate::chains::read_file;
 use crate::finding::length_of_records;
 use crate::forms::RecordForm;
+use crate::long_files::read_long;
 use crate::piece_printing::print_pieces;
 use crate::rescue::folders::NewFolder;
 use crate::rescue::geos::cvt_bytes;
@@ -78,10 +80,10 @@ fn make_lines<F: NewFolder>(
     make(folder, name.as_slice(), bytes)
 }
 
-/// The bytes of a file that can be reached; of one of GEOS those of its CVT. `NoMemory` if there was none for them.
-fn bytes_of(alloc: Global, disk: &MemDisk, file: &Rescued) -> Result<Vec<u8>, CommandFault>
+/// The bytes of a file that can be reached on tracks 1 to 35; of one of GEOS those of its CVT. `NoMemory` if there was none for them.
+fn reached_bytes(alloc: Global, disk: &MemDisk, file: &Rescued) -> Result<Vec<u8>, CommandFault>
     requires { length file.now.blocks.items ≤ 720 }
-    ensures ok { IfOk result (λ bytes. bytes.items ≡ bytes_in (disk_image disk.now) file.now) }
+    ensures ok { IfOk result (λ bytes. bytes.items ≡ bytes_by (geos_entry file.now.slot) (disk_image disk.now) file.now) }
     ensures err { IfErr result (λ fault. fault ≡ faults.NoMemory) }
 {
     match geos_entry(&file.slot) {
@@ -90,11 +92,29 @@ fn bytes_of(alloc: Global, disk: &MemDisk, file: &Rescued) -> Result<Vec<u8>, Co
     }
 }
 
+/// The bytes of a file, as far as it can be reached. `NoMemory` if there was none for them.
+fn bytes_of(
+    alloc: Global,
+    image: &[u8],
+    disk: &MemDisk,
+    file: &Rescued,
+) -> Result<Vec<u8>, CommandFault>
+    requires { IsRescued image.now (disk_image disk.now) file.now }
+    ensures ok { IfOk result (λ bytes. bytes.items ≡ bytes_in image.now (disk_image disk.now) file.now) }
+    ensures short { IfOk result (λ bytes. length bytes.items ≤ 203708) }
+    ensures err { IfErr result (λ fault. fault ≡ faults.NoMemory) }
+{
+    if file.is_long() {
+        return read_long(alloc, image, file.sectors.as_slice());
+    }
+    reached_bytes(alloc, disk, file)
+}
+
 /// The lines of the records of `size` bytes among these bytes. `NoMemory` if there was none for them.
 fn record_lines(alloc: Global, bytes: &[u8], size: u8) -> Result<Vec<u8>, CommandFault>
     requires low { 1 ≤ size }
     requires high { size ≤ 254 }
-    requires short { length bytes.now ≤ 182880 }
+    requires short { length bytes.now ≤ 203708 }
     ensures ok { IfOk result (λ lines. lines.items ≡ records_text (records_of size bytes.now)) }
     ensures err { IfErr result (λ fault. fault ≡ faults.NoMemory) }
 {
@@ -114,7 +134,7 @@ fn make_records<F: NewFolder>(
     file: &Rescued,
     bytes: &[u8],
 ) -> Result<(), CommandFault>
-    requires short { length bytes.now ≤ 182880 }
+    requires short { length bytes.now ≤ 203708 }
     ensures ok { OnOk result (AddsFiles (F.files folder.old) (F.files folder.new)
         (line_files number file.now bytes.now (records_length file.now.slot))) }
     ensures err { IfErr result (λ fault. IsMakeFault fault
@@ -132,18 +152,19 @@ fn make_records<F: NewFolder>(
 /// if the folder failed, or `NoMemory`: the folder then has a part of them.
 pub(crate) fn make_files<F: NewFolder>(
     alloc: Global,
+    image: &[u8],
     disk: &MemDisk,
     folder: &mut F,
     number: u8,
     file: &Rescued,
 ) -> Result<Vec<u8>, CommandFault>
-    requires rescued { IsRescued (disk_image disk.now) file.now }
-    ensures ok { IfOk result (λ bytes. (bytes.items ≡ bytes_in (disk_image disk.now) file.now)
-        × AddsFiles (F.files folder.old) (F.files folder.new) (own_files (disk_image disk.now) number file.now)) }
+    requires rescued { IsRescued image.now (disk_image disk.now) file.now }
+    ensures ok { IfOk result (λ bytes. (bytes.items ≡ bytes_in image.now (disk_image disk.now) file.now)
+        × AddsFiles (F.files folder.old) (F.files folder.new) (own_files image.now (disk_image disk.now) number file.now)) }
     ensures err { IfErr result (λ fault. IsMakeFault fault
-        × AddsPart (F.files folder.old) (F.files folder.new) (own_files (disk_image disk.now) number file.now)) }
+        × AddsPart (F.files folder.old) (F.files folder.new) (own_files image.now (disk_image disk.now) number file.now)) }
 {
-    let bytes = bytes_of(alloc, disk, file)?;
+    let bytes = bytes_of(alloc, image, disk, file)?;
     make_first(folder, number, file, bytes.as_slice())?;
     make_records(alloc, folder, number, file, bytes.as_slice())?;
     Ok(bytes)

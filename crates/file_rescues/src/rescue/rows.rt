@@ -221,7 +221,7 @@ pub(crate) struct Line<'a> {
 }
 
 impl Display for Line<'_> {
-    ghost output = { λ line. Some (row_text line.row (errors_text line.errors.image.now line.errors.places.now)) };
+    ghost output = { λ line. Some (row_text line.row (errors_text line.errors.image.now line.errors.places.now line.errors.past.now)) };
 
     fn fmt<W: fmt::Write>(&self, f: &mut Formatter<W>) -> fmt::Result {
         let row = self.row;

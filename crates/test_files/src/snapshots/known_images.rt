@@ -52,7 +52,7 @@ where
     R: HostFiles<File = F> + HostLogs,
     W: Write,
     requires log { MayKeepLogOf R.rights rt.now (string_bytes names.now.image) }
-    requires fit { IsFit what.now }
+    requires fit { IsFit what.now.kind.now }
     ensures run { IfOk result (IsChangedIn (untagged_folders R.folders R.HostFiles F.Read F.Seek) (λ d. d.at.image ≡ file) what.now image.now
         W.contents out.old out.new) }
     ensures quiet { IsErr result → out.new ≡ out.old }

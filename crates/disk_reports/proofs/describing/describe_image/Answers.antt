@@ -1,16 +1,15 @@
--- What the disk in memory holds is the image, which was judged and followed.
-use Rattle.std.proofs.Common.{List, ap, refl, subst, ◌∙◌}
+-- What the disk in memory holds is the image, which was judged.
+use Rattle.std.proofs.Common.{ap, refl, subst, ◌∙◌}
 use Rattle.std.proofs.lemmas.Result.{err_from_is_err_and}
 use Rattle.std.specs.Io.KnownBytes.{Appends}
 use Rattle.d64_image.specs.Images.{Image, Sector, sector}
 use Rattle.d64_image.specs.Memory.{disk_image}
 use Rattle.damaged_files.specs.cut.Told.{IsShortfallOf}
 use Rattle.disk_layout.specs.Directory.{map_place}
-use Rattle.disk_layout.specs.declared.slot.Slot.{Slot}
-use Rattle.disk_reports.specs.Descriptions.{description_text}
+use Rattle.disk_reports.specs.Rows.{row_text}
 use Rattle.command_faults.proofs.Loads.{by-load}
 use Rattle.disk_layout.specs.Clean.{IsVerdict}
-use Rattle.disk_reports.specs.Outcomes.{AreFound, IsDescribeFault}
+use Rattle.disk_reports.specs.Outcomes.{IsDescribeFault}
 use Rattle.disk_reports.proofs.describing.describe_image.Goals as goal
 
 pub returns-in_err-disk : goal.returns-in_err-disk
@@ -26,24 +25,18 @@ pub returns-in-Ok : goal.returns-in-Ok
 returns-in-Ok g c =
     let loaded = c.in_ok-disk.ensures.ok in
     let found = c.verdict-found.result in
-    let files = c.list_files.new.files.items in
     let judged = c.verdict-found.ensures.same ∙ loaded.1 in
-    let listed = c.list_files.ensures.same ∙ judged in
     let lack = c.find_shortfall-lack.result in
-    let map = c.sector-map.ensures ∙ ap (sector (disk_image c.find_shortfall-lack.new.disk)) c.map_place.ensures
-    ∙ ap (λ (i : Image). sector i map_place) (c.find_shortfall-lack.ensures.same ∙ listed) in
+    let map = c.sector.ensures ∙ ap (sector (disk_image c.find_shortfall-lack.new.disk)) c.map_place.ensures
+    ∙ ap (λ (i : Image). sector i map_place) (c.find_shortfall-lack.ensures.same ∙ judged) in
     record {
       ok = record {
         size = loaded.0;
         verdict = subst (λ (i : Image). IsVerdict i found) loaded.1 c.verdict-found.ensures.verdict;
-        files = files;
-        concerned = subst (λ (i : Image). AreFound i found files) judged c.list_files.ensures.files;
         lack = lack;
-        lacks = subst (λ (i : Image). IsShortfallOf i lack) listed c.find_shortfall-lack.ensures.told;
-        printed = subst (λ (m : Sector). Appends (g.W.Write.contents c.args.out.now) (g.W.Write.contents c.print_description.new.out)
-            (description_text c.args.form c.args.name.now found files m lack c.args.image.now)) map
-            (subst (λ (ss : List Slot). Appends (g.W.Write.contents c.args.out.now) (g.W.Write.contents c.print_description.new.out)
-            (description_text c.args.form c.args.name.now found ss c.sector-map.result.now lack c.args.image.now)) c.as_slice.ensures.value c.in-Ok.ensures);
+        lacks = subst (λ (i : Image). IsShortfallOf i lack) judged c.find_shortfall-lack.ensures.told;
+        printed = subst (λ (m : Sector). Appends (g.W.Write.contents c.args.out.now) (g.W.Write.contents c.print_row.new.out)
+            (row_text c.args.name.now found m lack c.args.image.now)) map c.in-Ok.ensures;
       };
       err = tt;
       untouched = tt;

@@ -1,9 +1,12 @@
 -- Files of GEOS: what was reached of them, and how long their CVT is.
-use Rattle.std.proofs.Common.{◌≡◌, ◌≤◌, ◌+◌, ◌-◌, ◌*◌, ◌∷◌, ◌++◌, ℕ, Bool, true, false, List, [], Option, None, Some, ap, append_assoc, arith, drop, inl, inr, length, length-append, map, max, refl, subst, sym, take, ◌∙◌}
-use Rattle.std.specs.Prelude.{Err, IsOk, Ok, OnOk, Result, codes, replicate, slice_range}
+use Rattle.std.proofs.Common.{◌≡◌, ◌≤◌, ◌+◌, ◌-◌, ◌*◌, ◌∷◌, ◌++◌, ℕ, zero, suc, Bool, true, false, List, [], Option, None, Some, ap, append_assoc, arith, drop, inl, inr, length, length-append, map, max, refl, subst, sym, take, ◌∙◌}
+use Rattle.std.specs.List.{AllByRecursion}
+use Rattle.std.specs.Prelude.{Err, IfOk, IsOk, Ok, OnOk, Result, codes, filter, nat_lt, replicate, slice_range}
+use Rattle.std.proofs.lemmas.Bool.{false≢true, lt-ltb}
 use Rattle.std.proofs.Math.Seq.{take-append_seam}
-use Rattle.std.proofs.lemmas.List.{length-drop, length-replicate, length-take}
+use Rattle.std.proofs.lemmas.List.{length-drop, length-map, length-replicate, length-take}
 use Rattle.d64_image.specs.Images.{Image, IsImage, sector}
+use Rattle.d64_image.specs.Places.{index_of}
 use Rattle.d64_image.specs.declared.place.Place.{Place}
 use Rattle.damaged_files.specs.reached.Reached.{IsReached}
 use Rattle.disk_layout.proofs.lemmas.lists.Count.{places-few}
@@ -15,13 +18,15 @@ use Rattle.geos_files.specs.Cvt.{signature}
 use Rattle.geos_files.specs.Entries.{geos_entry}
 use Rattle.geos_files.specs.Reached.{IsGeosReach}
 use Rattle.geos_files.specs.declared.entries.GeosEntry.{GeosEntry}
+use Rattle.long_chains.specs.Sectors.{HasSector}
 use Rattle.line_text.specs.petscii.FileNames.{file_byte, file_name_of, number_text}
 use Rattle.line_text.specs.declared.petscii.file_names.Ending.TheVariants.{Prg}
 use Rattle.file_rescues.proofs.Pieced.{short-file}
 use Rattle.file_rescues.specs.Bytes.{file_bytes}
+use Rattle.file_rescues.specs.Long.{long_chain}
 use Rattle.file_rescues.specs.rescue.Geos.{cvt_bytes, leading}
 use Rattle.file_rescues.specs.rescue.Named.{cvt_name}
-use Rattle.file_rescues.specs.rescue.Rescues.{IsReachedBy, IsRescued, bytes_by, bytes_in}
+use Rattle.file_rescues.specs.rescue.Rescues.{IsChainTaken, IsOfChain, IsReachedBy, IsRescued, IsTaken, bytes_by, is_on_disk}
 use Rattle.file_rescues.specs.declared.rescue.rescuing.Rescued.{Rescued}
 
 -- what can be reached of an entry's file isn't more than the disk
@@ -32,31 +37,84 @@ reached-few img s ps fault u (inr (inl bad)) = omega (arith, ap length bad.2)
 reached-few img s ps fault u (inr (inr walk)) = places-few ps walk.2.once
 
 -- the slot with what was reached
-pub geos-rescued : (img : Image) (s : Slot) (entry : GeosEntry) (f : Rescued) (ps : List Place) (bs : List ℕ)
+pub geos-rescued : (image : List ℕ) (img : Image) (s : Slot) (entry : GeosEntry) (f : Rescued) (ps : List Place) (bs : List ℕ)
     (fault : Option Fault) (u : ℕ) → geos_entry s ≡ Some entry → f.slot ≡ s → f.blocks.items ≡ ps → f.pairs.items ≡ bs
-    → f.fault ≡ fault → f.last ≡ u → IsGeosReach img entry ps bs fault u → length ps ≤ 683 → length bs ≤ 254
-    → IsRescued img f
-geos-rescued img s entry f ps bs fault u geos slot blocks pairs faults end reach few short =
+    → f.sectors.items ≡ [] → f.fault ≡ fault → f.last ≡ u → IsGeosReach img entry ps bs fault u → length ps ≤ 683
+    → length bs ≤ 254 → IsRescued image img f
+geos-rescued image img s entry f ps bs fault u geos slot blocks pairs sectors faults end reach few short =
     let here : IsGeosReach img entry f.blocks.items f.pairs.items f.fault f.last =
     rw (blocks, pairs, faults, end) reach in
     record {
-      reached = subst (λ (t : Slot). IsReachedBy (geos_entry t) img f) (sym slot)
-          (subst (λ (o : Option GeosEntry). IsReachedBy o img f) (sym geos) here);
-      few = omega (arith, ap length blocks, few);
+      reached = subst (λ (t : Slot). IsReachedBy (geos_entry t) image img f) (sym slot)
+          (subst (λ (o : Option GeosEntry). IsReachedBy o image img f) (sym geos) (here, sectors));
+      few = λ no. omega (arith, ap length blocks, few);
       pairs = omega (arith, ap length pairs, short);
+      inside = subst (AllByRecursion (HasSector image)) (sym sectors) tt;
+      short = omega (arith, ap length sectors);
     }
 
-pub chain-rescued : (img : Image) (s : Slot) (f : Rescued) (ps : List Place) (fault : Option Fault) (u : ℕ)
-    → geos_entry s ≡ None → f.slot ≡ s → f.blocks.items ≡ ps → f.pairs.items ≡ [] → f.fault ≡ fault → f.last ≡ u
-    → IsReached img s ps fault u → IsRescued img f
-chain-rescued img s f ps fault u geos slot blocks pairs faults end reach =
-    let here : IsReached img f.slot f.blocks.items f.fault f.last = rw (slot, blocks, faults, end) reach in
+-- the chain was taken on tracks 1 to 35, since it isn't long
+pub chain-rescued : (image : List ℕ) (img : Image) (s : Slot) (f : Rescued) (ps : List Place) (fault : Option Fault) (u : ℕ)
+    → geos_entry s ≡ None → f.slot ≡ s → f.blocks.items ≡ ps → f.pairs.items ≡ [] → f.sectors.items ≡ [] → f.fault ≡ fault
+    → f.last ≡ u → IsReached img s ps fault u → None ≡ long_chain image s fault → IsRescued image img f
+chain-rescued image img s f ps fault u geos slot blocks pairs sectors faults end reach none =
+    let taken : IsTaken f ps fault u (long_chain image s fault) =
+    subst (IsTaken f ps fault u) none (blocks, faults, end, sectors) in
+    let here : IsChainTaken image img f = record {
+      blocks = ps;
+      fault = fault;
+      last = u;
+      reached = subst (λ (t : Slot). IsReached img t ps fault u) (sym slot) reach;
+      taken = subst (λ (t : Slot). IsTaken f ps fault u (long_chain image t fault)) (sym slot) taken;
+    } in
     record {
-      reached = subst (λ (t : Slot). IsReachedBy (geos_entry t) img f) (sym slot)
-          (subst (λ (o : Option GeosEntry). IsReachedBy o img f) (sym geos) (here, pairs));
-      few = omega (arith, ap length blocks, reached-few img s ps fault u reach);
+      reached = subst (λ (t : Slot). IsReachedBy (geos_entry t) image img f) (sym slot)
+          (subst (λ (o : Option GeosEntry). IsReachedBy o image img f) (sym geos) (here, pairs));
+      few = λ no. omega (arith, ap length blocks, reached-few img s ps fault u reach);
       pairs = omega (arith, ap length pairs);
+      inside = subst (AllByRecursion (HasSector image)) (sym sectors) tt;
+      short = omega (arith, ap length sectors);
     }
+
+-- a file that isn't long has no sectors, and a chain without sectors no blocks
+pub not-long : (n : ℕ) → nat_lt 0 n ≡ false → n ≡ 0
+not-long zero is = refl
+not-long (suc n) is = absurd (false≢true (sym is ∙ lt-ltb 0 (suc n) (omega arith)))
+
+few-none : (f : Rescued) (ns : List ℕ) → map index_of f.blocks.items ≡ filter is_on_disk ns → length ns ≡ 0
+    → length f.blocks.items ≤ 683
+few-none f [] same none = omega (arith, ap length same, length-map f.blocks.items index_of)
+few-none f (n ∷ ns) same none = absurd (omega (arith, none))
+
+-- its long chain was
+pub long-rescued : (image : List ℕ) (img : Image) (s : Slot) (f : Rescued) (ps : List Place) (fault : Option Fault) (u : ℕ)
+    (shown ns : List ℕ) → geos_entry s ≡ None → f.slot ≡ s → f.pairs.items ≡ [] → IsOfChain f shown → shown ≡ ns
+    → IsReached img s ps fault u → Some ns ≡ long_chain image s fault → AllByRecursion (HasSector image) ns
+    → length ns ≤ 802 → IsRescued image img f
+long-rescued image img s f ps fault u shown ns geos slot pairs of same reach long inside short =
+    let mine : IsOfChain f ns = subst (IsOfChain f) same of in
+    let here : IsChainTaken image img f = record {
+      blocks = ps;
+      fault = fault;
+      last = u;
+      reached = subst (λ (t : Slot). IsReached img t ps fault u) (sym slot) reach;
+      taken = subst (λ (t : Slot). IsTaken f ps fault u (long_chain image t fault)) (sym slot)
+          (subst (IsTaken f ps fault u) long mine);
+    } in
+    record {
+      reached = subst (λ (t : Slot). IsReachedBy (geos_entry t) image img f) (sym slot)
+          (subst (λ (o : Option GeosEntry). IsReachedBy o image img f) (sym geos) (here, pairs));
+      few = λ no. few-none f ns mine.blocks (omega (arith, no, ap length mine.sectors));
+      pairs = omega (arith, ap length pairs);
+      inside = subst (AllByRecursion (HasSector image)) (sym mine.sectors) inside;
+      short = omega (arith, ap length mine.sectors, short);
+    }
+
+-- what holds of a value by three clauses of a result, where there is one
+pub if-taken : {T E : Type 0} (r : Result T E) (P Q R : T → Type 0) {S : T → Type 0} → ((x : T) → P x → Q x → R x → S x)
+    → IfOk r P → IfOk r Q → IfOk r R → IfOk r S
+if-taken (Ok x) P Q R holds p q of = holds x p q of
+if-taken (Err e) P Q R holds p q of = tt
 
 -- the bytes of blocks are at most 254 each
 file-long : (img : Image) (blocks : List Place) (u : ℕ) → IsImage img
@@ -96,7 +154,7 @@ cvt-short img entry f whole few pairs =
     omega (arith, a, b, c, d, e, head-long, info-long, zeros-long, sign-long, content-long, bytes-long, few, pairs)
 
 pub short-bytes : (img : Image) (f : Rescued) → IsImage img → length f.blocks.items ≤ 683 → length f.pairs.items ≤ 254
-    → length (bytes_in img f) ≤ 182880
+    → length (bytes_by (geos_entry f.slot) img f) ≤ 182880
 short-bytes img f whole few pairs = by-entry (geos_entry f.slot)
   where
     by-entry : (o : Option GeosEntry) → length (bytes_by o img f) ≤ 182880

@@ -22,17 +22,17 @@ module _ {F : Type 0} (files : F → Option (List NewFile)) (choice : Choice) (i
     (size : length (disk_of image) ≡ 174848) (is : img ≡ sectors_in (disk_of image))
     (read : IsReadSoFar img chain entries found) (grown : sectors ≡ sectors_of choice img chain)
     (chosen-is : chosen ≡ sectors)
-    (rescued : AreChosen choice img chosen all) (shown-is : shown ≡ sectors) (lent-is : lent ≡ all)
+    (rescued : AreChosen choice image img chosen all) (shown-is : shown ≡ sectors) (lent-is : lent ≡ all)
   where
-    rescue : IsRescue choice (disk_of image) sectors all found
+    rescue : IsRescue choice image sectors all found
     rescue = record {
       size = size;
       chain = chain;
       entries = entries;
       read = subst (λ (i : Image). IsReadSoFar i chain entries found) is read;
       sectors = grown ∙ ap (λ (i : Image). sectors_of choice i chain) is;
-      rescued = subst (λ (ps : List Place). AreChosen choice (sectors_in (disk_of image)) ps all) chosen-is
-          (subst (λ (i : Image). AreChosen choice i chosen all) is rescued);
+      rescued = subst (λ (ps : List Place). AreChosen choice image (sectors_in (disk_of image)) ps all) chosen-is
+          (subst (λ (i : Image). AreChosen choice image i chosen all) is rescued);
     }
 
     -- the files are those of the image
@@ -42,16 +42,16 @@ module _ {F : Type 0} (files : F → Option (List NewFile)) (choice : Choice) (i
         ∙ ap (λ (ps : List Place). all_files image img ps all) shown-is
         ∙ ap (λ (i : Image). all_files image i sectors all) is
 
-    fault-is : first_fault img (owned shown lent) 1 found lent
-        ≡ first_fault (sectors_in (disk_of image)) (owned sectors all) 1 found all
+    fault-is : first_fault image img (owned shown lent) 1 found lent
+        ≡ first_fault image (sectors_in (disk_of image)) (owned sectors all) 1 found all
     fault-is =
-        ap (λ (fs : List Rescued). first_fault img (owned shown fs) 1 found fs) lent-is
-        ∙ ap (λ (ps : List Place). first_fault img (owned ps all) 1 found all) shown-is
-        ∙ ap (λ (i : Image). first_fault i (owned sectors all) 1 found all) is
+        ap (λ (fs : List Rescued). first_fault image img (owned shown fs) 1 found fs) lent-is
+        ∙ ap (λ (ps : List Place). first_fault image img (owned ps all) 1 found all) shown-is
+        ∙ ap (λ (i : Image). first_fault image i (owned sectors all) 1 found all) is
 
     pub extracted : (r : Result (Option Fault) CommandFault)
         → IfOk r (λ fault. AddsFiles (files old) (files new) (all_files image img shown lent)
-        × (fault ≡ first_fault img (owned shown lent) 1 found lent)) → IfOk r (IsExtracted files choice image old new)
+        × (fault ≡ first_fault image img (owned shown lent) 1 found lent)) → IfOk r (IsExtracted files choice image old new)
     extracted r = IfOk-weaker r _ _ (λ fault holds. record {
       directory = sectors;
       rescued = all;

@@ -155,25 +155,25 @@ unless-inside : (none : Bool) (fs : List NewFile) → AllByRecursion IsInside fs
 unless-inside true fs all = tt
 unless-inside false fs all = all
 
-own-inside : (img : Image) (n : ℕ) (f : Rescued) → n < 256 → AllByRecursion IsInside (own_files img n f)
+own-inside : (image : List ℕ) (img : Image) (n : ℕ) (f : Rescued) → n < 256 → AllByRecursion IsInside (own_files image img n f)
 unfolding own_files
-own-inside img n f low = (
+own-inside image img n f low = (
   first-inside n f.slot low,
-  lines-inside n f (bytes_in img f) (records_length f.slot) low,
+  lines-inside n f (bytes_in image img f) (records_length f.slot) low,
 )
 
-from-inside : (img : Image) (n : ℕ) (files : List Rescued) → n + length files ≤ 256
-    → AllByRecursion IsInside (files_from img n files)
+from-inside : (image : List ℕ) (img : Image) (n : ℕ) (files : List Rescued) → n + length files ≤ 256
+    → AllByRecursion IsInside (files_from image img n files)
 unfolding files_from files_of
-from-inside img n [] few = tt
-from-inside img n (f ∷ fs) few = inside-append (files_of img n f) (files_from img (n + 1) fs)
-    (unless-inside (is_art f.slot) (own_files img n f) (own-inside img n f (omega (arith, few))))
-    (from-inside img (n + 1) fs (omega (arith, few)))
+from-inside image img n [] few = tt
+from-inside image img n (f ∷ fs) few = inside-append (files_of image img n f) (files_from image img (n + 1) fs)
+    (unless-inside (is_art f.slot) (own_files image img n f) (own-inside image img n f (omega (arith, few))))
+    (from-inside image img (n + 1) fs (omega (arith, few)))
 
 pub all-inside : (image : List ℕ) (img : Image) (directory : List Place) (files : List Rescued) → length files ≤ 144
     → AllByRecursion IsInside (all_files image img directory files)
-all-inside image img directory files few = inside-append (files_from img 1 files) (index_of_files image img directory files ∷ [])
-    (from-inside img 1 files (omega (arith, few))) (index-inside, tt)
+all-inside image img directory files few = inside-append (files_from image img 1 files) (index_of_files image img directory files ∷ [])
+    (from-inside image img 1 files (omega (arith, few))) (index-inside, tt)
 
 -- a name that begins with this number
 abbrev IsNumbered : ℕ → List ℕ → Type 0
@@ -271,54 +271,54 @@ own-from n f bytes body (Some L) x has = elim (Contains-cases x _ (map name (lin
 ]
 
 -- the same of all files that are made of an entry
-files-once : (img : Image) (n : ℕ) (f : Rescued) → EachOnce (map name (files_of img n f))
+files-once : (image : List ℕ) (img : Image) (n : ℕ) (f : Rescued) → EachOnce (map name (files_of image img n f))
 unfolding files_of own_files
-files-once img n f = unless (is_art f.slot)
+files-once image img n f = unless (is_art f.slot)
   where
-    unless : (none : Bool) → EachOnce (map name (if none then [] else own_files img n f))
+    unless : (none : Bool) → EachOnce (map name (if none then [] else own_files image img n f))
     unless true = tt
-    unless false = own-once n f (bytes_in img f) (bytes_in img f) (records_length f.slot)
+    unless false = own-once n f (bytes_in image img f) (bytes_in image img f) (records_length f.slot)
 
-made-from : (img : Image) (n : ℕ) (f : Rescued) (x : List ℕ) → Contains (map name (files_of img n f)) x
+made-from : (image : List ℕ) (img : Image) (n : ℕ) (f : Rescued) (x : List ℕ) → Contains (map name (files_of image img n f)) x
     → IsNumbered n x
 unfolding files_of own_files
-made-from img n f x = unless (is_art f.slot)
+made-from image img n f x = unless (is_art f.slot)
   where
-    unless : (none : Bool) → Contains (map name (if none then [] else own_files img n f)) x
+    unless : (none : Bool) → Contains (map name (if none then [] else own_files image img n f)) x
         → IsNumbered n x
     unless true has = absurd (Contains-nil x has)
-    unless false has = own-from n f (bytes_in img f) (bytes_in img f) (records_length f.slot) x has
+    unless false has = own-from n f (bytes_in image img f) (bytes_in image img f) (records_length f.slot) x has
 
 either : (xs ys : List NewFile) (y : List ℕ) → Contains (map name (xs ++ ys)) y
     → Contains (map name xs) y ⊎ Contains (map name ys) y
 either xs ys y has =
     Contains-append_cases (map name xs) (map name ys) y (subst (λ (l : List (List ℕ)). Contains l y) (map-append name xs ys) has)
 
-from-names : (img : Image) (n : ℕ) (files : List Rescued) → n + length files ≤ 256 → (x : List ℕ)
-    → Contains (map name (files_from img n files)) x → IsFrom n x
+from-names : (image : List ℕ) (img : Image) (n : ℕ) (files : List Rescued) → n + length files ≤ 256 → (x : List ℕ)
+    → Contains (map name (files_from image img n files)) x → IsFrom n x
 unfolding files_from
-from-names img n [] few x has = absurd (Contains-nil x has)
-from-names img n (f ∷ fs) few x has =
-    elim (either (files_of img n f) (files_from img (n + 1) fs) x has) [
-      | inl here ↦ (n, omega arith, omega (arith, few), made-from img n f x here)
-      | inr there ↦ later n (from-names img (n + 1) fs (omega (arith, few)) x there)
+from-names image img n [] few x has = absurd (Contains-nil x has)
+from-names image img n (f ∷ fs) few x has =
+    elim (either (files_of image img n f) (files_from image img (n + 1) fs) x has) [
+      | inl here ↦ (n, omega arith, omega (arith, few), made-from image img n f x here)
+      | inr there ↦ later n (from-names image img (n + 1) fs (omega (arith, few)) x there)
     ]
   where
     later : (m : ℕ) → IsFrom (m + 1) x → IsFrom m x
     later m (k, low, high, is) = (k, omega (arith, low), high, is)
 
-from-once : (img : Image) (n : ℕ) (files : List Rescued) → n + length files ≤ 256
-    → EachOnce (map name (files_from img n files))
+from-once : (image : List ℕ) (img : Image) (n : ℕ) (files : List Rescued) → n + length files ≤ 256
+    → EachOnce (map name (files_from image img n files))
 unfolding files_from
-from-once img n [] few = tt
-from-once img n (f ∷ fs) few =
-    subst EachOnce (sym (map-append name (files_of img n f) (files_from img (n + 1) fs)))
-    (EachOnce-join (map name (files_of img n f)) (map name (files_from img (n + 1) fs))
-    (files-once img n f)
-    (from-once img (n + 1) fs (omega (arith, few)))
+from-once image img n [] few = tt
+from-once image img n (f ∷ fs) few =
+    subst EachOnce (sym (map-append name (files_of image img n f) (files_from image img (n + 1) fs)))
+    (EachOnce-join (map name (files_of image img n f)) (map name (files_from image img (n + 1) fs))
+    (files-once image img n f)
+    (from-once image img (n + 1) fs (omega (arith, few)))
     (λ x here there. apart x
-    (made-from img n f x here)
-    (from-names img (n + 1) fs (omega (arith, few)) x there)))
+    (made-from image img n f x here)
+    (from-names image img (n + 1) fs (omega (arith, few)) x there)))
   where
     low : n < 256
     low = omega (arith, few)
@@ -330,11 +330,11 @@ from-once img n (f ∷ fs) few =
 pub all-once : (image : List ℕ) (img : Image) (directory : List Place) (files : List Rescued) → length files ≤ 144
     → EachOnce (map name (all_files image img directory files))
 all-once image img directory files few =
-    subst EachOnce (sym (map-append name (files_from img 1 files) (index_of_files image img directory files ∷ [])))
-    (EachOnce-join (map name (files_from img 1 files)) (codes "index.csv" ∷ [])
-    (from-once img 1 files (omega (arith, few))) (Contains-nil (codes "index.csv"), tt)
+    subst EachOnce (sym (map-append name (files_from image img 1 files) (index_of_files image img directory files ∷ [])))
+    (EachOnce-join (map name (files_from image img 1 files)) (codes "index.csv" ∷ [])
+    (from-once image img 1 files (omega (arith, few))) (Contains-nil (codes "index.csv"), tt)
     (λ x here there. elim (Contains-cases x (codes "index.csv") [] there) [
-      | inl is ↦ index-apart x (from-names img 1 files (omega (arith, few)) x here) is
+      | inl is ↦ index-apart x (from-names image img 1 files (omega (arith, few)) x here) is
       | inr none ↦ Contains-nil x none
     ]))
   where

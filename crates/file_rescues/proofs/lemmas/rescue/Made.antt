@@ -29,53 +29,53 @@ two-words _ = inl refl
 abbrev first_file : ℕ → Rescued → List ℕ → NewFile
 first_file n f bytes = new_file (first_name n f.slot) bytes
 
-pub data-part : (a b : Option (List NewFile)) (img : Image) (n : ℕ) (f : Rescued) (bytes : List ℕ)
-    → bytes ≡ bytes_in img f → AddsPart a b (first_file n f bytes ∷ []) → AddsPart a b (own_files img n f)
+pub data-part : (a b : Option (List NewFile)) (image : List ℕ) (img : Image) (n : ℕ) (f : Rescued) (bytes : List ℕ)
+    → bytes ≡ bytes_in image img f → AddsPart a b (first_file n f bytes ∷ []) → AddsPart a b (own_files image img n f)
 unfolding own_files
-data-part a b img n f bytes same part =
-    part-before a b (first_file n f (bytes_in img f) ∷ []) (line_files n f (bytes_in img f) (records_length f.slot))
+data-part a b image img n f bytes same part =
+    part-before a b (first_file n f (bytes_in image img f) ∷ []) (line_files n f (bytes_in image img f) (records_length f.slot))
     (subst (λ (bs : List ℕ). AddsPart a b (first_file n f bs ∷ [])) same part)
 
-pub lines-part : (a b c : Option (List NewFile)) (img : Image) (n : ℕ) (f : Rescued) (bytes more : List ℕ)
-    → bytes ≡ bytes_in img f → more ≡ bytes_in img f → AddsFiles a b (first_file n f bytes ∷ [])
-    → AddsPart b c (line_files n f more (records_length f.slot)) → AddsPart a c (own_files img n f)
+pub lines-part : (a b c : Option (List NewFile)) (image : List ℕ) (img : Image) (n : ℕ) (f : Rescued) (bytes more : List ℕ)
+    → bytes ≡ bytes_in image img f → more ≡ bytes_in image img f → AddsFiles a b (first_file n f bytes ∷ [])
+    → AddsPart b c (line_files n f more (records_length f.slot)) → AddsPart a c (own_files image img n f)
 unfolding own_files
-lines-part a b c img n f bytes more same again made part =
-    part-then a b c (first_file n f (bytes_in img f) ∷ []) (line_files n f (bytes_in img f) (records_length f.slot))
+lines-part a b c image img n f bytes more same again made part =
+    part-then a b c (first_file n f (bytes_in image img f) ∷ []) (line_files n f (bytes_in image img f) (records_length f.slot))
     (subst (λ (bs : List ℕ). AddsFiles a b (first_file n f bs ∷ [])) same made)
     (subst (λ (bs : List ℕ). AddsPart b c (line_files n f bs (records_length f.slot))) again part)
 
-pub both-made : (a b c : Option (List NewFile)) (img : Image) (n : ℕ) (f : Rescued) (bytes more : List ℕ)
-    → bytes ≡ bytes_in img f → more ≡ bytes_in img f → AddsFiles a b (first_file n f bytes ∷ [])
-    → AddsFiles b c (line_files n f more (records_length f.slot)) → AddsFiles a c (own_files img n f)
+pub both-made : (a b c : Option (List NewFile)) (image : List ℕ) (img : Image) (n : ℕ) (f : Rescued) (bytes more : List ℕ)
+    → bytes ≡ bytes_in image img f → more ≡ bytes_in image img f → AddsFiles a b (first_file n f bytes ∷ [])
+    → AddsFiles b c (line_files n f more (records_length f.slot)) → AddsFiles a c (own_files image img n f)
 unfolding own_files
-both-made a b c img n f bytes more same again made last =
-    adds-both a b c (first_file n f (bytes_in img f) ∷ []) (line_files n f (bytes_in img f) (records_length f.slot))
+both-made a b c image img n f bytes more same again made last =
+    adds-both a b c (first_file n f (bytes_in image img f) ∷ []) (line_files n f (bytes_in image img f) (records_length f.slot))
     (subst (λ (bs : List ℕ). AddsFiles a b (first_file n f bs ∷ [])) same made)
     (subst (λ (bs : List ℕ). AddsFiles b c (line_files n f bs (records_length f.slot))) again last)
 
 -- directory art has no file
-pub art-made : (a : Option (List NewFile)) (img : Image) (n : ℕ) (f : Rescued) → is_art f.slot ≡ true
-    → AddsFiles a a (files_of img n f)
+pub art-made : (a : Option (List NewFile)) (image : List ℕ) (img : Image) (n : ℕ) (f : Rescued) → is_art f.slot ≡ true
+    → AddsFiles a a (files_of image img n f)
 unfolding files_of
-art-made a img n f art = rw art (adds-none a)
+art-made a image img n f art = rw art (adds-none a)
 
 -- what isn't has its own
-pub own-made : (P : List NewFile → Type 0) (img : Image) (n : ℕ) (f : Rescued) → is_art f.slot ≡ false
-    → P (own_files img n f) → P (files_of img n f)
+pub own-made : (P : List NewFile → Type 0) (image : List ℕ) (img : Image) (n : ℕ) (f : Rescued) → is_art f.slot ≡ false
+    → P (own_files image img n f) → P (files_of image img n f)
 unfolding files_of
-own-made P img n f none holds = rw none holds
+own-made P image img n f none holds = rw none holds
 
 -- the files of entries, and of more behind them
-pub from-append : (img : Image) (n : ℕ) (xs ys : List Rescued)
-    → files_from img n (xs ++ ys) ≡ files_from img n xs ++ files_from img (n + length xs) ys
+pub from-append : (image : List ℕ) (img : Image) (n : ℕ) (xs ys : List Rescued)
+    → files_from image img n (xs ++ ys) ≡ files_from image img n xs ++ files_from image img (n + length xs) ys
 unfolding files_from
-from-append img n [] ys = let e : n ≡ n + 0 = omega arith in ap (λ (k : ℕ). files_from img k ys) e
-from-append img n (x ∷ xs) ys =
+from-append image img n [] ys = let e : n ≡ n + 0 = omega arith in ap (λ (k : ℕ). files_from image img k ys) e
+from-append image img n (x ∷ xs) ys =
     let e : n + 1 + length xs ≡ n + length (x ∷ xs) = omega arith in
-    ap (λ (l : List NewFile). files_of img n x ++ l) (from-append img (n + 1) xs ys)
-    ∙ sym (append_assoc (files_of img n x) (files_from img (n + 1) xs) (files_from img (n + 1 + length xs) ys))
-    ∙ ap (λ (k : ℕ). files_of img n x ++ files_from img (n + 1) xs ++ files_from img k ys) e
+    ap (λ (l : List NewFile). files_of image img n x ++ l) (from-append image img (n + 1) xs ys)
+    ∙ sym (append_assoc (files_of image img n x) (files_from image img (n + 1) xs) (files_from image img (n + 1 + length xs) ys))
+    ∙ ap (λ (k : ℕ). files_of image img n x ++ files_from image img (n + 1) xs ++ files_from image img k ys) e
 
 pub rows-append : (image : List ℕ) (img : Image) (all : List Place) (n : ℕ) (xs ys : List Rescued)
     → rows_from image img all n (xs ++ ys) ≡ rows_from image img all n xs ++ rows_from image img all (n + length xs) ys
@@ -88,46 +88,46 @@ rows-append image img all n (x ∷ xs) ys =
     (rows_from image img all (n + 1 + length xs) ys))
     ∙ ap (λ (k : ℕ). line_of image img all n x ++ rows_from image img all (n + 1) xs ++ rows_from image img all k ys) e
 
-pub fault-append : (img : Image) (all : List Place) (n : ℕ) (found : Option Fault) (xs ys : List Rescued)
-    → first_fault img all n found (xs ++ ys)
-    ≡ first_fault img all (n + length xs) (first_fault img all n found xs) ys
+pub fault-append : (image : List ℕ) (img : Image) (all : List Place) (n : ℕ) (found : Option Fault) (xs ys : List Rescued)
+    → first_fault image img all n found (xs ++ ys)
+    ≡ first_fault image img all (n + length xs) (first_fault image img all n found xs) ys
 unfolding first_fault
-fault-append img all n found [] ys = let e : n ≡ n + 0 = omega arith in ap (λ (k : ℕ). first_fault img all k found ys) e
-fault-append img all n found (x ∷ xs) ys =
+fault-append image img all n found [] ys = let e : n ≡ n + 0 = omega arith in ap (λ (k : ℕ). first_fault image img all k found ys) e
+fault-append image img all n found (x ∷ xs) ys =
     let e : n + 1 + length xs ≡ n + length (x ∷ xs) = omega arith in
-    let next : Option Fault = option_or found (fault_of (row_of img all n x)) in
-    fault-append img all (n + 1) next xs ys
-    ∙ ap (λ (k : ℕ). first_fault img all k (first_fault img all (n + 1) next xs) ys) e
+    let next : Option Fault = option_or found (fault_of (row_of image img all n x)) in
+    fault-append image img all (n + 1) next xs ys
+    ∙ ap (λ (k : ℕ). first_fault image img all k (first_fault image img all (n + 1) next xs) ys) e
 
 -- before the first
-pub no-files : (a : Option (List NewFile)) (img : Image) (fs : List Rescued) → AddsFiles a a (files_from img 1 (take 0 fs))
+pub no-files : (a : Option (List NewFile)) (image : List ℕ) (img : Image) (fs : List Rescued) → AddsFiles a a (files_from image img 1 (take 0 fs))
 unfolding files_from
-no-files a img fs = adds-none a
+no-files a image img fs = adds-none a
 
 pub no-rows : (image : List ℕ) (img : Image) (all : List Place) (old : List ℕ) (fs : List Rescued)
     → old ≡ old ++ rows_from image img all 1 (take 0 fs)
 unfolding rows_from
 no-rows image img all old fs = sym (append-nil old)
 
-pub no-fault : (img : Image) (all : List Place) (old : Option Fault) (fs : List Rescued)
-    → old ≡ first_fault img all 1 old (take 0 fs)
+pub no-fault : (image : List ℕ) (img : Image) (all : List Place) (old : Option Fault) (fs : List Rescued)
+    → old ≡ first_fault image img all 1 old (take 0 fs)
 unfolding first_fault
-no-fault img all old fs = refl
+no-fault image img all old fs = refl
 
 -- one file
-from-one : (img : Image) (n : ℕ) (f : Rescued) → files_from img n (f ∷ []) ≡ files_of img n f
+from-one : (image : List ℕ) (img : Image) (n : ℕ) (f : Rescued) → files_from image img n (f ∷ []) ≡ files_of image img n f
 unfolding files_from
-from-one img n f = append-nil (files_of img n f)
+from-one image img n f = append-nil (files_of image img n f)
 
 rows-one : (image : List ℕ) (img : Image) (all : List Place) (n : ℕ) (f : Rescued)
     → rows_from image img all n (f ∷ []) ≡ line_of image img all n f
 unfolding rows_from
 rows-one image img all n f = append-nil (line_of image img all n f)
 
-fault-one : (img : Image) (all : List Place) (n : ℕ) (found : Option Fault) (f : Rescued)
-    → first_fault img all n found (f ∷ []) ≡ option_or found (fault_of (row_of img all n f))
+fault-one : (image : List ℕ) (img : Image) (all : List Place) (n : ℕ) (found : Option Fault) (f : Rescued)
+    → first_fault image img all n found (f ∷ []) ≡ option_or found (fault_of (row_of image img all n f))
 unfolding first_fault
-fault-one img all n found f = refl
+fault-one image img all n found f = refl
 
 taken : (k : ℕ) (fs : List Rescued) (f : Rescued) → k < length fs → get_or fs k f ≡ f
     → take (k + 1) fs ≡ take k fs ++ f ∷ []
@@ -137,15 +137,15 @@ numbered : (k n : ℕ) (fs : List Rescued) → k < length fs → n ≡ k + 1 →
 numbered k n fs inside is = omega (arith, is, length-take-le k fs (omega (arith, inside)))
 
 -- the files of one entry more
-pub made-more : (a b c : Option (List NewFile)) (img : Image) (k n : ℕ) (fs : List Rescued) (f : Rescued) → k < length fs
-    → get_or fs k f ≡ f → n ≡ k + 1 → AddsFiles a b (files_from img 1 (take k fs)) → AddsFiles b c (files_of img n f)
-    → AddsFiles a c (files_from img 1 (take (k + 1) fs))
-made-more a b c img k n fs f inside is number before more =
+pub made-more : (a b c : Option (List NewFile)) (image : List ℕ) (img : Image) (k n : ℕ) (fs : List Rescued) (f : Rescued) → k < length fs
+    → get_or fs k f ≡ f → n ≡ k + 1 → AddsFiles a b (files_from image img 1 (take k fs)) → AddsFiles b c (files_of image img n f)
+    → AddsFiles a c (files_from image img 1 (take (k + 1) fs))
+made-more a b c image img k n fs f inside is number before more =
     subst (AddsFiles a c)
-    (sym (ap (files_from img 1) (taken k fs f inside is) ∙ from-append img 1 (take k fs) (f ∷ [])
-    ∙ ap (λ (m : ℕ). files_from img 1 (take k fs) ++ files_from img m (f ∷ [])) (numbered k n fs inside number)
-    ∙ ap (λ (l : List NewFile). files_from img 1 (take k fs) ++ l) (from-one img n f)))
-    (adds-both a b c (files_from img 1 (take k fs)) (files_of img n f) before more)
+    (sym (ap (files_from image img 1) (taken k fs f inside is) ∙ from-append image img 1 (take k fs) (f ∷ [])
+    ∙ ap (λ (m : ℕ). files_from image img 1 (take k fs) ++ files_from image img m (f ∷ [])) (numbered k n fs inside number)
+    ∙ ap (λ (l : List NewFile). files_from image img 1 (take k fs) ++ l) (from-one image img n f)))
+    (adds-both a b c (files_from image img 1 (take k fs)) (files_of image img n f) before more)
 
 pub rows-more : (image : List ℕ) (img : Image) (all : List Place) (k n : ℕ) (fs : List Rescued) (f : Rescued) (old now new : List ℕ)
     → k < length fs → get_or fs k f ≡ f → n ≡ k + 1 → now ≡ old ++ rows_from image img all 1 (take k fs)
@@ -158,31 +158,31 @@ rows-more image img all k n fs f old now new inside is number before more =
     ∙ ap (λ (m : ℕ). rows_from image img all 1 (take k fs) ++ rows_from image img all m (f ∷ [])) (numbered k n fs inside number)
     ∙ ap (λ (l : List ℕ). rows_from image img all 1 (take k fs) ++ l) (rows-one image img all n f)))
 
-pub fault-more : (img : Image) (all : List Place) (k n : ℕ) (fs : List Rescued) (f : Rescued) (old now : Option Fault)
-    → k < length fs → get_or fs k f ≡ f → n ≡ k + 1 → now ≡ first_fault img all 1 old (take k fs)
-    → option_or now (fault_of (row_of img all n f)) ≡ first_fault img all 1 old (take (k + 1) fs)
-fault-more img all k n fs f old now inside is number before =
-    let own : Option Fault = fault_of (row_of img all n f) in
+pub fault-more : (image : List ℕ) (img : Image) (all : List Place) (k n : ℕ) (fs : List Rescued) (f : Rescued) (old now : Option Fault)
+    → k < length fs → get_or fs k f ≡ f → n ≡ k + 1 → now ≡ first_fault image img all 1 old (take k fs)
+    → option_or now (fault_of (row_of image img all n f)) ≡ first_fault image img all 1 old (take (k + 1) fs)
+fault-more image img all k n fs f old now inside is number before =
+    let own : Option Fault = fault_of (row_of image img all n f) in
     ap (λ (o : Option Fault). option_or o own) before
-    ∙ sym (ap (first_fault img all 1 old) (taken k fs f inside is) ∙ fault-append img all 1 old (take k fs) (f ∷ [])
-    ∙ ap (λ (m : ℕ). first_fault img all m (first_fault img all 1 old (take k fs)) (f ∷ []))
-    (numbered k n fs inside number) ∙ fault-one img all n (first_fault img all 1 old (take k fs)) f)
+    ∙ sym (ap (first_fault image img all 1 old) (taken k fs f inside is) ∙ fault-append image img all 1 old (take k fs) (f ∷ [])
+    ∙ ap (λ (m : ℕ). first_fault image img all m (first_fault image img all 1 old (take k fs)) (f ∷ []))
+    (numbered k n fs inside number) ∙ fault-one image img all n (first_fault image img all 1 old (take k fs)) f)
 
 -- a part of the files of the next entry
-pub made-part : (a b c : Option (List NewFile)) (img : Image) (k n : ℕ) (fs : List Rescued) (f : Rescued) → k < length fs
-    → get_or fs k f ≡ f → n ≡ k + 1 → AddsFiles a b (files_from img 1 (take k fs)) → AddsPart b c (files_of img n f)
-    → AddsPart a c (files_from img 1 fs)
-made-part a b c img k n fs f inside is number before part =
-    let front : List NewFile = files_from img 1 (take k fs) in
-    let both : AddsPart a c (front ++ files_of img n f) = part-then a b c front (files_of img n f) before part in
-    let all : front ++ files_of img n f ≡ files_from img 1 (take (k + 1) fs) =
-    sym (ap (files_from img 1) (taken k fs f inside is) ∙ from-append img 1 (take k fs) (f ∷ [])
-    ∙ ap (λ (m : ℕ). front ++ files_from img m (f ∷ [])) (numbered k n fs inside number)
-    ∙ ap (λ (l : List NewFile). front ++ l) (from-one img n f)) in
+pub made-part : (a b c : Option (List NewFile)) (image : List ℕ) (img : Image) (k n : ℕ) (fs : List Rescued) (f : Rescued) → k < length fs
+    → get_or fs k f ≡ f → n ≡ k + 1 → AddsFiles a b (files_from image img 1 (take k fs)) → AddsPart b c (files_of image img n f)
+    → AddsPart a c (files_from image img 1 fs)
+made-part a b c image img k n fs f inside is number before part =
+    let front : List NewFile = files_from image img 1 (take k fs) in
+    let both : AddsPart a c (front ++ files_of image img n f) = part-then a b c front (files_of image img n f) before part in
+    let all : front ++ files_of image img n f ≡ files_from image img 1 (take (k + 1) fs) =
+    sym (ap (files_from image img 1) (taken k fs f inside is) ∙ from-append image img 1 (take k fs) (f ∷ [])
+    ∙ ap (λ (m : ℕ). front ++ files_from image img m (f ∷ [])) (numbered k n fs inside number)
+    ∙ ap (λ (l : List NewFile). front ++ l) (from-one image img n f)) in
     subst (AddsPart a c)
-    (sym (from-append img 1 (take (k + 1) fs) (drop (k + 1) fs))
-    ∙ ap (files_from img 1) (take-append-drop (k + 1) fs))
-    (part-before a c (files_from img 1 (take (k + 1) fs)) _ (subst (AddsPart a c) all both))
+    (sym (from-append image img 1 (take (k + 1) fs) (drop (k + 1) fs))
+    ∙ ap (files_from image img 1) (take-append-drop (k + 1) fs))
+    (part-before a c (files_from image img 1 (take (k + 1) fs)) _ (subst (AddsPart a c) all both))
 
 -- the index, as it was put together
 index-is : (image : List ℕ) (img : Image) (directory : List Place) (files : List Rescued) (none first now slice : List ℕ) → none ≡ []
@@ -197,19 +197,19 @@ index-is image img directory files none first now slice empty head rows same =
 pub all-made : (a b c : Option (List NewFile)) (image : List ℕ) (img : Image) (directory : List Place) (files : List Rescued)
     (none first now slice : List ℕ) → none ≡ [] → first ≡ none ++ heading
     → now ≡ first ++ rows_from image img (owned directory files) 1 files → slice ≡ now
-    → AddsFiles a b (files_from img 1 files) → AddsFiles b c (new_file (codes "index.csv") slice ∷ [])
+    → AddsFiles a b (files_from image img 1 files) → AddsFiles b c (new_file (codes "index.csv") slice ∷ [])
     → AddsFiles a c (all_files image img directory files)
 all-made a b c image img directory files none first now slice empty head rows same made last =
-    adds-both a b c (files_from img 1 files) (index_of_files image img directory files ∷ []) made
+    adds-both a b c (files_from image img 1 files) (index_of_files image img directory files ∷ []) made
     (subst (λ (f : NewFile). AddsFiles b c (f ∷ []))
     (index-is image img directory files none first now slice empty head rows same) last)
 
 pub all-part : (a b c : Option (List NewFile)) (image : List ℕ) (img : Image) (directory : List Place) (files : List Rescued)
     (none first now slice : List ℕ) → none ≡ [] → first ≡ none ++ heading
     → now ≡ first ++ rows_from image img (owned directory files) 1 files → slice ≡ now
-    → AddsFiles a b (files_from img 1 files) → AddsPart b c (new_file (codes "index.csv") slice ∷ [])
+    → AddsFiles a b (files_from image img 1 files) → AddsPart b c (new_file (codes "index.csv") slice ∷ [])
     → AddsPart a c (all_files image img directory files)
 all-part a b c image img directory files none first now slice empty head rows same made last =
-    part-then a b c (files_from img 1 files) (index_of_files image img directory files ∷ []) made
+    part-then a b c (files_from image img 1 files) (index_of_files image img directory files ∷ []) made
     (subst (λ (f : NewFile). AddsPart b c (f ∷ []))
     (index-is image img directory files none first now slice empty head rows same) last)

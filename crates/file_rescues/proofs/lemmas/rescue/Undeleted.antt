@@ -86,11 +86,11 @@ unshared-both o None f g rest = refl
 unshared-both o (Some p) f g rest = refl
 
 -- one deleted entry more
-pub undeleted-more : (img : Image) (directory : List Place) (files : List Rescued) (ss : List Slot) (s : Slot)
-    (f : Rescued) (found : List Rescued) → AreUndeleted img directory files ss found → f.slot ≡ s → IsRescued img f
-    → AreUndeleted img directory files (ss ++ s ∷ [])
+pub undeleted-more : (image : List ℕ) (img : Image) (directory : List Place) (files : List Rescued) (ss : List Slot) (s : Slot)
+    (f : Rescued) (found : List Rescued) → AreUndeleted image img directory files ss found → f.slot ≡ s → IsRescued image img f
+    → AreUndeleted image img directory files (ss ++ s ∷ [])
     (found ++ with_unshared (first_shared (owned directory (files ++ f ∷ [])) f.blocks.items) f [])
-undeleted-more img directory files [] s f found are slot rescued = (
+undeleted-more image img directory files [] s f found are slot rescued = (
   f,
   [],
   slot,
@@ -98,14 +98,14 @@ undeleted-more img directory files [] s f found are slot rescued = (
   refl,
   ap (λ (xs : List Rescued). xs ++ with_unshared (first_shared (owned directory (files ++ f ∷ [])) f.blocks.items) f []) are,
 )
-undeleted-more img directory files (t ∷ ss) s f found (g, rest, same, reached, are, is) slot rescued =
+undeleted-more image img directory files (t ∷ ss) s f found (g, rest, same, reached, are, is) slot rescued =
     let o : Option Place = first_shared (owned directory (files ++ f ∷ [])) f.blocks.items in
     let q : Option Place = first_shared (owned directory (files ++ g ∷ [])) g.blocks.items in (
       g,
       rest ++ with_unshared o f [],
       same,
       reached,
-      undeleted-more img directory files ss s f rest are slot rescued,
+      undeleted-more image img directory files ss s f rest are slot rescued,
       ap (λ (xs : List Rescued). xs ++ with_unshared o f []) is ∙ unshared-both o q f g rest,
     )
 
@@ -114,13 +114,13 @@ one-more : (o : Option Place) (f : Rescued) (xs : List Rescued) → length (with
 one-more None f xs = omega arith
 one-more (Some p) f xs = omega arith
 
-pub undeleted-few : (img : Image) (directory : List Place) (files : List Rescued) (ss : List Slot) (found : List Rescued)
-    → AreUndeleted img directory files ss found → length found ≤ length ss
-undeleted-few img directory files [] found are = omega (arith, ap (λ (xs : List Rescued). length xs) are)
-undeleted-few img directory files (s ∷ ss) found (f, rest, same, reached, are, is) =
+pub undeleted-few : (image : List ℕ) (img : Image) (directory : List Place) (files : List Rescued) (ss : List Slot) (found : List Rescued)
+    → AreUndeleted image img directory files ss found → length found ≤ length ss
+undeleted-few image img directory files [] found are = omega (arith, ap (λ (xs : List Rescued). length xs) are)
+undeleted-few image img directory files (s ∷ ss) found (f, rest, same, reached, are, is) =
     omega (
       arith,
-      undeleted-few img directory files ss rest are,
+      undeleted-few image img directory files ss rest are,
       one-more (first_shared (owned directory (files ++ f ∷ [])) f.blocks.items) f rest,
       ap (λ (xs : List Rescued). length xs) is,
     )
@@ -185,15 +185,15 @@ front-same old found shown now n long are is =
     ap (λ (k : ℕ). take k shown) long ∙ ap (take (length old)) (are ∙ is) ∙ take-append_seam old found
 
 -- a directory has few entries, with the deleted ones
-pub few-all : (img : Image) (ps : List Place) (entries : List Slot) (used found all : List Rescued) → length ps ≤ 18
+pub few-all : (image : List ℕ) (img : Image) (ps : List Place) (entries : List Slot) (used found all : List Rescued) → length ps ≤ 18
     → entries ≡ used_slots img ps → length used ≡ length entries
-    → AreUndeleted img ps used (deleted_slots img ps) found → all ≡ used ++ found → length all ≤ 144
-few-all img ps entries used found all few are same found-are is = omega (
+    → AreUndeleted image img ps used (deleted_slots img ps) found → all ≡ used ++ found → length all ≤ 144
+few-all image img ps entries used found all few are same found-are is = omega (
   arith,
   few-entries img ps few,
   ap (λ (ss : List Slot). length ss) are,
   same,
-  undeleted-few img ps used (deleted_slots img ps) found found-are,
+  undeleted-few image img ps used (deleted_slots img ps) found found-are,
   ap (λ (fs : List Rescued). length fs) is,
   length-append used found,
 )
@@ -209,25 +209,25 @@ all-unshared P None f fs here all = (here, all)
 all-unshared P (Some p) f fs here all = all
 
 -- each was reached
-undeleted-rescued : (img : Image) (directory : List Place) (files : List Rescued) (ss : List Slot) (found : List Rescued)
-    → AreUndeleted img directory files ss found → AllByRecursion (IsRescued img) found
-undeleted-rescued img directory files [] found are = subst (AllByRecursion (IsRescued img)) (sym are) tt
-undeleted-rescued img directory files (s ∷ ss) found (f, rest, same, reached, are, is) =
-    subst (AllByRecursion (IsRescued img)) (sym is)
-    (all-unshared (IsRescued img) (first_shared (owned directory (files ++ f ∷ [])) f.blocks.items) f rest reached
-    (undeleted-rescued img directory files ss rest are))
+undeleted-rescued : (image : List ℕ) (img : Image) (directory : List Place) (files : List Rescued) (ss : List Slot) (found : List Rescued)
+    → AreUndeleted image img directory files ss found → AllByRecursion (IsRescued image img) found
+undeleted-rescued image img directory files [] found are = subst (AllByRecursion (IsRescued image img)) (sym are) tt
+undeleted-rescued image img directory files (s ∷ ss) found (f, rest, same, reached, are, is) =
+    subst (AllByRecursion (IsRescued image img)) (sym is)
+    (all-unshared (IsRescued image img) (first_shared (owned directory (files ++ f ∷ [])) f.blocks.items) f rest reached
+    (undeleted-rescued image img directory files ss rest are))
 
-added-rescued : (b : Bool) (img : Image) (directory : List Place) (files found : List Rescued)
-    → AreAdded b img directory files found → AllByRecursion (IsRescued img) found
-added-rescued true img directory files found are =
-    undeleted-rescued img directory files (deleted_slots img directory) found are
-added-rescued false img directory files found are = subst (AllByRecursion (IsRescued img)) (sym are) tt
+added-rescued : (b : Bool) (image : List ℕ) (img : Image) (directory : List Place) (files found : List Rescued)
+    → AreAdded b image img directory files found → AllByRecursion (IsRescued image img) found
+added-rescued true image img directory files found are =
+    undeleted-rescued image img directory files (deleted_slots img directory) found are
+added-rescued false image img directory files found are = subst (AllByRecursion (IsRescued image img)) (sym are) tt
 
-pub chosen-rescued : (choice : Choice) (img : Image) (directory : List Place) (files shown : List Rescued)
-    → AreChosen choice img directory files → shown ≡ files → AllByRecursion (IsRescued img) shown
-chosen-rescued choice img directory files shown are is =
-    subst (AllByRecursion (IsRescued img)) (sym (is ∙ are.all)) (all-both (IsRescued img) are.used are.found
-    are.entries.reached (added-rescued choice.deleted img directory are.used are.found are.deleted))
+pub chosen-rescued : (choice : Choice) (image : List ℕ) (img : Image) (directory : List Place) (files shown : List Rescued)
+    → AreChosen choice image img directory files → shown ≡ files → AllByRecursion (IsRescued image img) shown
+chosen-rescued choice image img directory files shown are is =
+    subst (AllByRecursion (IsRescued image img)) (sym (is ∙ are.all)) (all-both (IsRescued image img) are.used are.found
+    are.entries.reached (added-rescued choice.deleted image img directory are.used are.found are.deleted))
 
 -- and few without them
 pub few-used : (img : Image) (ps : List Place) (entries : List Slot) (all used : List Rescued) → length ps ≤ 18

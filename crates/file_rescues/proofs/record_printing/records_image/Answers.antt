@@ -30,7 +30,7 @@ returns-in_err-print_reached-clause-err g c =
     rw (p.1 ∙ ap Err p.2) (put-failed g.W.Write.contents c.args.form c.args.image.now c.args.name.now c.args.out.now
     (disk_image c.in_ok-disk.disk) c.in_ok-disk.ensures.ok c.in_ok-disk.disk.whole c.unsoundness-first.result
     c.unsoundness-first.ensures.fault _ c.unsoundness-first.ensures.same c.print_reached.new.out c.in-Ok.file.number c.in-Ok.file.slot
-    _ c.in-Ok.file.last c.in-Ok.file.fault c.in-Ok.ensures.ok _ c.as_slice.ensures.value
+    _ c.in-Ok.file.last c.in-Ok.file.fault c.in-Ok.ensures.ok.0 _ c.as_slice.ensures.value
     c.in_err-print_reached.field-0.0 c.in_err-print_reached.ensures.err)
 
 pub returns-in_err-print_reached-clause-part : goal.returns-in_err-print_reached-clause-part
@@ -39,7 +39,7 @@ returns-in_err-print_reached-clause-part g c =
     rw (p.1 ∙ ap Err p.2) (printed-part g.W.Write.contents c.args.form c.args.image.now c.args.name.now c.args.out.now
     (disk_image c.in_ok-disk.disk) c.in_ok-disk.ensures.ok c.in_ok-disk.disk.whole c.unsoundness-first.result
     c.unsoundness-first.ensures.fault _ c.unsoundness-first.ensures.same c.print_reached.new.out c.in-Ok.file.number c.in-Ok.file.slot
-    _ c.in-Ok.file.last c.in-Ok.file.fault c.in-Ok.ensures.ok _ c.as_slice.ensures.value
+    _ c.in-Ok.file.last c.in-Ok.file.fault c.in-Ok.ensures.ok.0 _ c.as_slice.ensures.value
     c.in_err-print_reached.ensures.part)
 
 pub returns-in_err-flush-clause-err : goal.returns-in_err-flush-clause-err
@@ -48,7 +48,7 @@ returns-in_err-flush-clause-err g c =
     rw (p.1 ∙ ap Err p.2) (put-failed g.W.Write.contents c.args.form c.args.image.now c.args.name.now c.args.out.now
     (disk_image c.in_ok-disk.disk) c.in_ok-disk.ensures.ok c.in_ok-disk.disk.whole c.unsoundness-first.result
     c.unsoundness-first.ensures.fault _ c.unsoundness-first.ensures.same c.flush.new.out c.in-Ok.file.number c.in-Ok.file.slot
-    _ c.in-Ok.file.last c.in-Ok.file.fault c.in-Ok.ensures.ok _ c.as_slice.ensures.value
+    _ c.in-Ok.file.last c.in-Ok.file.fault c.in-Ok.ensures.ok.0 _ c.as_slice.ensures.value
     c.in_err-flush.field-0.0 (inl c.in_err-flush.ensures.err))
 
 pub returns-in_err-flush-clause-part : goal.returns-in_err-flush-clause-part
@@ -57,14 +57,14 @@ returns-in_err-flush-clause-part g c =
     rw (p.1 ∙ ap Err p.2) (printed-part g.W.Write.contents c.args.form c.args.image.now c.args.name.now c.args.out.now
     (disk_image c.in_ok-disk.disk) c.in_ok-disk.ensures.ok c.in_ok-disk.disk.whole c.unsoundness-first.result
     c.unsoundness-first.ensures.fault _ c.unsoundness-first.ensures.same c.flush.new.out c.in-Ok.file.number c.in-Ok.file.slot
-    _ c.in-Ok.file.last c.in-Ok.file.fault c.in-Ok.ensures.ok _ c.as_slice.ensures.value
+    _ c.in-Ok.file.last c.in-Ok.file.fault c.in-Ok.ensures.ok.0 _ c.as_slice.ensures.value
     (part-all _ _ _ (Appends-kept _ _ _ _ c.in_ok-print_reached.ensures.ok c.flush.ensures.kept)))
 
 pub returns-in-Some-clause-err : goal.returns-in-Some-clause-err
 returns-in-Some-clause-err g c = reached g.W.Write.contents c.args.form c.args.image.now c.args.name.now c.args.out.now
     (disk_image c.in_ok-disk.disk) c.in_ok-disk.ensures.ok c.in_ok-disk.disk.whole c.unsoundness-first.result
     c.unsoundness-first.ensures.fault _ c.unsoundness-first.ensures.same c.flush.new.out c.in-Ok.file.number c.in-Ok.file.slot
-    _ c.in-Ok.file.last c.in-Ok.file.fault c.in-Ok.ensures.ok _ c.as_slice.ensures.value
+    _ c.in-Ok.file.last c.in-Ok.file.fault c.in-Ok.ensures.ok.0 _ c.as_slice.ensures.value
     c.in-Some.fault c.unwrap_or.result c.in-Some.ensures.fault c.unwrap_or.ensures
     (Appends-kept _ _ _ _ c.in_ok-print_reached.ensures.ok c.flush.ensures.kept)
 
@@ -72,13 +72,13 @@ pub returns-in-Some-clause-part : goal.returns-in-Some-clause-part
 returns-in-Some-clause-part g c = printed-part g.W.Write.contents c.args.form c.args.image.now c.args.name.now c.args.out.now
     (disk_image c.in_ok-disk.disk) c.in_ok-disk.ensures.ok c.in_ok-disk.disk.whole c.unsoundness-first.result
     c.unsoundness-first.ensures.fault _ c.unsoundness-first.ensures.same c.flush.new.out c.in-Ok.file.number c.in-Ok.file.slot
-    _ c.in-Ok.file.last c.in-Ok.file.fault c.in-Ok.ensures.ok _ c.as_slice.ensures.value
+    _ c.in-Ok.file.last c.in-Ok.file.fault c.in-Ok.ensures.ok.0 _ c.as_slice.ensures.value
     (part-all _ _ _ (Appends-kept _ _ _ _ c.in_ok-print_reached.ensures.ok c.flush.ensures.kept))
 
 pub returns-clause-ok : goal.returns-clause-ok
 returns-clause-ok g c = taken g.W.Write.contents c.args.form c.args.image.now c.args.name.now c.args.out.now
     (disk_image c.in_ok-disk.disk) c.in_ok-disk.ensures.ok c.in_ok-disk.disk.whole c.unsoundness-first.result
     c.unsoundness-first.ensures.fault _ c.unsoundness-first.ensures.same c.flush.new.out c.in-Ok.file.number c.in-Ok.file.slot
-    _ c.in-Ok.file.last c.in-Ok.file.fault c.in-Ok.ensures.ok _ c.as_slice.ensures.value
+    _ c.in-Ok.file.last c.in-Ok.file.fault c.in-Ok.ensures.ok.0 _ c.as_slice.ensures.value
     c.sound_cut.result c.in-None.ensures.fault c.sound_cut.ensures.told
     (Appends-kept _ _ _ _ c.in_ok-print_reached.ensures.ok c.flush.ensures.kept)

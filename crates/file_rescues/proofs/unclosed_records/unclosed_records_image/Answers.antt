@@ -27,12 +27,12 @@ returns-in_err-print_reached g c =
           (AreUnclosedPrinted g.W.Write.contents c.args.form c.args.image.now c.args.name.now c.args.out.now
           c.print_reached.new.out) c.args.out.now c.print_reached.new.out c.in-Ok.file.fault
           (file-there c.args.image.now (Records All) c.args.name.now (disk_image c.in_ok-disk.disk) c.in-Ok.file.number c.in-Ok.file.slot
-          c.find_file.new.blocks.items c.in-Ok.file.last c.in-Ok.file.fault loaded.0 loaded.1 c.in-Ok.ensures.ok)
+          c.find_file.new.blocks.items c.in-Ok.file.last c.in-Ok.file.fault loaded.0 loaded.1 c.in-Ok.ensures.ok.0)
           _ c.in_err-print_reached.ensures.err);
       part = rw (p.1 ∙ ap Err p.2) (unclosed-part g.W.Write.contents c.args.form c.args.image.now c.args.name.now
           c.args.out.now c.print_reached.new.out c.in-Ok.file.fault (file-there c.args.image.now (Records All)
           c.args.name.now (disk_image c.in_ok-disk.disk) c.in-Ok.file.number c.in-Ok.file.slot
-          c.find_file.new.blocks.items c.in-Ok.file.last c.in-Ok.file.fault loaded.0 loaded.1 c.in-Ok.ensures.ok) _
+          c.find_file.new.blocks.items c.in-Ok.file.last c.in-Ok.file.fault loaded.0 loaded.1 c.in-Ok.ensures.ok.0) _
           loaded.1 _ c.as_slice.ensures.value c.in_err-print_reached.ensures.part);
     }
 
@@ -45,12 +45,12 @@ returns-in_err-flush g c =
       err = rw (p.1 ∙ ap Err (p.2 ∙ c.in_err-flush.ensures.err)) (
         c.in-Ok.file.fault,
         file-there c.args.image.now (Records All) c.args.name.now (disk_image c.in_ok-disk.disk) c.in-Ok.file.number c.in-Ok.file.slot
-            c.find_file.new.blocks.items c.in-Ok.file.last c.in-Ok.file.fault loaded.0 loaded.1 c.in-Ok.ensures.ok,
+            c.find_file.new.blocks.items c.in-Ok.file.last c.in-Ok.file.fault loaded.0 loaded.1 c.in-Ok.ensures.ok.0,
       );
       part = rw (p.1 ∙ ap Err p.2) (unclosed-part g.W.Write.contents c.args.form c.args.image.now c.args.name.now
           c.args.out.now c.flush.new.out c.in-Ok.file.fault (file-there c.args.image.now (Records All)
           c.args.name.now (disk_image c.in_ok-disk.disk) c.in-Ok.file.number c.in-Ok.file.slot
-          c.find_file.new.blocks.items c.in-Ok.file.last c.in-Ok.file.fault loaded.0 loaded.1 c.in-Ok.ensures.ok) _
+          c.find_file.new.blocks.items c.in-Ok.file.last c.in-Ok.file.fault loaded.0 loaded.1 c.in-Ok.ensures.ok.0) _
           loaded.1 _ c.as_slice.ensures.value
           (part-all _ _ _ (Appends-kept _ _ _ _ c.in_ok-print_reached.ensures.ok c.flush.ensures.kept)));
     }
@@ -63,7 +63,7 @@ returns g c =
     let size = record_length c.in-Ok.file.slot in
     let printed = Appends-kept _ _ _ _ c.in_ok-print_reached.ensures.ok c.flush.ensures.kept in
     let file = file-there c.args.image.now (Records All) c.args.name.now (disk_image c.in_ok-disk.disk) c.in-Ok.file.number c.in-Ok.file.slot
-    c.find_file.new.blocks.items c.in-Ok.file.last c.in-Ok.file.fault loaded.0 loaded.1 c.in-Ok.ensures.ok in
+    c.find_file.new.blocks.items c.in-Ok.file.last c.in-Ok.file.fault loaded.0 loaded.1 c.in-Ok.ensures.ok.0 in
     let both = printed-end c.args.image.now (Records All) c.args.name.now
     (AreUnclosedPrinted g.W.Write.contents c.args.form c.args.image.now c.args.name.now c.args.out.now c.flush.new.out)
     c.args.out.now c.flush.new.out (λ f t. t.file.number) _

@@ -11,7 +11,7 @@ pub returns-in-Ok-None-clause-ok : goal.returns-in-Ok-None-clause-ok
 returns-in-Ok-None-clause-ok c =
     let loaded = c.in_ok-disk.ensures.ok in
     let file = file-there c.args.image.now (Any Closed) c.args.name.now (disk_image c.in_ok-disk.disk) c.in-Ok.file.number
-    c.in-Ok.file.slot c.find_file.new.blocks.items c.in-Ok.file.last c.in-Ok.file.fault loaded.0 loaded.1 c.in-Ok.ensures.ok in
+    c.in-Ok.file.slot c.find_file.new.blocks.items c.in-Ok.file.last c.in-Ok.file.fault loaded.0 loaded.1 c.in-Ok.ensures.ok.0 in
     whole c.args.image.now c.args.name.now (disk_image c.in_ok-disk.disk) loaded.1 c.in-Ok.file.fault file c.in-Ok.file.slot refl
     c.as_slice.result.now c.as_slice.ensures.value c.in_ok-bytes.bytes.items c.in_ok-bytes.ensures.ok c.in-Ok-None.field-0
     c.in-Ok-None.ensures c.in-Ok-None.field-0-is
@@ -20,7 +20,7 @@ pub returns-in-Ok-Some-clause-err : goal.returns-in-Ok-Some-clause-err
 returns-in-Ok-Some-clause-err c =
     let loaded = c.in_ok-disk.ensures.ok in
     let file = file-there c.args.image.now (Any Closed) c.args.name.now (disk_image c.in_ok-disk.disk) c.in-Ok.file.number
-    c.in-Ok.file.slot c.find_file.new.blocks.items c.in-Ok.file.last c.in-Ok.file.fault loaded.0 loaded.1 c.in-Ok.ensures.ok in
+    c.in-Ok.file.slot c.find_file.new.blocks.items c.in-Ok.file.last c.in-Ok.file.fault loaded.0 loaded.1 c.in-Ok.ensures.ok.0 in
     cut-short c.args.image.now c.args.name.now (disk_image c.in_ok-disk.disk) loaded.1 c.in-Ok.file.fault file
     c.in-Ok-Some.field-0 c.in-Ok-Some.place c.in-Ok-Some.ensures c.in-Ok-Some.field-0-is
 
@@ -28,6 +28,6 @@ pub returns-clause-err : goal.returns-clause-err
 returns-clause-err c =
     let loaded = c.in_ok-disk.ensures.ok in
     let file = file-there c.args.image.now (Any Closed) c.args.name.now (disk_image c.in_ok-disk.disk) c.in-Ok.file.number
-    c.in-Ok.file.slot c.find_file.new.blocks.items c.in-Ok.file.last c.in-Ok.file.fault loaded.0 loaded.1 c.in-Ok.ensures.ok in
+    c.in-Ok.file.slot c.find_file.new.blocks.items c.in-Ok.file.last c.in-Ok.file.fault loaded.0 loaded.1 c.in-Ok.ensures.ok.0 in
     faulty c.args.image.now c.args.name.now (disk_image c.in_ok-disk.disk) loaded.1 c.in-Ok.file.fault file
     c.in-Err-ended.fault c.in-Err-ended.ensures

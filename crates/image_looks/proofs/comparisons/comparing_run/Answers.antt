@@ -1,12 +1,14 @@
--- How the comparison ended is how its command did.
-use Rattle.disk_pictures.specs.ComparedOutcomes.{IsComparisonFault, IsComparisonPrinted}
-use Rattle.image_looks.proofs.Looked.{printed}
+-- What isn't on the disks is known, or that is why nothing was printed.
+use Rattle.std.proofs.Common.{Err, ap, inr, refl, subst, sym, ◌∙◌}
+use Rattle.std.proofs.lemmas.Result.{err_from_is_err_and}
+use Rattle.image_looks.specs.Comparisons.{AreBothMissing}
 use Rattle.image_looks.proofs.comparisons.comparing_run.Goals as goal
 
-pub returns : goal.returns
-returns g c =
-    let done = c.compare_images in
-    printed c.args.out.now done.new.out
-    (IsComparisonPrinted g.W.Write.contents c.args.before_path.now c.args.before.now c.args.after_path.now c.args.after.now)
-    (IsComparisonFault c.args.before.now c.args.after.now) done.result done.ensures.ok
-    done.ensures.err done.ensures.untouched
+pub returns-in_err-lines : goal.returns-in_err-lines
+returns-in_err-lines g c =
+    let p = err_from_is_err_and c.from_residual.result c.from_residual.ensures.1 in
+    inr (c.in_err-lines.field-0.0, p.1 ∙ ap Err p.2, c.in_err-lines.ensures.err, λ _. refl)
+
+pub compare_with-requires : goal.compare_with-requires
+compare_with-requires g c =
+    subst (AreBothMissing c.args.before.now c.args.after.now) (sym c.as_slice.ensures.value) c.in_ok-lines.ensures.ok

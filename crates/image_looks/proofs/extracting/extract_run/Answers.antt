@@ -20,10 +20,10 @@ unseen image faults.ImageSize none = inr (refl, none)
 unseen image faults.NoMemory size = inl refl
 unseen image _ none = absurd none
 
-pub returns-in_err-missing : goal.returns-in_err-missing
-returns-in_err-missing g c =
+pub returns-in_err-errors : goal.returns-in_err-errors
+returns-in_err-errors g c =
     let p = err_from_is_err_and c.from_residual.result c.from_residual.ensures.1 in
-    inl (c.in_err-missing.field-0.0, unseen c.args.image.now _ c.in_err-missing.ensures.err, p.1 ∙ ap Err p.2, refl)
+    inl (c.in_err-errors.field-0.0, unseen c.args.image.now _ c.in_err-errors.ensures.err, p.1 ∙ ap Err p.2, refl)
 
 pub returns-in_err-lack : goal.returns-in_err-lack
 returns-in_err-lack g c =
@@ -39,16 +39,16 @@ pub returns-in-Ok : goal.returns-in-Ok
 returns-in-Ok g c = inr (
   c.extract_image-ended.result,
   c.in_ok-lack.lack,
-  c.in_ok-missing.missing.items,
+  c.in_ok-errors.errors.items,
   c.extract_image-ended.new.folder.files.files.items,
   gathered (λ it. files_in it.files) c.args.choice c.args.image.now c.new-gathered.result c.extract_image-ended.new.folder
       c.extract_image-ended.result (ap (map file_in) c.new-gathered.ensures)
       (either _ _ c.extract_image-ended.result c.extract_image-ended.ensures.ok c.extract_image-ended.ensures.err),
   subst (λ (disk : List ℕ). IsSeen disk c.in_ok-lack.lack) c.disk_in.ensures c.in_ok-lack.ensures.ok,
-  c.in_ok-missing.ensures.ok,
+  c.in_ok-errors.ensures.ok,
   inl (
     subst (λ (text : List ℕ). IsExtractTold g.W.Write.contents (refusal_of c.extract_image-ended.result c.in_ok-lack.lack) text
-        c.in_ok-missing.missing.items c.args.out.now c.tell_extracted.new.out c.tell_extracted.result)
+        c.in_ok-errors.errors.items c.args.out.now c.tell_extracted.new.out c.tell_extracted.result)
         (c.as_slice-in-Ok.ensures.value ∙ c.in_ok-text.ensures.ok
         ∙ ap (λ (m : List ℕ). extracted_text c.in_ok-lack.lack ++ m) c.as_slice.ensures.value)
         (subst (λ (m : List ℕ). IsExtractTold g.W.Write.contents (refusal_of c.extract_image-ended.result c.in_ok-lack.lack)
@@ -65,12 +65,12 @@ pub returns : goal.returns
 returns g c = inr (
   c.extract_image-ended.result,
   c.in_ok-lack.lack,
-  c.in_ok-missing.missing.items,
+  c.in_ok-errors.errors.items,
   c.extract_image-ended.new.folder.files.files.items,
   gathered (λ it. files_in it.files) c.args.choice c.args.image.now c.new-gathered.result c.extract_image-ended.new.folder
       c.extract_image-ended.result (ap (map file_in) c.new-gathered.ensures)
       (either _ _ c.extract_image-ended.result c.extract_image-ended.ensures.ok c.extract_image-ended.ensures.err),
   subst (λ (disk : List ℕ). IsSeen disk c.in_ok-lack.lack) c.disk_in.ensures c.in_ok-lack.ensures.ok,
-  c.in_ok-missing.ensures.ok,
+  c.in_ok-errors.ensures.ok,
   inr (c.in-Err.ensures.err.0, c.in-Err.ensures.err.1, c.in-Err.fault, refl, c.in-Err.ensures.err.2, refl),
 )

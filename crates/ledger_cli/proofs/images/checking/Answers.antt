@@ -1,14 +1,15 @@
--- Images are viewed, or those of the words are described.
-use Rattle.std.proofs.Common.{◌≡◌, ◌∙◌, Bor, List, Option, Result, Some, [], ap, inl, inr, subst, sym}
-use Rattle.disk_reports.specs.declared.describing.DescriptionForm.{DescriptionForm}
+-- Images are viewed, or an object or a row of each of those of the words is printed.
+use Rattle.std.proofs.Common.{◌≡◌, ◌∙◌, Bool, Bor, List, Option, Result, Some, [], ap, inl, inr, subst, sym, true}
 use Rattle.std.specs.Prelude.{codes, map, option_map, unwrap_or}
 use Rattle.clap.specs.Words.{Row, Text, all_of, found_of, rows_of}
 use Rattle.command_table.specs.Grammar.{values}
-use Rattle.ledger_cli.specs.Images.{AreDescribed, IsCheckJob, IsDescribing, IsLookJob}
-use Rattle.ledger_cli.specs.Looks.{description_in}
-use Rattle.ledger_jobs.specs.declared.jobs.Job.{Job}
 use Rattle.image_looks.specs.declared.descriptions.ImageForm.TheVariants as forms
 use Rattle.image_looks.specs.declared.kinds.Look.{Look}
+use Rattle.image_looks.specs.declared.objects.ImageObject.TheVariants as objects
+use Rattle.ledger_cli.specs.Flags.{is_given}
+use Rattle.ledger_cli.specs.Images.{AreShown, AreTabled, IsCheckJob, IsDescribing, IsLookJob, check_object_in}
+use Rattle.ledger_cli.specs.Looks.{IsPlain}
+use Rattle.ledger_jobs.specs.declared.jobs.Job.{Job}
 use Rattle.ledger_cli.specs.declared.faults.JobFault.{JobFault}
 use Rattle.ledger_cli.proofs.images.checking.Goals as goal
 
@@ -20,23 +21,39 @@ given-values o given rows is told =
     (option_map (λ (s : Bor (List (Bor Text))). map (λ (v : Bor Text). v.now) s.now) t) []) (sym is)
     ∙ ap (λ (r : Option (List Text)). unwrap_or r []) told
 
-described-met : (rows : List Row) (form : DescriptionForm) (images : List (Bor Text)) (r : Result Job JobFault)
-    → description_in rows ≡ Some form
-    → map (λ (v : Bor Text). v.now) images ≡ values (codes "IMAGE") rows → IsDescribing (forms.Described form) images r → IsCheckJob rows r
-described-met rows form images r given told (inl (all, same, items)) =
-    inr (inl (form, all, same, subst (AreDescribed rows form) (sym items) (given, told)))
-described-met rows form images r given told (inr none) = inr (inr none)
+shown-met : (rows : List Row) (images : List (Bor Text)) (r : Result Job JobFault) → is_given (codes "json") rows ≡ true
+    → map (λ (v : Bor Text). v.now) images ≡ values (codes "IMAGE") rows → IsDescribing (forms.Shown (check_object_in rows)) images r
+    → IsCheckJob rows r
+shown-met rows images r given told (inl (all, same, items)) =
+    inr (inl (all, same, subst (AreShown rows) (sym items) (given, told)))
+shown-met rows images r given told (inr none) = inr (inr (inr none))
 
-pub returns-in_default : goal.returns-in_default
-returns-in_default c = inl (
-  sym c.in_default.ensures,
+tabled-met : (rows : List Row) (images : List (Bor Text)) (r : Result Job JobFault) → IsPlain rows → is_given (codes "csv") rows ≡ true
+    → map (λ (v : Bor Text). v.now) images ≡ values (codes "IMAGE") rows → IsDescribing forms.Table images r
+    → IsCheckJob rows r
+tabled-met rows images r plain given told (inl (all, same, items)) =
+    inr (inr (inl (all, same, subst (AreTabled rows) (sym items) (plain, given, told))))
+tabled-met rows images r plain given told (inr none) = inr (inr (inr none))
+
+pub returns-then-is_given : goal.returns-then-is_given
+returns-then-is_given c =
+    let rows = rows_of (found_of c.args.matches.now) in
+    shown-met rows c.in-Some.images.now c.described.result (sym c.is_given.ensures ∙ c.if-is_given.true)
+    (given-values c.values_of.result c.in-Some.images (all_of (codes "IMAGE") rows) c.in-Some.is c.values_of.ensures)
+    (subst (λ (whole : Bool). IsDescribing (forms.Shown (objects.Check whole)) c.in-Some.images.now c.described.result)
+    c.is_given-as_is.ensures c.described.ensures)
+
+pub returns-then-is_given-2 : goal.returns-then-is_given-2
+returns-then-is_given-2 c =
+    let rows = rows_of (found_of c.args.matches.now) in
+    tabled-met rows c.in-Some.images.now c.described-then-is_given-2.result (sym c.is_given.ensures ∙ c.if-is_given.false)
+    (sym c.is_given-2.ensures ∙ c.if-is_given-2.true)
+    (given-values c.values_of.result c.in-Some.images (all_of (codes "IMAGE") rows) c.in-Some.is c.values_of.ensures)
+    c.described-then-is_given-2.ensures
+
+pub returns : goal.returns
+returns c = inl (
+  (sym c.is_given.ensures ∙ c.if-is_given.false, sym c.is_given-2.ensures ∙ c.if-is_given-2.false),
   subst (λ (what : Look). IsLookJob (rows_of (found_of c.args.matches.now)) what c.viewing.result) c.checked.ensures
       c.viewing.ensures,
 )
-
-pub returns : goal.returns
-returns c =
-    let rows = rows_of (found_of c.args.matches.now) in
-    described-met rows c.in-Some.form c.in-Some-values_of.images.now c.described.result (sym c.in-Some.ensures)
-    (given-values c.values_of.result c.in-Some-values_of.images (all_of (codes "IMAGE") rows) c.in-Some-values_of.is
-    c.values_of.ensures) c.described.ensures

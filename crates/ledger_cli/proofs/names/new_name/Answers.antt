@@ -3,7 +3,7 @@ use Rattle.std.proofs.Common.{◌≡◌, ◌∙◌, subst, sym}
 use Rattle.std.proofs.lemmas.Bool.{false≢true}
 use Rattle.line_text.proofs.lemmas.bytes.Texts.{one-text}
 use Rattle.file_changes.specs.NewNames.{IsNewName}
-use Rattle.opened_files.specs.Names.{name_bytes}
+use Rattle.file_changes.specs.Names.{name_bytes}
 use Rattle.ledger_cli.proofs.names.new_name.Goals as goal
 
 pub returns-then-not-is_new-clause-none : goal.returns-then-not-is_new-clause-none

@@ -3,7 +3,7 @@ use Rattle.std.proofs.Common.{ap, inl, inr, refl, subst, sym, ◌∙◌}
 use Rattle.std.specs.Prelude.{codes}
 use Rattle.clap.specs.Words.{found_of, rows_of, subcommand_rows_of}
 use Rattle.line_text.specs.Numbers.{number_in}
-use Rattle.image_edits.specs.declared.edit.Edit.TheVariants as edits
+use Rattle.disk_changes.specs.declared.changes.ChangeKind.TheVariants as kinds
 use Rattle.disk_changes.specs.declared.changes.Lock.TheVariants.{Cleared, Set}
 use Rattle.ledger_jobs.specs.declared.jobs.Job.TheVariants as jobs
 use Rattle.file_rescues.specs.declared.forms.FileForm.TheVariants as files
@@ -205,8 +205,8 @@ pub returns-in-delete : goal.returns-in-delete
 returns-in-delete c =
     let rows = rows_of (found_of c.in-Some.found.now) in
     let is = met-is c.parsed_subcommand.result _ c.in-Some.name c.in-Some.found _ c.parsed_subcommand.ensures c.in-Some.is c.in-delete.is in
-    let met = named-met _ rows (λ name. jobs.Change c.value_of-image.result (effect_in rows) (edits.Delete (loss_in rows) name)) c.deleting.result
-    (λ name at. record { rows = rows; is = is; holds = (c.value_of-image.ensures, (at, refl), refl) }) (λ name. tt)
+    let met = named-met _ rows (λ name. jobs.Change c.value_of-image.result (effect_in rows) (loss_in rows) (kinds.Delete name)) c.deleting.result
+    (λ name at. record { rows = rows; is = is; holds = (c.value_of-image.ensures, at, refl, refl) }) (λ name. tt)
     (λ missing. inr (inr (inr (inl (record { rows = rows; is = is; holds = missing }))))) c.deleting.ensures in
     record { job = met.0; fit = met.1 }
 
@@ -214,8 +214,8 @@ pub returns-in-lock : goal.returns-in-lock
 returns-in-lock c =
     let rows = rows_of (found_of c.in-Some.found.now) in
     let is = met-is c.parsed_subcommand.result _ c.in-Some.name c.in-Some.found _ c.parsed_subcommand.ensures c.in-Some.is c.in-lock.is in
-    let met = named-met _ rows (λ name. jobs.Change c.value_of-image.result (effect_in rows) (edits.Lock Set (loss_in rows) name)) c.locking.result
-    (λ name at. record { rows = rows; is = is; holds = (c.value_of-image.ensures, (at, refl), refl) }) (λ name. tt)
+    let met = named-met _ rows (λ name. jobs.Change c.value_of-image.result (effect_in rows) (loss_in rows) (kinds.Lock Set name)) c.locking.result
+    (λ name at. record { rows = rows; is = is; holds = (c.value_of-image.ensures, at, refl, refl) }) (λ name. tt)
     (λ missing. inr (inr (inr (inr (inr (inr (inr (inr (inl (record { rows = rows; is = is; holds = missing })))))))))) c.locking.ensures in
     record { job = met.0; fit = met.1 }
 
@@ -223,8 +223,8 @@ pub returns-in-unlock : goal.returns-in-unlock
 returns-in-unlock c =
     let rows = rows_of (found_of c.in-Some.found.now) in
     let is = met-is c.parsed_subcommand.result _ c.in-Some.name c.in-Some.found _ c.parsed_subcommand.ensures c.in-Some.is c.in-unlock.is in
-    let met = named-met _ rows (λ name. jobs.Change c.value_of-image.result (effect_in rows) (edits.Lock Cleared (loss_in rows) name)) c.locking-in-unlock.result
-    (λ name at. record { rows = rows; is = is; holds = (c.value_of-image.ensures, (at, refl), refl) }) (λ name. tt)
+    let met = named-met _ rows (λ name. jobs.Change c.value_of-image.result (effect_in rows) (loss_in rows) (kinds.Lock Cleared name)) c.locking-in-unlock.result
+    (λ name at. record { rows = rows; is = is; holds = (c.value_of-image.ensures, at, refl, refl) }) (λ name. tt)
     (λ missing. inr (inr (inr (inr (inr (inr (inr (inr (inr (inl (record { rows = rows; is = is; holds = missing }))))))))))) c.locking-in-unlock.ensures in
     record { job = met.0; fit = met.1 }
 
@@ -233,8 +233,8 @@ returns-in-Some-entry_type_named c =
     let rows = rows_of (found_of c.in-Some.found.now) in
     let is = met-is c.parsed_subcommand.result _ c.in-Some.name c.in-Some.found _ c.parsed_subcommand.ensures c.in-Some.is c.in-undelete.is in
     let typed = ap entry_type_named (sym c.value_of-in-undelete.ensures) ∙ sym c.in-Some-entry_type_named.ensures in
-    let met = named-met _ rows (λ name. jobs.Change c.value_of-image.result (effect_in rows) (edits.Undelete c.in-Some-entry_type_named.kind (loss_in rows) name)) c.undeleting.result
-    (λ name at. record { rows = rows; is = is; holds = (c.value_of-image.ensures, (at, typed, refl), refl) }) (λ name. tt)
+    let met = named-met _ rows (λ name. jobs.Change c.value_of-image.result (effect_in rows) (loss_in rows) (kinds.Undelete c.in-Some-entry_type_named.kind name)) c.undeleting.result
+    (λ name at. record { rows = rows; is = is; holds = (c.value_of-image.ensures, (at, typed), refl, refl) }) (λ name. tt)
     (λ missing. inr (inr (inr (inr (inr (inr (inr (inr (inr (inr (record { rows = rows; is = is; holds = missing }))))))))))) c.undeleting.ensures in
     record { job = met.0; fit = met.1 }
 
@@ -254,7 +254,7 @@ returns-in-sort c =
     let is = met-is c.parsed_subcommand.result _ c.in-Some.name c.in-Some.found _ c.parsed_subcommand.ensures c.in-Some.is c.in-sort.is in
     record {
       job = subst (IsJob _) (sym c.sorting.ensures)
-          (record { rows = rows; is = is; holds = (c.value_of-image.ensures, refl, refl) });
+          (record { rows = rows; is = is; holds = (c.value_of-image.ensures, tt, refl, refl) });
       fit = subst IsFit (sym c.sorting.ensures) tt;
     }
 
@@ -272,16 +272,17 @@ pub returns-in-title : goal.returns-in-title
 returns-in-title c =
     let rows = rows_of (found_of c.in-Some.found.now) in
     let is = met-is c.parsed_subcommand.result _ c.in-Some.name c.in-Some.found _ c.parsed_subcommand.ensures c.in-Some.is c.in-title.is in
-    let met = titling-met _ rows (λ name id. jobs.Change c.value_of-image.result (effect_in rows) (edits.Title id (loss_in rows) name)) c.titling.result
-    (λ name id at two. (record { rows = rows; is = is; holds = (c.value_of-image.ensures, (at, two, refl), refl) }, at.short))
+    let met = titling-met _ rows (λ name id. jobs.Change c.value_of-image.result (effect_in rows) (loss_in rows) (kinds.Title id name)) c.titling.result
+    (λ name id at two. (record { rows = rows; is = is; holds = (c.value_of-image.ensures, (at, two), refl, refl) }, at.short))
     (λ missing. inr (inr (inr (inr (inr (inr (inr (inl (record { rows = rows; is = is; holds = missing })))))))))
     (λ missing. (refl, inr (record { rows = rows; is = is; holds = missing }))) c.titling.ensures in
     record { job = met.0; fit = met.1 }
 
 pub returns-in-map : goal.returns-in-map
 returns-in-map c =
-    let met = viewing-met c.parsed_subcommand.result _ c.in-Some.name c.in-Some.found looks.Map c.viewing.result
-    c.parsed_subcommand.ensures c.in-Some.is c.in-map.is tt tt c.viewing.ensures in
+    let met = showing-met c.parsed_subcommand.result _ c.in-Some.name c.in-Some.found looks.Map objects.Map
+    c.showing-in-map.result c.parsed_subcommand.ensures c.in-Some.is c.in-map.is (λ plain. (refl, tt, plain)) tt
+    c.showing-in-map.ensures in
     record { job = met.0; fit = met.1 }
 
 pub returns-in-picture : goal.returns-in-picture

@@ -9,10 +9,10 @@ returns g c = (
   c.has_gone.result,
   c.has_gone.ensures,
   record {
-    left = c.serve_logged_guarded-ended.new.log;
-    ended = c.serve_logged_guarded-ended.result;
-    done = c.serve_logged_guarded-ended.ensures;
-    landed = subst (λ (e : JobEnd). IsLandedEnd g.D.LogFolder.history c.serve_logged_guarded-ended.new.log e
+    left = c.serve_logged.new.log;
+    ended = c.run_end-ended.result;
+    done = (c.serve_logged.result, c.run_end-ended.ensures, c.serve_logged.ensures.run);
+    landed = subst (λ (e : JobEnd). IsLandedEnd g.D.LogFolder.history c.serve_logged.new.log e
         c.landed_end.result.0 c.landed_end.result.1) c.served_end.ensures c.landed_end.ensures;
   },
 )

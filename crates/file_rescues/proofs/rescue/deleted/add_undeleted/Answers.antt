@@ -33,8 +33,8 @@ loop-slot-preserved c =
           ∙ ap (λ (o : Option Place). c.loop-slot.files.items ++ with_unshared o file []) told
           ∙ ap (λ (fs : List Rescued). fs ++ with_unshared shared file []) items
           ∙ append_assoc old found (with_unshared shared file []),
-      subst (λ (ss : List Slot). AreUndeleted (disk_image c.args.disk.now) directory old ss
+      subst (λ (ss : List Slot). AreUndeleted c.args.image.now (disk_image c.args.disk.now) directory old ss
           (found ++ with_unshared shared file [])) (sym taken)
-          (undeleted-more (disk_image c.args.disk.now) directory old (take k slots) c.slot-item.result file found are
+          (undeleted-more c.args.image.now (disk_image c.args.disk.now) directory old (take k slots) c.slot-item.result file found are
           c.in_ok-file.ensures.slot c.in_ok-file.ensures.ok),
     )

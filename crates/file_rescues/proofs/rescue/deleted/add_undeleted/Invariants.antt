@@ -7,4 +7,4 @@ use Rattle.file_rescues.proofs.rescue.deleted.add_undeleted.Given as goal
 
 abbrev pub invariant-loop-slot : goal.invariant-loop-slot
 invariant-loop-slot l = (found : List Rescued) × (l.files.items ≡ l.fn.files.items ++ found)
-    × AreUndeleted (disk_image l.disk) l.directory l.fn.files.items (take l.slot-index l.slots) found
+    × AreUndeleted l.image (disk_image l.disk) l.directory l.fn.files.items (take l.slot-index l.slots) found

@@ -9,7 +9,7 @@ pub returns-clause-few : goal.returns-clause-few
 returns-clause-few c = elim c.if-choice.branch [
   | then-choice+in_ok-add_undeleted w ↦
       let (found, items, are) = w.in_ok-add_undeleted.ensures.ok in
-      few-all (disk_image c.args.disk.now) c.args.directory.now c.as_slice.result.now
+      few-all c.args.image.now (disk_image c.args.disk.now) c.args.directory.now c.as_slice.result.now
       c.in_ok-files.files.items found c.if-choice.files.items c.requires
       (c.as_slice.ensures.value ∙ c.used_of-entries.ensures) c.in_ok-files.ensures.few are
       (ap (λ v. v.items) w.files-is ∙ items)

@@ -13,9 +13,9 @@ invariant-loop-file g l =
     record {
       number_is : l.number ≡ l.file-index;
       made : AddsFiles (g.F.NewFolder.files l.fn.folder) (g.F.NewFolder.files l.folder)
-          (files_from img 1 (take l.file-index l.files));
+          (files_from l.image img 1 (take l.file-index l.files));
       rows : (all : List Place) → CountsAll l.owners all
           → l.index.items ≡ l.fn.index.items ++ rows_from l.image img all 1 (take l.file-index l.files);
       told : (all : List Place) → CountsAll l.owners all
-          → l.found ≡ first_fault img all 1 l.fn.before (take l.file-index l.files);
+          → l.found ≡ first_fault l.image img all 1 l.fn.before (take l.file-index l.files);
     }

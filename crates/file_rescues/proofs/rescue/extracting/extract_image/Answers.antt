@@ -15,7 +15,7 @@ pub rescue_chosen-requires : goal.rescue_chosen-requires
 rescue_chosen-requires g c = c.as_slice.ensures.fits
 
 pub extract_files-requires-clause-rescued : goal.extract_files-requires-clause-rescued
-extract_files-requires-clause-rescued g c = chosen-rescued c.args.choice (disk_image c.in_ok-disk.disk)
+extract_files-requires-clause-rescued g c = chosen-rescued c.args.choice c.args.image.now (disk_image c.in_ok-disk.disk)
     c.as_slice.result.now c.in_ok-files.files.items c.as_slice-3.result.now c.in_ok-files.ensures.ok
     c.as_slice-3.ensures.value
 

@@ -7,7 +7,7 @@ use Rattle.file_rescues.proofs.rescue.rescuing.rescue_all.Goals as goal
 
 pub loop-slot-init : goal.loop-slot-init
 loop-slot-init c = record {
-  rescued = rescued-none _ _ c.new-files.ensures.items;
+  rescued = rescued-none _ _ _ c.new-files.ensures.items;
   count = ap length c.new-files.ensures.items;
 }
 
@@ -16,7 +16,7 @@ loop-slot-preserved c =
     let old = c.loop-slot.invariant in
     let more = pushed _ _ _ _ _ c.if-is_err.false c.is_err.ensures.negation c.push.ensures.items in
     record {
-      rescued = rescued-more _ _ _ _ _ _ _ c.loop-slot-test.true c.slot-item.is old.rescued c.in_ok-file.ensures.slot
+      rescued = rescued-more _ _ _ _ _ _ _ _ c.loop-slot-test.true c.slot-item.is old.rescued c.in_ok-file.ensures.slot
           c.in_ok-file.ensures.ok more;
       count = ap length more ∙ length_push c.loop-slot.files.items c.in_ok-file.file
           ∙ ap (λ (n : ℕ). n + 1) old.count;
@@ -43,7 +43,7 @@ returns c =
     let end : c.loop-slot.slot-index ≡ length c.args.slots.now =
     omega (arith, c.loop-slot-test.false, c.loop-slot.auto.slot-index-end) in
     record {
-      ok = rescued-all _ _ _ _ end c.loop-slot.invariant.rescued;
+      ok = rescued-all _ _ _ _ _ end c.loop-slot.invariant.rescued;
       few = c.loop-slot.invariant.count ∙ end;
       err = tt;
     }

@@ -6,6 +6,6 @@ use Rattle.file_rescues.proofs.rescue.rescuing.rescue_all.Given as goal
 
 abbrev pub invariant-loop-slot : goal.invariant-loop-slot
 invariant-loop-slot l = record {
-  rescued : AreRescued (disk_image l.disk) (take l.slot-index l.slots) l.files.items;
+  rescued : AreRescued l.image (disk_image l.disk) (take l.slot-index l.slots) l.files.items;
   count : length l.files.items ≡ l.slot-index;
 }

@@ -1,5 +1,5 @@
 -- One block more was written.
-use Rattle.std.proofs.Common.{◌++◌, ◌∷◌, [], ap, arith, get_or, refl, sym, take, true, ◌∙◌}
+use Rattle.std.proofs.Common.{◌++◌, ◌∷◌, [], ap, arith, refl, sym, take, true, ◌∙◌}
 use Rattle.std.proofs.lemmas.Grind.{put_two}
 use Rattle.std.proofs.lemmas.List.{flat_map_more, take_more}
 use Rattle.std.specs.Prelude.{codes, flat_map, ℕ, List}

@@ -1,9 +1,0 @@
--- The texts were written one after another.
-use Rattle.std.proofs.lemmas.Result.{on_ok_weaker}
-use Rattle.disk_reports.proofs.Written.{three}
-use Rattle.disk_reports.proofs.objects.print_refused.Goals as goal
-
-pub returns : goal.returns
-returns g c =
-    on_ok_weaker c.write_all.result
-    (three _ _ _ _ _ _ _ c.in_ok-print_refused_head.ensures c.in_ok-print_string.ensures) c.write_all.ensures.bytes

@@ -1,0 +1,3 @@
+-- The lemmas.
+pub mod Sizes
+pub mod Walked

@@ -1,0 +1,10 @@
+//! Chains over all tracks of an image of 40 or 42 tracks.
+#![tactic(auto)]
+
+mod chains;
+mod data;
+mod sectors;
+
+pub use chains::{MOST_SECTORS, long_chain};
+pub use data::data_in;
+pub use sectors::{error_in, place_past, sector_at, sectors_in};

@@ -1,0 +1,91 @@
+//! A file that is no image, over which `format` makes a shop.
+use crate::counts::Event;
+use crate::judging::see_failure;
+use crate::runs::{Program, draw_plan, run};
+use crate::stops::{Stop, see};
+use crate::stories::Story;
+use crate::words::{FORMAT_OLD, IMAGE, OLD, SHOW_OLD};
+use simulated_machine::{Counted, Plan};
+
+/// How many bytes more than an image a file has that is too long.
+const MORE: usize = 683;
+
+/// What is there before `format` writes over it, what `format` makes of it, and how many calls and steps that takes.
+#[derive(Drop)]
+struct Over {
+    before: Vec<u8>,
+    after: Vec<u8>,
+    calls: u64,
+    steps: u64,
+}
+
+impl<P: Program> Story<'_, P> {
+    /// The bytes of a file: those of the shop's image, of which some last ones lack, or after which others stand, or none.
+    fn draw_old(&mut self) -> Result<Vec<u8>, Stop> {
+        let mut bytes = self.machine.bytes_of(IMAGE)?;
+        let length = match self.random.below(3) {
+            0 => 0,
+            1 => self.random.index(bytes.len()),
+            _ => bytes.len().saturating_add(MORE),
+        };
+        bytes.resize(length, 1)?;
+        Ok(bytes)
+    }
+
+    /// Puts such a file there. What `format` makes of it if nothing happens.
+    fn put_old(&mut self) -> Result<Over, Stop> {
+        let before = self.draw_old()?;
+        self.machine.put_file(OLD, before.as_slice())?;
+        let twin = self.machine.with_files(&[OLD])?;
+        let input = twin.copy_of(b"")?;
+        let ended = run(self.program, &twin, &FORMAT_OLD, input, 1, Plan::NONE);
+        see(
+            ended.status == 0,
+            "format doesn't write over a file that is no image",
+        )?;
+        Ok(Over {
+            before,
+            after: twin.bytes_of(OLD)?,
+            calls: twin.calls(Counted::All),
+            steps: twin.calls(Counted::Steps),
+        })
+    }
+
+    /// There is the old file, or the shop that was made, or what is refused.
+    fn see_old(&mut self, over: &Over, is_told: bool) -> Result<(), Stop> {
+        let found = self.machine.bytes_of(OLD)?;
+        if found.as_slice() == over.after.as_slice() {
+            return Ok(());
+        }
+        see(
+            !is_told,
+            "a shop that format made over a file isn't there, though that was reported",
+        )?;
+        if found.as_slice() == over.before.as_slice() {
+            return Ok(());
+        }
+        let ended = self.look(&SHOW_OLD)?;
+        see(
+            ended.status == 1,
+            "of a file that format wrote over a third shop is left",
+        )
+    }
+
+    /// `format` makes a shop over a file that is no image.
+    pub(crate) fn format_over(&mut self) -> Result<(), Stop> {
+        self.counts.add(Event::Change, 1);
+        let over = self.put_old()?;
+        let plan = draw_plan(&mut self.random, over.calls, over.steps);
+        let input = self.machine.copy_of(b"")?;
+        let ended = self.run(&FORMAT_OLD, input, 1, plan)?;
+        if !ended.is_stopped && ended.status != 0 {
+            see_failure(&ended)?;
+        }
+        if ended.is_stopped || ended.status == 0 && self.random.once_in(2) {
+            self.lose_power()?;
+        }
+        self.see_old(&over, ended.out.as_slice().ends_with(b"\n"))?;
+        self.machine.remove_file(OLD)?;
+        Ok(())
+    }
+}
