@@ -251,7 +251,8 @@ class Wanted:
     @staticmethod
     def misread(blocks, errors):
         """Those blocks that weren't read, and how."""
-        found = [(block, errors[number_of(block)]) for block in blocks if errors]
+        # those of tracks 1 to 35 stand before those past them
+        found = [(block, errors[number_of(block)]) for block in sorted(blocks, key=lambda it: it[0] > 35) if errors]
         return " ".join(f"{place[0]}/{place[1]}:{error_text(error)}" for place, error in found if error != 1)
 
     @staticmethod

@@ -59,7 +59,7 @@ static READING: [Row; 12] = [
     (
         &["ledger", "check", "--json", "a.d64"],
         b"",
-        b"{\"name\":\"a.d64\",\"size\":174848",
+        b"{\"beyond\":[],\"disk\":\"STOCK LEDGER\",\"errors\":[],",
         "a.d64",
         Then::Image,
     ),
