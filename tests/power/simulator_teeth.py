@@ -31,8 +31,8 @@ FOUND = re.compile(r"seed (\d+), step (\d+): (.*)")
 NO_STEPS = ("the beginning", "make a file")
 # how many times as many seeds are played for a step of MUST
 LONGER = 4
-# the steps that were found, each with the kind of call before it
-MUST = {
+# the steps that were found both when they were left out and when they were late, each with the kind of call before it
+MUST_BOTH = {
     ("sync the log", "the beginning"),
     ("remove a name", "sync the folder"),
     ("rename a file", "sync the folder"),
@@ -48,16 +48,21 @@ MUST = {
     ("give a second name", "sync another file"),
     ("write another file", "sync another file"),
     ("set a length", "make a file"),
+    ("sync IMAGE", "write IMAGE"),
+    ("sync the log", "write the log"),
+    ("write the mark", "write the log in the making"),
+    ("sync another file", "write another file"),
+    ("sync the log in the making", "set a length"),
+    ("sync the folder", "sync the log in the making"),
+}
+# and those that were found when they were left out
+MUST = MUST_BOTH | {
     ("sync the folder", "remove a name"),
     ("sync the folder", "rename a file"),
     ("remove a name", "give a second name"),
     # a link can't be made, so a copy is renamed
     ("rename a file", "give a second name"),
-    ("sync IMAGE", "write IMAGE"),
-    ("sync the log", "write the log"),
     ("sync the log in the making", "write the log in the making"),
-    ("write the mark", "write the log in the making"),
-    ("sync another file", "write another file"),
     ("sync the log", "write the mark"),
     ("sync the log in the making", "write the mark"),
     # these by a file that is no image, over which `format` writes
@@ -68,8 +73,6 @@ MUST = {
     ("sync the folder", "the beginning"),
     ("sync IMAGE", "sync the folder"),
     ("sync the folder", "sync IMAGE"),
-    ("sync the log in the making", "set a length"),
-    ("sync the folder", "sync the log in the making"),
 }
 # after which calls a name is removed only because the call failed
 FAILED = (
@@ -100,29 +103,7 @@ UNSEEN = {
     ("sync another file", "set a length"): "`format` writes over a file, and power goes when its last sector is on the disk, and others aren't",
 }
 # the steps that were found when they were made late
-MUST_LATE = {
-    ("sync the log", "the beginning"),
-    ("remove a name", "sync the folder"),
-    ("rename a file", "sync the folder"),
-    ("write IMAGE", "sync the folder"),
-    ("write the mark", "sync the folder"),
-    ("remove a name", "sync IMAGE"),
-    ("write IMAGE", "sync IMAGE"),
-    ("write the log", "sync IMAGE"),
-    ("write IMAGE", "sync the log"),
-    ("write the log", "sync the log"),
-    ("write the mark", "sync the log"),
-    ("sync the folder", "sync the log in the making"),
-    ("write the log in the making", "sync the log in the making"),
-    ("give a second name", "sync another file"),
-    ("write another file", "sync another file"),
-    ("sync IMAGE", "write IMAGE"),
-    ("sync the log", "write the log"),
-    ("write the mark", "write the log in the making"),
-    ("sync the log in the making", "set a length"),
-    ("set a length", "make a file"),
-    ("sync another file", "write another file"),
-}
+MUST_LATE = MUST_BOTH
 # the steps that do harm if they are late, which the stories meet too seldom
 UNSEEN_LATE = {
     ("sync the folder", "rename a file"): "IMAGE is written, and power goes before the log's name is on the disk",
