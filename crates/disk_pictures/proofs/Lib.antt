@@ -16,10 +16,8 @@ pub mod Owned
 pub mod Owning
 pub mod PlainBytes
 pub mod Printing
-pub mod Rows
 pub mod Shared
 pub mod Sides
 pub mod Sound
 pub mod SoundPrinted
-pub mod Told
 pub mod Walked

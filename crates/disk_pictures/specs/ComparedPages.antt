@@ -11,8 +11,10 @@ use Rattle.disk_pictures.specs.Comparisons.{most_records, number_of}
 use Rattle.disk_pictures.specs.Html.{Show, html_of}
 use Rattle.damaged_files.specs.reached.Names.{disk_name, name_of}
 use Rattle.disk_pictures.specs.Petscii.{petscii_of}
-use Rattle.disk_pictures.specs.Pictures.{drawing_text, end_text, link_text, look, ring_of, title_text, told_text}
+use Rattle.disk_pictures.specs.Pictures.{drawing_text, end_text, link_text, look, ring_of, title_text, told_text, tracks}
 use Rattle.disk_pictures.specs.Texts.{each_below, numbered, verdict_text}
+use Rattle.disk_pictures.specs.declared.comparison.comparing.TheConstants as comparing
+use Rattle.disk_pictures.specs.declared.comparison.differences.TheConstants as marks
 
 -- the mark of a sector that differs: a line along it
 unfoldable pub mark_arc : Place → List ℕ
@@ -20,8 +22,7 @@ mark_arc p = ring_of p ++ codes "/>\n"
 
 -- the style of what a comparison has beyond a page: everything except the marks is pale
 unfoldable pub marks_head : List ℕ
-marks_head = codes
-    "<style>svg>g>g:not(#f):not(.differs){opacity:.4}svg>g>g:target:not(#f){opacity:1}.differs circle{stroke:#000;stroke-width:320;pointer-events:none}.differs i{color:#000;padding:4px 0}td:nth-child(5){text-align:left;white-space:normal}table:not(:has(td))::before{content:\"No file differs.\"}table:not(:has(td)) tr{display:none}@media screen and (prefers-color-scheme:dark){.differs circle{stroke:#fff}.differs i{color:#fff}}</style>\n<g class=\"differs\">\n"
+marks_head = marks.MARKS.now
 
 -- the marks, one for each sector that differs
 unfoldable pub marks_text : Image → Image → List ℕ
@@ -31,23 +32,21 @@ marks_text a b = marks_head ++ (each_difference mark_arc a b ++ codes "</g>\n")
 abbrev pub differences : Image → Image → ℕ
 differences a b = length (each_difference number_of a b)
 
--- the end of the drawing, with the numbers of tracks and an arrow from sector 0 to 1
+-- the beginning of the sentence that says which images are compared
 unfoldable pub compared_head : List ℕ
-compared_head = codes
-    "</g>\n<g class=\"n\">\n<text y=\"-34220\">1</text>\n<text y=\"-31020\">5</text>\n<text y=\"-27020\">10</text>\n<text y=\"-23020\">15</text>\n<text y=\"-20620\">18</text>\n<text y=\"-19020\">20</text>\n<text y=\"-15020\">25</text>\n<text y=\"-11020\">30</text>\n<text y=\"-7020\">35</text>\n<path d=\"M300-36250h3000l-600-250m600 250l-600 250\"/>\n</g>\n</svg>\n<div>\n<p><b>"
+compared_head = comparing.START.now
 
 -- the meaning of the marks and colours, and the head of the table
 unfoldable pub compared_legend : List ℕ
-compared_legend = codes
-    ".</p>\n<ul>\n<li class=\"differs\"><i></i>a sector that differs has a line along it</li>\n<li class=\"map\"><i></i>map of free sectors</li>\n<li class=\"dir\"><i></i>directory</li>\n<li class=\"free\"><i></i>free</li>\n<li class=\"lost\"><i></i>taken in the map, in no file</li>\n<li class=\"open\"><i></i>in use, but free in the map</li>\n<li class=\"fault\"><i></i>the fault, with a mark at the rim</li>\n</ul>\n<table>\n<tr><th></th><th></th><th>name</th><th>differs in</th><th>records</th></tr>\n"
+compared_legend = comparing.LEGEND.now
 
 -- the image's path, and with which disk it is compared: its image's path, its name and what is reported of it; and how many
 -- sectors differ
 unfoldable pub compared_text : Show → Disk → Disk → List ℕ
 compared_text show a b =
-    compared_head ++ (show b.path ++ (codes "</b> compared with <b>" ++ (show a.path ++ (codes "</b>, "
+    tracks ++ (compared_head ++ (show b.path ++ (codes "</b> compared with <b>" ++ (show a.path ++ (codes "</b>, "
     ++ (show (disk_name a.map) ++ (codes " (" ++ (verdict_text a.verdict ++ (codes "). Sectors that differ: "
-    ++ (decimal (differences a.image b.image) ++ compared_legend)))))))))
+    ++ (decimal (differences a.image b.image) ++ compared_legend))))))))))
 
 -- in what a file differs: its entry, its sectors, its contents
 abbrev pub parts_text : Bool → Bool → Bool → List ℕ

@@ -8,13 +8,14 @@ use Rattle.d64_image.specs.declared.place.Place.{Place}
 use Rattle.disk_layout.specs.Layout.{Layout}
 use Rattle.disk_layout.specs.declared.faults.Fault.{Fault}
 use Rattle.disk_pictures.specs.Drawings.{owner_of}
-use Rattle.disk_pictures.specs.Pictures.{is_nobody, is_open}
+use Rattle.disk_pictures.specs.Pictures.{is_nobody, is_open, tracks}
 use Rattle.disk_pictures.specs.Texts.{is_free}
 use Rattle.disk_pictures.specs.declared.owners.Owner.{Owner}
 use Rattle.disk_pictures.specs.declared.owners.Owner.TheVariants as owner
 use Rattle.disk_pictures.specs.declared.pages.kinds.Kind.{Kind}
 use Rattle.disk_pictures.specs.declared.pages.kinds.Kind.TheVariants as kind
 use Rattle.disk_pictures.specs.declared.pages.legend.Legend.{Legend}
+use Rattle.disk_pictures.specs.declared.pages.legend.TheConstants as legend
 
 -- it is a side sector of an entry
 abbrev pub is_side : Owner → Bool
@@ -42,35 +43,29 @@ legend_of v map l = record {
   fault = is_some v;
 }
 
--- the end of the drawing, with the numbers of tracks and an arrow from sector 0 to 1; and the rows that each disk needs
+-- the rows that each disk needs
 unfoldable pub legend_start : List ℕ
-legend_start = codes
-    "</g>\n<g class=\"n\">\n<text y=\"-34220\">1</text>\n<text y=\"-31020\">5</text>\n<text y=\"-27020\">10</text>\n<text y=\"-23020\">15</text>\n<text y=\"-20620\">18</text>\n<text y=\"-19020\">20</text>\n<text y=\"-15020\">25</text>\n<text y=\"-11020\">30</text>\n<text y=\"-7020\">35</text>\n<path d=\"M300-36250h3000l-600-250m600 250l-600 250\"/>\n</g>\n</svg>\n<svg x=\"20\" y=\"298\" width=\"50\" height=\"4\"><path class=\"map\" d=\"M0 2h3\"/><text x=\"4.5\" y=\"2.8\">map of free sectors</text></svg>\n<svg x=\"56\" y=\"298\" width=\"50\" height=\"4\"><path class=\"dir\" d=\"M0 2h3\"/><text x=\"4.5\" y=\"2.8\">directory</text></svg>\n"
+legend_start = legend.START.now
 
 -- a sample of a kind, and what it is
 unfoldable pub free_told : List ℕ
-free_told = codes
-    "<path class=\"free\" d=\"M0 2h3\"/><text x=\"4.5\" y=\"2.8\">free"
+free_told = legend.FREE.now
 
 -- of a sector that is taken in the map and nobody's
 unfoldable pub lost_told : List ℕ
-lost_told = codes
-    "<path class=\"lost\" d=\"M0 2h3\"/><text x=\"4.5\" y=\"2.8\">taken, in no file"
+lost_told = legend.LOST.now
 
 -- of a side sector
 unfoldable pub side_told : List ℕ
-side_told = codes
-    "<path class=\"c0\" d=\"M0 2h1.5\"/><path class=\"side\" d=\"M1.5 2h1.5\"/><text x=\"4.5\" y=\"2.8\">side sectors (right)"
+side_told = legend.SIDE.now
 
 -- of a sector in use that is free in the map
 unfoldable pub used_told : List ℕ
-used_told = codes
-    "<path class=\"c0\" d=\"M0 2h3\"/><path class=\"white\" d=\"M0 2h3\"/><text x=\"4.5\" y=\"2.8\">in use, free in the map"
+used_told = legend.USED.now
 
 -- of the fault
 unfoldable pub fault_told : List ℕ
-fault_told = codes
-    "<path class=\"fault\" d=\"M0 2h3\"/><text x=\"4.5\" y=\"2.8\">the fault"
+fault_told = legend.FAULT.now
 
 -- how much room a row of this width takes: none if it isn't needed
 abbrev pub room : Bool → ℕ → ℕ
@@ -86,7 +81,7 @@ legend_row needed x told =
 -- the end of the drawing, and the rows, one beside the other
 unfoldable pub poster_legend : Legend → List ℕ
 poster_legend k =
-    legend_start ++ (legend_row k.free 84 free_told ++ (legend_row k.lost (84 + room k.free 20) lost_told
+    tracks ++ (legend_start ++ (legend_row k.free 84 free_told ++ (legend_row k.lost (84 + room k.free 20) lost_told
     ++ (legend_row k.side (84 + room k.free 20 + room k.lost 34) side_told
     ++ (legend_row k.used (84 + room k.free 20 + room k.lost 34 + room k.side 40) used_told
-    ++ legend_row k.fault (84 + room k.free 20 + room k.lost 34 + room k.side 40 + room k.used 46) fault_told))))
+    ++ legend_row k.fault (84 + room k.free 20 + room k.lost 34 + room k.side 40 + room k.used 46) fault_told)))))

@@ -14,18 +14,30 @@ use Rattle.disk_pictures.specs.Sentences.{summary_text}
 use Rattle.damaged_files.specs.reached.Types.{type_text}
 use Rattle.disk_pictures.specs.Texts.{numbered}
 use Rattle.disk_pictures.specs.declared.verdicts.Verdict.{Verdict}
+use Rattle.disk_pictures.specs.declared.pages.poster.TheConstants as poster
+
+-- the beginning of a poster, up to its title
+unfoldable pub poster_begin : List ℕ
+poster_begin = poster.HEAD.now
+
+-- the end of the style, the paper, and the beginning of the disk's name above the drawing
+unfoldable pub paper : List ℕ
+paper = poster.PAPER.now
+
+-- the beginning of the drawing, up to the disk's name in its middle
+unfoldable pub poster_drawing : List ℕ
+poster_drawing = poster.DRAWING.now
 
 -- the poster's style
 unfoldable pub poster_style : List ℕ
-poster_style = codes
-    "text{font:2.2px ui-monospace,Menlo,Consolas,\"DejaVu Sans Mono\",monospace;fill:#222}.paper{fill:#fbfaf7}.name{font-size:12px;text-anchor:middle}.told{font-size:4px;text-anchor:middle}.hub{font-size:1100px;text-anchor:middle}.e{text-anchor:end}circle{fill:none;stroke-width:700}.w1 circle{stroke-width:540}.w2 circle{stroke-width:390}path{fill:none;stroke-width:2}path.w1{stroke-width:1.5}path.w2{stroke-width:1}path.w3{stroke-width:2;stroke-dasharray:0 .75 1.5 9}.n text{font-size:1100px;text-anchor:middle;fill:#444;paint-order:stroke;stroke:#fbfaf7;stroke-width:300}.n path{stroke:#444;stroke-width:120}.free{stroke:#e8e4d9}.lost{stroke:#9898aa}.map{stroke:#161616}.dir{stroke:#5e5e5e}.edge{stroke:#fff;stroke-width:1500}.fault{stroke:#d40000}circle.fault{stroke-width:1100}.open circle{stroke:#fff;stroke-width:200}.white{stroke:#fff;stroke-width:.6}.side{stroke:#4d4831}.c0{stroke:#8c8259}.c0 .s{stroke:#4d4831}.c1{stroke:#1c9182}.c1 .s{stroke:#0f5048}.c2{stroke:#4b75ff}.c2 .s{stroke:#29408c}.c3{stroke:#e320ba}.c3 .s{stroke:#7d1266}.c4{stroke:#406c83}.c4 .s{stroke:#233b48}.c5{stroke:#716046}.c5 .s{stroke:#3e3526}.c6{stroke:#3a4353}.c6 .s{stroke:#20252e}.c7{stroke:#4a3934}.c7 .s{stroke:#291f1d}.c8{stroke:#0c0bca}.c8 .s{stroke:#07066f}.c9{stroke:#5d0476}.c9 .s{stroke:#330241}.c10{stroke:#630a00}.c10 .s{stroke:#360600}.c11{stroke:#041c33}.c11 .s{stroke:#020f1c}"
+poster_style = poster.STYLE.now
 
 -- the head of the poster, from 18/0: the disk's name, as it is typed and as a C64 shows it, and the style
 unfoldable pub poster_head : Show → Show → Sector → List ℕ
 poster_head show signs map =
-    codes "<svg xmlns=\"http://www.w3.org/2000/svg\" width=\"297mm\" height=\"420mm\" viewBox=\"0 0 297 420\">\n<title>" ++ (show (disk_name map)
+    poster_begin ++ (show (disk_name map)
     ++ (codes "</title>\n<style>" ++ (poster_style ++ (dashes
-    ++ (codes "</style>\n<clipPath id=\"n\"><rect width=\"22\" height=\"3\"/></clipPath>\n<rect class=\"paper\" width=\"297\" height=\"420\"/>\n<text class=\"name\" x=\"148.5\" y=\"24\">" ++ (show (disk_name map)
+    ++ (paper ++ (show (disk_name map)
     ++ (codes "</text>\n<text class=\"told\" x=\"148.5\" y=\"33\"><tspan>" ++ (signs (disk_name map)
     ++ codes "</tspan> 1541 disk, id "))))))))
 
@@ -35,7 +47,7 @@ unfoldable pub poster_told : Show → Verdict → Sector → Layout → List ℕ
 poster_told show v map l =
     show (slice_range map 162 164) ++ (codes " " ++ (show (slice_range map 165 167)
     ++ (codes "</text>\n<text class=\"told\" x=\"148.5\" y=\"40\">" ++ (summary_text show v map l
-    ++ (codes "</text>\n<svg x=\"23.5\" y=\"44\" width=\"250\" height=\"250\" viewBox=\"-36600 -36600 73200 73200\">\n<svg x=\"-6900\" y=\"-1200\" width=\"13800\" height=\"2400\" viewBox=\"-6900 -1200 13800 2400\"><text class=\"hub\" y=\"400\">" ++ (show (disk_name map)
+    ++ (poster_drawing ++ (show (disk_name map)
     ++ codes "</text></svg>\n<g transform=\"rotate(-90)\">\n"))))))
 
 -- where the line of entry k of n stands: up to 12 of 9 units in one column, up to 36 of 6 units in two columns of 18, or

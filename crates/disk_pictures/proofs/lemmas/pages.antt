@@ -1,4 +1,3 @@
 pub mod PageMarkup
 pub mod PetsciiMarkup
 pub mod PosterMarkup
-pub mod PosterTold

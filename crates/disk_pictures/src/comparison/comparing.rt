@@ -10,7 +10,7 @@ use crate::comparison::changes::print_changes;
 use crate::comparison::compared::Compared;
 use crate::comparison::differences::{count, print_marks};
 use crate::html::Html;
-use crate::pages::page::{END, Title, Told};
+use crate::pages::page::{END, TRACKS, Title, Told};
 use crate::pages::picture_printing::print_drawing;
 use command_faults::{CommandFault, flush, print_text};
 use damaged_files::disk_name;
@@ -18,6 +18,18 @@ use disk_layout::Fault;
 use std::alloc::Global;
 use std::fmt::{self, Display, Formatter};
 use std::io::Write;
+
+/// The beginning of the sentence that says which images are compared.
+const START: &str = "<div>\n<p><b>";
+
+/// The meaning of the marks and the colours, and the head of the table.
+const LEGEND: &str = ".</p>\n<ul>\n\
+    <li class=\"differs\"><i></i>a sector that differs has a line along it</li>\n\
+    <li class=\"map\"><i></i>map of free sectors</li>\n<li class=\"dir\"><i></i>directory</li>\n\
+    <li class=\"free\"><i></i>free</li>\n<li class=\"lost\"><i></i>taken in the map, in no file</li>\n\
+    <li class=\"open\"><i></i>in use, but free in the map</li>\n\
+    <li class=\"fault\"><i></i>the fault, with a mark at the rim</li>\n</ul>\n<table>\n\
+    <tr><th></th><th></th><th>name</th><th>differs in</th><th>records</th></tr>\n";
 
 /// Which image is compared with which, and what marks and colours mean.
 #[derive(Clone, Copy)]
@@ -32,17 +44,7 @@ impl Display for ComparedText<'_> {
     fn fmt<W: fmt::Write>(&self, f: &mut Formatter<W>) -> fmt::Result {
         write!(
             f,
-            "</g>\n<g class=\"n\">\n<text y=\"-34220\">1</text>\n<text y=\"-31020\">5</text>\n\
-            <text y=\"-27020\">10</text>\n<text y=\"-23020\">15</text>\n<text y=\"-20620\">18</text>\n\
-            <text y=\"-19020\">20</text>\n<text y=\"-15020\">25</text>\n<text y=\"-11020\">30</text>\n\
-            <text y=\"-7020\">35</text>\n<path d=\"M300-36250h3000l-600-250m600 250l-600 250\"/>\n</g>\n</svg>\n<div>\n\
-            <p><b>{}</b> compared with <b>{}</b>, {} ({}). Sectors that differ: {}.</p>\n<ul>\n\
-            <li class=\"differs\"><i></i>a sector that differs has a line along it</li>\n\
-            <li class=\"map\"><i></i>map of free sectors</li>\n<li class=\"dir\"><i></i>directory</li>\n\
-            <li class=\"free\"><i></i>free</li>\n<li class=\"lost\"><i></i>taken in the map, in no file</li>\n\
-            <li class=\"open\"><i></i>in use, but free in the map</li>\n\
-            <li class=\"fault\"><i></i>the fault, with a mark at the rim</li>\n</ul>\n<table>\n\
-            <tr><th></th><th></th><th>name</th><th>differs in</th><th>records</th></tr>\n",
+            "{TRACKS}{START}{}</b> compared with <b>{}</b>, {} ({}). Sectors that differ: {}{LEGEND}",
             Html(self.after.path.as_bytes()),
             Html(self.before.path.as_bytes()),
             Html(disk_name(&self.before.drawing.map)),

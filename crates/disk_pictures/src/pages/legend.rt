@@ -5,16 +5,13 @@ ghost use Rattle.disk_pictures.specs.Legends.{legend_of, legend_row, poster_lege
 
 use crate::drawing::Drawing;
 use crate::pages::kinds::{Kind, occurs};
+use crate::pages::page::TRACKS;
 use disk_layout::Fault;
 use std::fmt::{self, Display, Formatter};
 
-/// The end of the drawing, with the numbers of tracks and an arrow from sector 0 to 1; and the rows that each disk needs.
+/// The rows that each disk needs.
 const START: &str =
-    "</g>\n<g class=\"n\">\n<text y=\"-34220\">1</text>\n<text y=\"-31020\">5</text>\n<text y=\"-27020\">10</text>\n\
-    <text y=\"-23020\">15</text>\n<text y=\"-20620\">18</text>\n<text y=\"-19020\">20</text>\n<text y=\"-15020\">\
-    25</text>\n<text y=\"-11020\">30</text>\n<text y=\"-7020\">35</text>\n\
-    <path d=\"M300-36250h3000l-600-250m600 250l-600 250\"/>\n</g>\n</svg>\n\
-    <svg x=\"20\" y=\"298\" width=\"50\" height=\"4\"><path class=\"map\" d=\"M0 2h3\"/><text x=\"4.5\" y=\"2.8\">\
+    "<svg x=\"20\" y=\"298\" width=\"50\" height=\"4\"><path class=\"map\" d=\"M0 2h3\"/><text x=\"4.5\" y=\"2.8\">\
     map of free sectors</text></svg>\n<svg x=\"56\" y=\"298\" width=\"50\" height=\"4\">\
     <path class=\"dir\" d=\"M0 2h3\"/><text x=\"4.5\" y=\"2.8\">directory</text></svg>\n";
 
@@ -99,7 +96,7 @@ impl Display for Legend {
         let used = room(self.used, 46);
         write!(
             f,
-            "{START}{}{}{}{}{}",
+            "{TRACKS}{START}{}{}{}{}{}",
             Row(self.free, 84, FREE),
             Row(self.lost, 84 + free, LOST),
             Row(self.side, 84 + free + lost, SIDE),

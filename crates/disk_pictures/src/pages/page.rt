@@ -17,6 +17,10 @@ use damaged_files::{TypeText, disk_name, entry_name};
 use disk_layout::{BamView, EntryView};
 use std::fmt::{self, Display, Formatter};
 
+/// The beginning of a page, up to its title.
+pub(crate) const HEAD: &str = "<!DOCTYPE html>\n<html lang=\"en\">\n<meta charset=\"utf-8\">\n\
+    <meta name=\"viewport\" content=\"width=device-width,initial-scale=1\">\n<title>";
+
 /// The page's style: light and dark, for wide and narrow screens, and for paper. A file has one of twelve colours, which
 /// stay apart for people who are colour-blind, and one of four shapes.
 const STYLE: &str = ":root{color-scheme:light dark}body{margin:24px;background:#fbfaf7;color:#222;\
@@ -108,13 +112,20 @@ pub(crate) const DASHES: &str =
     .w3 [r=\"9000\"]{stroke-dasharray:0 781 1563 300000}.w3 [r=\"8200\"]{stroke-dasharray:0 707 1415 300000}\
     .w3 [r=\"7400\"]{stroke-dasharray:0 633 1267 300000}";
 
-/// The end of the drawing, with the numbers of tracks and an arrow from sector 0 to 1; the meaning of the colours; and
-/// the head of the table.
-pub(crate) const LEGEND: &str =
+/// The beginning of the drawing, up to the disk's name in its middle.
+const DRAWING: &str = "</p>\n<main>\n<svg viewBox=\"-36600 -36600 73200 73200\" role=\"img\" \
+    aria-label=\"The disk as 35 rings of sectors, each in the colour of its file; the table lists the files\">\n\
+    <svg x=\"-6900\" y=\"-1200\" width=\"13800\" height=\"2400\" viewBox=\"-6900 -1200 13800 2400\"><text y=\"400\">";
+
+/// The end of the drawing, with the numbers of tracks and an arrow from sector 0 to 1.
+pub(crate) const TRACKS: &str =
     "</g>\n<g class=\"n\">\n<text y=\"-34220\">1</text>\n<text y=\"-31020\">5</text>\n<text y=\"-27020\">10</text>\n\
     <text y=\"-23020\">15</text>\n<text y=\"-20620\">18</text>\n<text y=\"-19020\">20</text>\n\
     <text y=\"-15020\">25</text>\n<text y=\"-11020\">30</text>\n<text y=\"-7020\">35</text>\n\
-    <path d=\"M300-36250h3000l-600-250m600 250l-600 250\"/>\n</g>\n</svg>\n<div>\n<ul>\n\
+    <path d=\"M300-36250h3000l-600-250m600 250l-600 250\"/>\n</g>\n</svg>\n";
+
+/// The meaning of the colours, and the head of the table.
+pub(crate) const LEGEND: &str = "<div>\n<ul>\n\
     <li class=\"map\"><i></i>map of free sectors</li>\n<li class=\"dir\"><i></i>directory</li>\n\
     <li class=\"free\"><i></i>free</li>\n<li class=\"lost\"><i></i>taken in the map, in no file</li>\n\
     <li class=\"side\"><i></i>side sector, in another shade of its file (right)</li>\n\
@@ -150,9 +161,8 @@ impl Display for Title<'_> {
         let (name, signs) = (Html(bytes), Petscii(bytes));
         write!(
             f,
-            "<!DOCTYPE html>\n<html lang=\"en\">\n<meta charset=\"utf-8\">\n\
-            <meta name=\"viewport\" content=\"width=device-width,initial-scale=1\">\n<title>{name}</title>\n\
-            <style>{STYLE}{DASHES}</style>\n<h1>{name}<bdi>{signs}</bdi></h1>\n<p>1541 disk, id "
+            "{HEAD}{name}</title>\n<style>{STYLE}{DASHES}</style>\n<h1>{name}<bdi>{signs}</bdi></h1>\n\
+            <p>1541 disk, id "
         )
     }
 }
@@ -178,11 +188,8 @@ impl Display for Told<'_> {
         };
         write!(
             f,
-            "{} {}</p>\n<p class=\"{}\"><b>{}</b> {summary}</p>\n<main>\n\
-            <svg viewBox=\"-36600 -36600 73200 73200\" role=\"img\" aria-label=\"The disk as 35 rings of sectors, each in \
-            the colour of its file; the table lists the files\">\n\
-            <svg x=\"-6900\" y=\"-1200\" width=\"13800\" height=\"2400\" viewBox=\"-6900 -1200 13800 2400\">\
-            <text y=\"400\">{}</text></svg>\n<g transform=\"rotate(-90)\" aria-hidden=\"true\">\n",
+            "{} {}</p>\n<p class=\"{}\"><b>{}</b> {summary}{DRAWING}{}</text></svg>\n\
+            <g transform=\"rotate(-90)\" aria-hidden=\"true\">\n",
             Html(view.id()),
             Html(view.version()),
             class_of(self.verdict),

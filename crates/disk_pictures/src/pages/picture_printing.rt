@@ -18,7 +18,7 @@ use crate::drawn_file::DrawnFile;
 use crate::owners::Owner;
 use crate::pages::arcs::{BlockArc, FaultGroup, Look, PlainArc, SideArc};
 use crate::pages::others::{GROUP_END, print_others};
-use crate::pages::page::{END, LEGEND, Row, Title, Told};
+use crate::pages::page::{END, LEGEND, Row, TRACKS, Title, Told};
 use crate::pages::white_lines::print_open;
 use crate::verdicts::{Verdict, judged};
 use command_faults::{CommandFault, flush, print_text};
@@ -237,6 +237,7 @@ fn print_page<W: Write>(
     print_text(out, Title(&drawing.map))?;
     print_text(out, Told { drawing, verdict })?;
     print_drawing(out, verdict.found, drawing)?;
+    print_text(out, TRACKS)?;
     print_text(out, LEGEND)?;
     print_rows(out, drawing.files.as_slice())?;
     print_text(out, END)?;

@@ -19,6 +19,10 @@ use damaged_files::{TypeText, disk_name, entry_name};
 use disk_layout::{BamView, EntryView};
 use std::fmt::{self, Display, Formatter};
 
+/// The beginning of a poster, up to its title.
+const HEAD: &str =
+    "<svg xmlns=\"http://www.w3.org/2000/svg\" width=\"297mm\" height=\"420mm\" viewBox=\"0 0 297 420\">\n<title>";
+
 /// The poster's style: that of a light page, without rules that readers of SVG don't know.
 const STYLE: &str =
     "text{font:2.2px ui-monospace,Menlo,Consolas,\"DejaVu Sans Mono\",monospace;fill:#222}.paper{fill:#fbfaf7}\
@@ -36,6 +40,16 @@ const STYLE: &str =
     .c8 .s{stroke:#07066f}.c9{stroke:#5d0476}.c9 .s{stroke:#330241}.c10{stroke:#630a00}.c10 .s{stroke:#360600}\
     .c11{stroke:#041c33}.c11 .s{stroke:#020f1c}";
 
+/// The end of the style, the paper, and the beginning of the disk's name above the drawing.
+const PAPER: &str = "</style>\n<clipPath id=\"n\"><rect width=\"22\" height=\"3\"/></clipPath>\n\
+    <rect class=\"paper\" width=\"297\" height=\"420\"/>\n<text class=\"name\" x=\"148.5\" y=\"24\">";
+
+/// The beginning of the drawing, up to the disk's name in its middle.
+const DRAWING: &str =
+    "</text>\n<svg x=\"23.5\" y=\"44\" width=\"250\" height=\"250\" viewBox=\"-36600 -36600 73200 73200\">\n\
+    <svg x=\"-6900\" y=\"-1200\" width=\"13800\" height=\"2400\" viewBox=\"-6900 -1200 13800 2400\">\
+    <text class=\"hub\" y=\"400\">";
+
 /// The end of the poster.
 pub(crate) const END: &str = "</svg>\n";
 
@@ -51,11 +65,7 @@ impl Display for Head<'_> {
         let (name, signs) = (Html(bytes), Petscii(bytes));
         write!(
             f,
-            "<svg xmlns=\"http://www.w3.org/2000/svg\" width=\"297mm\" height=\"420mm\" viewBox=\"0 0 297 420\">\n\
-            <title>{name}</title>\n<style>{STYLE}{DASHES}</style>\n\
-            <clipPath id=\"n\"><rect width=\"22\" height=\"3\"/></clipPath>\n\
-            <rect class=\"paper\" width=\"297\" height=\"420\"/>\n\
-            <text class=\"name\" x=\"148.5\" y=\"24\">{name}</text>\n\
+            "{HEAD}{name}</title>\n<style>{STYLE}{DASHES}{PAPER}{name}</text>\n\
             <text class=\"told\" x=\"148.5\" y=\"33\"><tspan>{signs}</tspan> 1541 disk, id "
         )
     }
@@ -82,10 +92,8 @@ impl Display for Heading<'_> {
         };
         write!(
             f,
-            "{} {}</text>\n<text class=\"told\" x=\"148.5\" y=\"40\">{summary}</text>\n\
-            <svg x=\"23.5\" y=\"44\" width=\"250\" height=\"250\" viewBox=\"-36600 -36600 73200 73200\">\n\
-            <svg x=\"-6900\" y=\"-1200\" width=\"13800\" height=\"2400\" viewBox=\"-6900 -1200 13800 2400\">\
-            <text class=\"hub\" y=\"400\">{}</text></svg>\n<g transform=\"rotate(-90)\">\n",
+            "{} {}</text>\n<text class=\"told\" x=\"148.5\" y=\"40\">{summary}{DRAWING}{}</text></svg>\n\
+            <g transform=\"rotate(-90)\">\n",
             Html(view.id()),
             Html(view.version()),
             Html(disk_name(map))

@@ -8,6 +8,7 @@ ghost use Rattle.disk_pictures.specs.Tiles.{IsTilePrinted, found_status as statu
 ghost use Rattle.command_faults.specs.declared.faults.CommandFault.TheVariants as faults;
 
 use crate::html::Html;
+use crate::pages::page::HEAD;
 use crate::sheets::tiles::print_tile;
 use crate::verdicts::judged;
 use command_faults::{CommandFault, flush, print_text};
@@ -71,9 +72,7 @@ impl Display for Head {
         let count = self.0;
         write!(
             f,
-            "<!DOCTYPE html>\n<html lang=\"en\">\n<meta charset=\"utf-8\">\n\
-            <meta name=\"viewport\" content=\"width=device-width,initial-scale=1\">\n<title>Disks: {count}</title>\n\
-            <style>{STYLE}</style>\n<h1>Disks: {count}</h1>\n<main>\n"
+            "{HEAD}Disks: {count}</title>\n<style>{STYLE}</style>\n<h1>Disks: {count}</h1>\n<main>\n"
         )
     }
 }

@@ -9,7 +9,7 @@ use Rattle.disk_pictures.specs.ComparedPages.{parts_text, row_end}
 use Rattle.disk_pictures.specs.Comparisons.{Disk, are_bytes_changed, are_sectors_changed, counterpart, is_entry_changed}
 use Rattle.disk_pictures.specs.Html.{Show}
 use Rattle.damaged_files.specs.reached.Names.{disk_name, name_of}
-use Rattle.disk_pictures.specs.Pictures.{look}
+use Rattle.disk_pictures.specs.Pictures.{look, tracks}
 use Rattle.disk_pictures.proofs.lemmas.pages.PageMarkup.{IsSameMarkup, alike, before, behind, both, each, on-drawing, on-link, on-title}
 use Rattle.disk_pictures.proofs.lemmas.pages.PageMarkup.{on-told, where-so}
 
@@ -18,9 +18,10 @@ module _ (f g : Show) (same : (bytes : List ℕ) → IsSameMarkup (f bytes) (g b
   on-compared : (a b : Disk) → IsSameMarkup (compared_text f a b) (compared_text g a b)
   unfolding compared_text
   on-compared a b =
-      behind compared_head _ _ (both (f b.path) (g b.path) _ _ (same b.path) (behind (codes "</b> compared with <b>") _ _
+      behind tracks _ _ (behind compared_head _ _ (both (f b.path) (g b.path) _ _ (same b.path)
+      (behind (codes "</b> compared with <b>") _ _
       (both (f a.path) (g a.path) _ _ (same a.path) (behind (codes "</b>, ") _ _
-      (before (f (disk_name a.map)) (g (disk_name a.map)) _ (same (disk_name a.map)))))))
+      (before (f (disk_name a.map)) (g (disk_name a.map)) _ (same (disk_name a.map))))))))
 
   on-head : (k : ℕ) (d : File) (state parts : List ℕ)
       → IsSameMarkup (entry_head f s k d state parts) (entry_head g u k d state parts)

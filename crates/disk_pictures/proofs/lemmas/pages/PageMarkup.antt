@@ -11,9 +11,9 @@ use Rattle.disk_pictures.specs.Html.{Show}
 use Rattle.disk_pictures.specs.Drawings.{owner_of}
 use Rattle.disk_pictures.specs.Markup.{is_markup, markup_of}
 use Rattle.damaged_files.specs.reached.Names.{disk_name, name_of}
-use Rattle.disk_pictures.specs.Pictures.{block_arc, dashes, drawing_text, file_group, group_head, look}
-use Rattle.disk_pictures.specs.Pictures.{is_blocks, is_sides, legend_text, link_text, own_block, own_side, page_text}
-use Rattle.disk_pictures.specs.Pictures.{ring_of, row_text, side_arc, style, title_text, told_text, verdict_class}
+use Rattle.disk_pictures.specs.Pictures.{block_arc, dashes, drawing_head, drawing_text, file_group, group_head, look}
+use Rattle.disk_pictures.specs.Pictures.{is_blocks, is_sides, legend_text, link_text, own_block, own_side, page_head, page_text}
+use Rattle.disk_pictures.specs.Pictures.{ring_of, row_text, side_arc, style, title_text, told_text, tracks, verdict_class}
 use Rattle.disk_pictures.specs.Sentences.{also_text, fault_sentence, named, owner_named, owners_of, sentence_text}
 use Rattle.disk_pictures.specs.Sentences.{shared_text, sound_text, summary_text}
 use Rattle.disk_pictures.specs.Texts.{numbered, verdict_text}
@@ -129,7 +129,7 @@ module _ (f g : Show) (same : (bytes : List ℕ) → IsSameMarkup (f bytes) (g b
       both (f id) (g id) _ _ (same id) (behind (codes " ") _ _ (both (f version) (g version) _ _ (same version)
       (behind (codes "</p>\n<p class=\"") _ _ (behind (verdict_class v) _ _ (behind (codes "\"><b>") _ _
       (behind (verdict_text v) _ _ (behind (codes "</b> ") _ _ (both _ _ _ _ (on-summary v map l)
-      (behind (codes "</p>\n<main>\n<svg viewBox=\"-36600 -36600 73200 73200\" role=\"img\" aria-label=\"The disk as 35 rings of sectors, each in the colour of its file; the table lists the files\">\n<svg x=\"-6900\" y=\"-1200\" width=\"13800\" height=\"2400\" viewBox=\"-6900 -1200 13800 2400\"><text y=\"400\">") _ _
+      (behind drawing_head _ _
       (before (f name) (g name) (codes "</text></svg>\n<g transform=\"rotate(-90)\" aria-hidden=\"true\">\n") (same name)))))))))))
 
 -- the parts with names as a C64 shows them
@@ -139,7 +139,7 @@ module _ (f g : Show) (same : (bytes : List ℕ) → IsSameMarkup (f bytes) (g b
   unfolding title_text
   on-title map =
       let name = disk_name map in
-      behind (codes "<!DOCTYPE html>\n<html lang=\"en\">\n<meta charset=\"utf-8\">\n<meta name=\"viewport\" content=\"width=device-width,initial-scale=1\">\n<title>") _ _
+      behind page_head _ _
       (both (f name) (g name) _ _ (same name)
       (behind (codes "</title>\n<style>") _ _ (behind style _ _ (behind dashes _ _ (behind (codes "</style>\n<h1>") _ _
       (both (f name) (g name) _ _ (same name)
@@ -165,4 +165,4 @@ module _ (f g : Show) (same : (bytes : List ℕ) → IsSameMarkup (f bytes) (g b
   unfolding page_text
   on-page v map l = both _ _ _ _ (on-title map) (both _ _ _ _ (on-told f g same v map l)
       (both _ _ _ _ (on-drawing f g same v.found map l)
-      (behind legend_text _ _ (before _ _ _ (each (row_text f s) (row_text g u) on-row 0 l.files)))))
+      (behind tracks _ _ (behind legend_text _ _ (before _ _ _ (each (row_text f s) (row_text g u) on-row 0 l.files))))))

@@ -8,7 +8,8 @@ use Rattle.disk_pictures.specs.Html.{Show}
 use Rattle.damaged_files.specs.reached.Names.{disk_name, name_of}
 use Rattle.disk_pictures.specs.Pictures.{dashes}
 use Rattle.disk_pictures.specs.Legends.{legend_of, poster_legend}
-use Rattle.disk_pictures.specs.Posters.{line_start, poster_head, poster_line, poster_style, poster_text, poster_told}
+use Rattle.disk_pictures.specs.Posters.{line_start, paper, poster_begin, poster_drawing, poster_head, poster_line, poster_style, poster_text}
+use Rattle.disk_pictures.specs.Posters.{poster_told}
 use Rattle.disk_pictures.specs.declared.verdicts.Verdict.{Verdict}
 use Rattle.damaged_files.specs.reached.Types.{type_text}
 use Rattle.disk_pictures.proofs.lemmas.pages.PageMarkup.{IsSameMarkup, before, behind, both, each, on-drawing, on-summary}
@@ -19,10 +20,10 @@ module _ (f g : Show) (same : (bytes : List ℕ) → IsSameMarkup (f bytes) (g b
   unfolding poster_head
   on-head map =
       let name = disk_name map in
-      behind (codes "<svg xmlns=\"http://www.w3.org/2000/svg\" width=\"297mm\" height=\"420mm\" viewBox=\"0 0 297 420\">\n<title>") _ _
+      behind poster_begin _ _
       (both (f name) (g name) _ _ (same name)
       (behind (codes "</title>\n<style>") _ _ (behind poster_style _ _ (behind dashes _ _
-      (behind (codes "</style>\n<clipPath id=\"n\"><rect width=\"22\" height=\"3\"/></clipPath>\n<rect class=\"paper\" width=\"297\" height=\"420\"/>\n<text class=\"name\" x=\"148.5\" y=\"24\">") _ _
+      (behind paper _ _
       (both (f name) (g name) _ _ (same name)
       (behind (codes "</text>\n<text class=\"told\" x=\"148.5\" y=\"33\"><tspan>") _ _
       (before (s name) (u name) _ (alike-signs name)))))))))
@@ -36,7 +37,7 @@ module _ (f g : Show) (same : (bytes : List ℕ) → IsSameMarkup (f bytes) (g b
       both (f id) (g id) _ _ (same id) (behind (codes " ") _ _ (both (f version) (g version) _ _ (same version)
       (behind (codes "</text>\n<text class=\"told\" x=\"148.5\" y=\"40\">") _ _
       (both _ _ _ _ (on-summary f g same v map l)
-      (behind (codes "</text>\n<svg x=\"23.5\" y=\"44\" width=\"250\" height=\"250\" viewBox=\"-36600 -36600 73200 73200\">\n<svg x=\"-6900\" y=\"-1200\" width=\"13800\" height=\"2400\" viewBox=\"-6900 -1200 13800 2400\"><text class=\"hub\" y=\"400\">") _ _
+      (behind poster_drawing _ _
       (before (f name) (g name) _ (same name)))))))
 
   on-line : (n k : ℕ) (d : File) → IsSameMarkup (poster_line f s n k d) (poster_line g u n k d)

@@ -1,13 +1,16 @@
 -- The disk's id and version, and what a check told.
+use Rattle.std.proofs.Common.{refl}
 use Rattle.std.proofs.Output.{has_written_of_eq}
-use Rattle.disk_pictures.proofs.Told.{told-written}
-use Rattle.disk_pictures.specs.Held.{drawn_in}
+use Rattle.disk_pictures.specs.Pictures.{drawing_head, told_text}
 use Rattle.disk_pictures.proofs.pages.page.ToldDisplay.fmt.Goals as goal
 
 pub returns-clause-writes : goal.returns-clause-writes
+unfolding drawing_head told_text
 returns-clause-writes g c = λ plain done. has_written_of_eq _ _ _ _ _
-    (told-written c.args.self.now.verdict c.args.self.now.drawing.now.map (drawn_in c.args.self.now.drawing.now)
-    c.id.result.now c.version.result.now c.class_of.result.now c.disk_name.result.now
-    (rw c.new-view.ensures at c.id.ensures) (rw c.new-view.ensures at c.version.ensures)
-    c.class_of.ensures c.disk_name.ensures)
+    (rw (
+      (rw c.new-view.ensures at c.id.ensures),
+      (rw c.new-view.ensures at c.version.ensures),
+      c.class_of.ensures,
+      c.disk_name.ensures,
+    ) refl)
     (c.write.ensures.writes plain done)
