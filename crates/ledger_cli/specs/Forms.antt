@@ -96,9 +96,3 @@ unowned_in rows = if is_given (codes "free") rows then unowneds.Freed else unown
 -- whether it writes the image: it does, but with --dry-run it only prints
 abbrev pub effect_in : List Row → Effect
 effect_in rows = if is_given (codes "dry-run") rows then effects.Printed else effects.Written
-
--- the job that repairs an image: with --sides its side sectors are built anew first
-abbrev pub repair_job : List Row → Bor Text → Job
-repair_job rows image =
-    jobs.Change image (effect_in rows) (loss_in rows) (if is_given (codes "sides") rows then kinds.RepairSides (unowned_in rows)
-    else kinds.Repair (unowned_in rows))

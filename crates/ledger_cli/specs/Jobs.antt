@@ -1,5 +1,5 @@
 -- What the words of a command line ask for (our own).
-use Rattle.std.specs.Prelude.{◌≡◌, ◌⊎◌, ◌||◌, ⊤, Bool, true, false, List, Option, Some, None, Result, Err, [], codes}
+use Rattle.std.specs.Prelude.{◌≡◌, ◌⊎◌, ◌||◌, ⊤, Bool, true, false, List, MatchResult, Option, Some, None, Result, Err, [], ◌∷◌, codes}
 use Rattle.std.specs.Prelude.{length, vec_items}
 use Rattle.std.specs.Option.{option_map_or}
 use Rattle.clap.specs.Words.{HasKind, Kinds, Row, Text, found_of, rows_of, subcommand_rows_of}
@@ -7,16 +7,18 @@ use Rattle.clap.specs.declared.parser.matches.ArgMatches.{ArgMatches}
 use Rattle.command_table.specs.Grammar.{value}
 use Rattle.disk_changes.specs.declared.changes.ChangeKind.{ChangeKind}
 use Rattle.disk_changes.specs.declared.changes.ChangeKind.TheVariants as kinds
+use Rattle.disk_changes.specs.declared.changes.Lock.{Lock}
 use Rattle.disk_changes.specs.declared.changes.Lock.TheVariants.{Cleared, Set}
 use Rattle.file_changes.specs.NewNames.{IsNewName}
+use Rattle.ledger_jobs.specs.Jobs.{IsFit}
 use Rattle.ledger_jobs.specs.declared.jobs.Job.{Job}
 use Rattle.file_changes.specs.Names.{IsNameOf, name_bytes}
 use Rattle.ledger_cli.specs.declared.faults.JobFault.{JobFault}
 use Rattle.ledger_cli.specs.Numbers.{tills_in, length_in, place_in}
 use Rattle.ledger_cli.specs.Forms.{AreColumns, choice_in, effect_in, loss_in, unowned_in}
-use Rattle.ledger_cli.specs.Images.{AreCompared, AreImages, AreOnSheet, ArePlanned, AreShown, AreTabled, IsNoPicture}
+use Rattle.ledger_cli.specs.Images.{AreCompared, AreImages, AreOnSheet, ArePlanned, AreShown, AreTabled, is_no_picture}
 use Rattle.ledger_cli.specs.Looks.{IsAlone, IsAskedBy, IsObjectAsked, object_word, word_of}
-use Rattle.ledger_cli.specs.Names.{HasNoName, HasNoNewName, HasName, HasNewName, IsIdOf, HasNoId, HasNoFileCopying, HasNoRenaming, copy_name, entry_type_in, type_in}
+use Rattle.ledger_cli.specs.Names.{IsIdOf, IsName, IsNameMissing, IsNewNameText, IsNoId, copy_name, entry_type_in, is_among, names_in, type_in}
 use Rattle.ledger_cli.specs.Flags.{is_given}
 use Rattle.ledger_cli.specs.Positions.{HasNoColumns}
 use Rattle.ledger_jobs.specs.declared.jobs.Job.TheVariants as jobs
@@ -37,6 +39,11 @@ pub record IsParse (kinds : Kinds) (top : List Row) (found : Option (Text × Lis
     pub before : rows_of (found_of matches) ≡ top
     pub is : subcommand_rows_of matches ≡ found
 
+-- the subcommand that locks a file, or unlocks it
+abbrev pub lock_word : Lock → Text
+lock_word Set = codes "lock"
+lock_word Cleared = codes "unlock"
+
 -- the subcommand that changes an image so
 abbrev pub word_of_change : ChangeKind → Text
 word_of_change (kinds.Repair unowned) = codes "repair"
@@ -44,8 +51,7 @@ word_of_change (kinds.RepairSides unowned) = codes "repair"
 word_of_change (kinds.Make length name) = codes "make"
 word_of_change (kinds.Rename from to) = codes "rename"
 word_of_change (kinds.Title id name) = codes "title"
-word_of_change (kinds.Lock Set name) = codes "lock"
-word_of_change (kinds.Lock Cleared name) = codes "unlock"
+word_of_change (kinds.Lock lock name) = lock_word lock
 word_of_change (kinds.Delete name) = codes "delete"
 word_of_change (kinds.Undelete kind name) = codes "undelete"
 word_of_change kinds.Sort = codes "sort"
@@ -129,22 +135,24 @@ IsJob found (jobs.New image name id) = Has found (codes "new")
     (λ rows. (image.now ≡ value (codes "IMAGE") rows) × IsNameOf (value (codes "NAME") rows) (name_bytes name)
     × IsIdOf (value (codes "ID") rows) id)
 
--- the text of a name is none that the subcommand takes
-abbrev pub IsRefusedName : Option (Text × List Row) → Type 0
-IsRefusedName found =
-    (Has found (codes "records") (HasNoName (codes "NAME")) ⊎ (Has found (codes "bytes") (HasNoName (codes "NAME"))
-    ⊎ (Has found (codes "basic") (HasNoName (codes "NAME")) ⊎ Has found (codes "copy-file") HasNoFileCopying)))
-    ⊎ (Has found (codes "store") (HasNoName (codes "NAME")) ⊎ (Has found (codes "make") (HasNoNewName (codes "NAME"))
-    ⊎ (Has found (codes "delete") (HasNoName (codes "NAME")) ⊎ (Has found (codes "rename") HasNoRenaming
-    ⊎ (Has found (codes "new") (HasNoName (codes "NAME")) ⊎ (Has found (codes "put") (HasNoNewName (codes "NAME"))
-    ⊎ (Has found (codes "title") (HasNoName (codes "NAME"))
-    ⊎ (Has found (codes "lock") (HasNoName (codes "NAME")) ⊎ (Has found (codes "unlock") (HasNoName (codes "NAME"))
-    ⊎ Has found (codes "undelete") (HasNoName (codes "NAME")))))))))))
+-- the subcommand is one of these, and of its values this holds
+pub record HasAny (found : Option (Text × List Row)) (words : List Text) (P : List Row → Type 0) : Type 0 where
+  pub word : Text
+  pub rows : List Row
+  pub is : found ≡ Some (word, rows)
+  pub listed : is_among words word ≡ true
+  pub holds : P rows
+
+-- a text that the subcommand takes for a name is none
+pub record IsRefusedName (found : Option (Text × List Row)) : Type 0 where
+  pub word : Text
+  pub rows : List Row
+  pub is : found ≡ Some (word, rows)
+  pub missing : IsNameMissing (names_in word rows)
 
 -- the subcommand has columns, and its words give none
 abbrev pub AreRefusedColumns : Option (Text × List Row) → JobFault → Type 0
-AreRefusedColumns found fault = Has found (codes "records") (λ rows. HasNoColumns rows fault)
-    ⊎ Has found (codes "store") (λ rows. HasNoColumns rows fault)
+AreRefusedColumns found fault = HasAny found (codes "records" ∷ codes "store" ∷ []) (λ rows. HasNoColumns rows fault)
 
 -- why there is none: the words are refused for one of these kinds, or memory ran out. Or the number of tills, a name, the
 -- length of a record, the sector, the ID of a disk, the type of a file or a list of positions isn't valid, or two flags
@@ -153,15 +161,20 @@ abbrev pub IsNoJob : Kinds → Option (Text × List Row) → JobFault → Type 0
 IsNoJob kinds found (faults.Words e) = HasKind kinds e
 IsNoJob kinds found faults.Tills = (kinds ≡ []) × Has found (codes "format") (λ rows. tills_in rows ≡ None)
 IsNoJob kinds found faults.Name = (kinds ≡ []) × IsRefusedName found
-IsNoJob kinds found faults.Length =
-    (kinds ≡ []) × Has found (codes "make") (λ rows. HasNewName (codes "NAME") rows × (length_in rows ≡ None))
+IsNoJob kinds found faults.Length = (kinds ≡ []) × Has found (codes "make")
+    (λ rows. IsNewNameText (value (codes "NAME") rows) × (length_in rows ≡ None))
 IsNoJob kinds found faults.Sector = (kinds ≡ []) × Has found (codes "sector") (λ rows. place_in rows ≡ None)
-IsNoJob kinds found faults.Images = (kinds ≡ []) × Has found (codes "picture") IsNoPicture
-IsNoJob kinds found faults.Id = (kinds ≡ []) × (Has found (codes "new") (λ rows. HasName (codes "NAME") rows × HasNoId rows)
-    ⊎ Has found (codes "title") (λ rows. HasName (codes "NAME") rows × HasNoId rows))
-IsNoJob kinds found faults.Kind =
-    (kinds ≡ []) × (Has found (codes "put") (λ rows. HasNewName (codes "NAME") rows × (type_in rows ≡ None))
+IsNoJob kinds found faults.Images = (kinds ≡ []) × Has found (codes "picture") (λ rows. is_no_picture rows ≡ true)
+IsNoJob kinds found faults.Id = (kinds ≡ []) × HasAny found (codes "new" ∷ codes "title" ∷ [])
+    (λ rows. IsName (value (codes "NAME") rows) × IsNoId (value (codes "ID") rows))
+IsNoJob kinds found faults.Kind = (kinds ≡ [])
+    × (Has found (codes "put") (λ rows. IsNewNameText (value (codes "NAME") rows) × (type_in rows ≡ None))
     ⊎ Has found (codes "undelete") (λ rows. entry_type_in rows ≡ None))
 IsNoJob kinds found faults.Flags = (kinds ≡ []) × AreRefusedColumns found faults.Flags
 IsNoJob kinds found faults.Positions = (kinds ≡ []) × AreRefusedColumns found faults.Positions
 IsNoJob kinds found faults.Path = ⊥
+
+-- what a subcommand with these values asks for: a job, or none
+abbrev pub IsRead : (word : Text) → List Row → Result Job JobFault → Type 0
+IsRead word rows result =
+    MatchResult result (λ job. IsJob (Some (word, rows)) job × IsFit job) (IsNoJob [] (Some (word, rows)))

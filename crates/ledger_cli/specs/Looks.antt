@@ -46,18 +46,6 @@ alone disks.Check = looks.Check
 alone disks.Faults = looks.Faults
 alone (disks.Show loss) = looks.Show loss
 
--- this look at a disk: at one alone, but with --as-is at the one in an image as that is
-abbrev pub disk_look_in : DiskLook → List Row → Look
-disk_look_in what rows = if is_given (codes "as-is") rows then looks.AsIs what else alone what
-
--- which faults the flags ask for: the first, but with --all all of them
-abbrev pub faults_in : List Row → DiskLook
-faults_in rows = if is_given (codes "all") rows then disks.Faults else disks.Check
-
--- the same, of a disk alone or of the one in an image
-abbrev pub check_in : List Row → Look
-check_in rows = disk_look_in (faults_in rows) rows
-
 -- how a plan is to be printed: in lines, unless --json or --csv is given; --json wins over --csv
 abbrev pub plan_in : List Row → PlanForm
 plan_in rows =

@@ -1,18 +1,17 @@
 //! The IDs of disks that the words give.
-ghost use Rattle.std.specs.Prelude.{ℕ, IfSome, IsNone, List};
-ghost use Rattle.ledger_cli.specs.Names.{IsIdOf};
-ghost use Rattle.line_text.specs.bytes.Texts.{AreBytes};
+ghost use Rattle.std.specs.Prelude.{◌≡◌, MatchResult};
+ghost use Rattle.ledger_cli.specs.Names.{IsIdOf, IsNoId};
+ghost use Rattle.ledger_cli.specs.declared.faults.JobFault.TheVariants as faults;
 
+use crate::faults::JobFault;
 use line_text::read_text;
 
-/// The ID of a disk that has this text: two bytes, typed as those of a name are.
-pub(crate) fn id_of(text: &str) -> Option<[u8; 2]>
-    ensures found { IfSome result (λ id. IsIdOf text.now id) }
-    ensures none { IsNone result → (bytes : List ℕ) → AreBytes bytes → ¬ (IsIdOf text.now bytes) }
+/// The ID of a disk that has this text: two bytes, typed as those of a name are. `Id` if the text is that of no two bytes.
+pub(crate) fn id_of(text: &str) -> Result<[u8; 2], JobFault>
+    ensures { MatchResult result (λ id. IsIdOf text.now id) (λ fault. (fault ≡ faults.Id) × IsNoId text.now) }
 {
-    let bytes = read_text(text.as_bytes())?;
-    if bytes.len() != 2 {
-        return None;
+    match read_text(text.as_bytes()) {
+        Some(bytes) if bytes.len() == 2 => Ok([bytes[0], bytes[1]]),
+        _ => Err(JobFault::Id),
     }
-    Some([bytes[0], bytes[1]])
 }

@@ -2,21 +2,20 @@
 ghost use Rattle.std.specs.Prelude.{◌≡◌};
 ghost use Rattle.clap.specs.Words.{found_of, rows_of};
 ghost use Rattle.ledger_cli.specs.Forms.{record_form as of_set};
-ghost use Rattle.ledger_cli.specs.Forms.{effect_in, loss_in, repair_job, unowned_in};
+ghost use Rattle.ledger_cli.specs.Forms.{effect_in, loss_in, unowned_in};
 ghost use Rattle.ledger_cli.specs.Forms.{AreAskedColumns, IsAskedForm, byte_form_in, name_form_in, set_in};
 ghost use Rattle.ledger_cli.specs.Forms.{candidates_in, choice_in};
-ghost use Rattle.ledger_cli.specs.Looks.{alone as alone_look, check_in, disk_look_in, faults_in};
+ghost use Rattle.ledger_cli.specs.Looks.{alone as alone_look, plan_in};
 
 use crate::faults::JobFault;
 use crate::positions::columns_asked;
 use crate::values::is_given;
 use clap::ArgMatches;
-use disk_changes::{ChangeKind, Columns, Unowned};
-use disk_reports::NameForm;
+use disk_changes::{Columns, Unowned};
+use disk_reports::{NameForm, PlanForm};
 use file_rescues::{ByteForm, Candidates, Choice, RecordForm};
 use image_edits::Effect;
 use image_looks::{DiskLook, Look};
-use ledger_jobs::Job;
 use line_text::CharacterSet;
 use opened_files::Loss;
 
@@ -32,7 +31,7 @@ pub(crate) fn loss<'a>(matches: &ArgMatches<'a>) -> Loss
 }
 
 /// What a repair does with sectors that are taken and no file's.
-fn unowned<'a>(matches: &ArgMatches<'a>) -> Unowned
+pub(crate) fn unowned<'a>(matches: &ArgMatches<'a>) -> Unowned
     ensures { result ≡ unowned_in (rows_of (found_of matches.now)) }
 {
     if is_given(matches, "free") {
@@ -50,24 +49,6 @@ pub(crate) fn effect<'a>(matches: &ArgMatches<'a>) -> Effect
         Effect::Printed
     } else {
         Effect::Written
-    }
-}
-
-/// The job that repairs an image.
-pub(crate) fn repairing<'a>(matches: &ArgMatches<'a>, image: &'a str) -> Job<'a>
-    ensures { result ≡ repair_job (rows_of (found_of matches.now)) image.entry }
-{
-    let unowned = unowned(matches);
-    let kind = if is_given(matches, "sides") {
-        ChangeKind::RepairSides { unowned }
-    } else {
-        ChangeKind::Repair { unowned }
-    };
-    Job::Change {
-        image,
-        effect: effect(matches),
-        loss: loss(matches),
-        kind,
     }
 }
 
@@ -148,7 +129,7 @@ pub(crate) fn choice<'a>(matches: &ArgMatches<'a>) -> Choice
 }
 
 /// What is printed of a disk alone.
-fn alone(what: DiskLook) -> Look
+pub(crate) fn alone(what: DiskLook) -> Look
     ensures { result ≡ alone_look what }
 {
     match what {
@@ -159,35 +140,6 @@ fn alone(what: DiskLook) -> Look
     }
 }
 
-/// The same of a disk alone, or of the one in an image as that is.
-pub(crate) fn disk_look<'a>(matches: &ArgMatches<'a>, what: DiskLook) -> Look
-    ensures { result ≡ disk_look_in what (rows_of (found_of matches.now)) }
-{
-    if is_given(matches, "as-is") {
-        Look::AsIs(what)
-    } else {
-        alone(what)
-    }
-}
-
-/// Which faults of a disk are printed.
-fn faults<'a>(matches: &ArgMatches<'a>) -> DiskLook
-    ensures { result ≡ faults_in (rows_of (found_of matches.now)) }
-{
-    if is_given(matches, "all") {
-        DiskLook::Faults
-    } else {
-        DiskLook::Check
-    }
-}
-
-/// Which faults are printed, and of which images.
-pub(crate) fn checked<'a>(matches: &ArgMatches<'a>) -> Look
-    ensures { result ≡ check_in (rows_of (found_of matches.now)) }
-{
-    disk_look(matches, faults(matches))
-}
-
 /// How names of a disk are printed.
 pub(crate) fn name_form<'a>(matches: &ArgMatches<'a>) -> NameForm
     ensures { result ≡ name_form_in (rows_of (found_of matches.now)) }
@@ -195,5 +147,18 @@ pub(crate) fn name_form<'a>(matches: &ArgMatches<'a>) -> NameForm
     match text_set(matches) {
         Some(set) => NameForm::Text(set),
         None => NameForm::Ascii,
+    }
+}
+
+/// How a plan is to be printed.
+pub(crate) fn plan_form<'a>(matches: &ArgMatches<'a>) -> PlanForm
+    ensures { result ≡ plan_in (rows_of (found_of matches.now)) }
+{
+    if is_given(matches, "json") {
+        PlanForm::Json
+    } else if is_given(matches, "csv") {
+        PlanForm::Csv
+    } else {
+        PlanForm::Lines
     }
 }

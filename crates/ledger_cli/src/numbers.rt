@@ -1,31 +1,33 @@
 //! The numbers that the words give.
-ghost use Rattle.std.specs.Prelude.{◌≡◌, ◌≤◌, IfSome};
+ghost use Rattle.std.specs.Prelude.{◌≡◌, ◌≤◌, MatchResult, None, Some};
 ghost use Rattle.line_text.specs.Numbers.{number_in};
 ghost use Rattle.rel_records.specs.File.{IsLength};
 ghost use Rattle.ledger_cli.specs.Numbers.{place_if_both, spelled_place};
+ghost use Rattle.ledger_cli.specs.declared.faults.JobFault.TheVariants as faults;
 
+use crate::faults::JobFault;
 use d64_image::Place;
 use line_text::number;
 
-/// The number of tills that a text spells: 1 to 64, in decimal digits without leading zeros.
-pub(crate) fn tills_of(text: &str) -> Option<u8>
-    ensures exact { result ≡ number_in 1 64 text.now }
-    ensures range { IfSome result (λ tills. (1 ≤ tills) × (tills ≤ 64)) }
+/// The number of tills that a text spells: 1 to 64, in decimal digits without leading zeros. `Tills` if it spells none.
+pub(crate) fn tills_of(text: &str) -> Result<u8, JobFault>
+    ensures { MatchResult result (λ tills. (number_in 1 64 text.now ≡ Some tills) × (1 ≤ tills) × (tills ≤ 64))
+        (λ fault. (fault ≡ faults.Tills) × (number_in 1 64 text.now ≡ None)) }
 {
     match number(text.as_bytes(), 1, 64) {
-        Some(tills) => Some(tills as u8),
-        None => None,
+        Some(tills) => Ok(tills as u8),
+        None => Err(JobFault::Tills),
     }
 }
 
-/// The length of a record that a text spells: 1 to 254, in decimal digits without leading zeros.
-pub(crate) fn length_of(text: &str) -> Option<u8>
-    ensures exact { result ≡ number_in 1 254 text.now }
-    ensures range { IfSome result IsLength }
+/// The length of a record that a text spells: 1 to 254, in decimal digits without leading zeros. `Length` if it spells none.
+pub(crate) fn length_of(text: &str) -> Result<u8, JobFault>
+    ensures { MatchResult result (λ length. (number_in 1 254 text.now ≡ Some length) × IsLength length)
+        (λ fault. (fault ≡ faults.Length) × (number_in 1 254 text.now ≡ None)) }
 {
     match number(text.as_bytes(), 1, 254) {
-        Some(length) => Some(length as u8),
-        None => None,
+        Some(length) => Ok(length as u8),
+        None => Err(JobFault::Length),
     }
 }
 
@@ -62,12 +64,23 @@ fn place_with(first: &str, second: &str) -> Option<Place>
     Place::new(track, sector)
 }
 
-/// The sector that a text names: its track, a slash and its number on that track, such as 17/4.
-pub(crate) fn place_of(text: &str) -> Option<Place>
+/// The sector that a text names: its track, a slash and its number on that track.
+fn place_named(text: &str) -> Option<Place>
     ensures { result ≡ spelled_place text.now }
 {
     let Some((track, sector)) = text.split_once('/') else {
         return None;
     };
     place_with(track, sector)
+}
+
+/// The sector that a text names, such as 17/4. `Sector` if the text is that of no sector of a disk.
+pub(crate) fn place_of(text: &str) -> Result<Place, JobFault>
+    ensures { MatchResult result (λ place. spelled_place text.now ≡ Some place)
+        (λ fault. (fault ≡ faults.Sector) × (spelled_place text.now ≡ None)) }
+{
+    match place_named(text) {
+        Some(place) => Ok(place),
+        None => Err(JobFault::Sector),
+    }
 }

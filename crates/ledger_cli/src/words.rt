@@ -5,97 +5,66 @@ ghost use Rattle.command_table.specs.Grammar.{ledger};
 ghost use Rattle.ledger_jobs.specs.Jobs.{IsFit};
 ghost use Rattle.ledger_cli.specs.Jobs.{IsHeard, IsJob, IsNoJob, IsParse, is_explained as explained};
 
-use crate::faults::JobFault;
-use crate::file_copies::copying_file;
-use crate::file_types::entry_type_named;
-use crate::forms::{byte_form, choice, disk_look, loss, name_form, repairing};
-use crate::images::{checking, picturing, planning, showing, viewing};
-use crate::names::{
-    deleting, empty_disk, locking, making, putting, renaming, sorting, storing, taking_file,
-    taking_records, titling, undeleting,
+use crate::change_jobs::{
+    copy_file_job, delete_job, lock_job, make_job, put_job, rename_job, repair_job, sort_job,
+    store_job, title_job, undelete_job,
 };
-use crate::numbers::{place_of, tills_of};
-use crate::shops::{copying, formatting, playing};
-use crate::values::{is_given, parsed_subcommand, value_of};
+use crate::faults::JobFault;
+use crate::image_jobs::{
+    copy_job, dry_job, extract_job, format_job, new_job, play_job, serve_job, trim_job,
+};
+use crate::look_jobs::{
+    basic_job, bytes_job, check_job, free_job, list_job, map_job, picture_job, plan_job,
+    records_job, sector_job, show_job,
+};
+use crate::values::{is_given, parsed_subcommand};
 use clap::{ArgMatches, Error};
 use command_table::ledger_command;
 use disk_changes::Lock;
-use file_rescues::FileForm;
-use image_looks::{DiskLook, ImageObject, Look};
 use ledger_jobs::Job;
 use std::alloc::{AllocError, Global};
 
 /// The job of the subcommand that was met.
 fn job_of<'a>(alloc: Global, matches: &ArgMatches<'a>) -> Result<Job<'a>, JobFault>
-    ensures job { MatchResult result (IsJob (subcommand_rows_of matches.now))
-        (IsNoJob [] (subcommand_rows_of matches.now)) }
-    ensures fit { IfOk result IsFit }
+    ensures { let found = subcommand_rows_of matches.now in
+        MatchResult result (λ job. IsJob found job × IsFit job) (IsNoJob [] found) }
 {
     let Some((name, found)) = parsed_subcommand(matches) else {
         // A parse without a subcommand is refused.
         return Err(JobFault::Words(Error::from(AllocError)));
     };
-    let image = value_of(found, "IMAGE");
-    let script = value_of(found, "SCRIPT");
     match name {
-        "format" => match tills_of(value_of(found, "TILLS")) {
-            Some(tills) => Ok(formatting(found, image, tills)),
-            None => Err(JobFault::Tills),
-        },
-        "list" => {
-            let what = disk_look(found, DiskLook::List(name_form(found)));
-            let as_is = is_given(found, "as-is");
-            showing(alloc, found, what, ImageObject::List { as_is })
-        }
-        "check" => checking(alloc, found),
-        "plan" => planning(alloc, found),
-        "show" => {
-            let (loss, as_is) = (loss(found), is_given(found, "as-is"));
-            let what = disk_look(found, DiskLook::Show(loss));
-            showing(alloc, found, what, ImageObject::Show { loss, as_is })
-        }
-        "play" => Ok(playing(found, image, script)),
-        "serve" => Ok(Job::Serve {
-            image,
-            loss: loss(found),
-        }),
-        "copy" => Ok(copying(found, image, value_of(found, "NEW"))),
-        "extract" => Ok(Job::Extract {
-            choice: choice(found),
-            image,
-            folder: value_of(found, "FOLDER"),
-        }),
-        "repair" => Ok(repairing(found, image)),
-        "records" => taking_records(found, image),
-        "bytes" => taking_file(found, FileForm::Bytes(byte_form(found)), image),
-        "basic" => taking_file(found, FileForm::Listing, image),
-        "make" => making(found, image),
-        "store" => storing(found, image),
-        "put" => putting(found, image),
-        "copy-file" => copying_file(found, image),
-        "rename" => renaming(found, image),
-        "title" => titling(found, image),
-        "lock" => locking(found, image, Lock::Set),
-        "unlock" => locking(found, image, Lock::Cleared),
-        "delete" => deleting(found, image),
-        "undelete" => match entry_type_named(value_of(found, "TYPE")) {
-            Some(kind) => undeleting(found, image, kind),
-            None => Err(JobFault::Kind),
-        },
-        "sort" => Ok(sorting(found, image)),
-        "new" => empty_disk(found, image),
-        "map" => showing(alloc, found, Look::Map, ImageObject::Map),
-        "picture" => picturing(alloc, found),
-        "dry" => Ok(Job::Dry { script }),
-        "free" => showing(alloc, found, Look::Free, ImageObject::Free),
-        "sector" => match place_of(value_of(found, "T/S")) {
-            Some(place) => Ok(Job::Look {
-                what: Look::Sector(place),
-                image,
-            }),
-            None => Err(JobFault::Sector),
-        },
-        "trim" => Ok(Job::Trim { image }),
+        "format" => format_job(found),
+        "list" => list_job(alloc, found),
+        "check" => check_job(alloc, found),
+        "plan" => plan_job(alloc, found),
+        "show" => show_job(alloc, found),
+        "play" => play_job(found),
+        "serve" => serve_job(found),
+        "copy" => copy_job(found),
+        "extract" => extract_job(found),
+        "repair" => repair_job(found),
+        "records" => records_job(found),
+        "bytes" => bytes_job(found),
+        "basic" => basic_job(found),
+        "make" => make_job(found),
+        "store" => store_job(found),
+        "put" => put_job(found),
+        "copy-file" => copy_file_job(found),
+        "rename" => rename_job(found),
+        "title" => title_job(found),
+        "lock" => lock_job(found, Lock::Set),
+        "unlock" => lock_job(found, Lock::Cleared),
+        "delete" => delete_job(found),
+        "undelete" => undelete_job(found),
+        "sort" => sort_job(found),
+        "new" => new_job(found),
+        "map" => map_job(alloc, found),
+        "picture" => picture_job(alloc, found),
+        "dry" => dry_job(found),
+        "free" => free_job(alloc, found),
+        "sector" => sector_job(found),
+        "trim" => trim_job(found),
         // No other subcommand can be met.
         _ => Err(JobFault::Words(Error::from(AllocError))),
     }

@@ -2,18 +2,18 @@
 use Rattle.std.proofs.Common.{ap₂, ◌∙◌}
 use Rattle.std.proofs.lemmas.Bool.{false≢true}
 use Rattle.ledger_cli.specs.Jobs.{is_explained}
-use Rattle.ledger_cli.proofs.Parses.{heard-as-asked, job-found, no-job-found}
+use Rattle.ledger_cli.proofs.Parses.{fit-found, heard-as-asked, job-found, no-job-found}
 use Rattle.ledger_cli.proofs.words.command_line.Goals as goal
 
 pub returns-in-Ok-clause-ok : goal.returns-in-Ok-clause-ok
-returns-in-Ok-clause-ok c = job-found _ _ _ c.job_of.result c.in-Ok.ensures.fine c.in-Ok.ensures.is c.job_of.ensures.job
+returns-in-Ok-clause-ok c = job-found _ _ _ c.job_of.result c.in-Ok.ensures.fine c.in-Ok.ensures.is c.job_of.ensures
 
 pub returns-in-Ok-clause-fit : goal.returns-in-Ok-clause-fit
-returns-in-Ok-clause-fit c = c.job_of.ensures.fit
+returns-in-Ok-clause-fit c = fit-found _ c.job_of.result c.job_of.ensures
 
 pub returns-in-Ok-clause-err : goal.returns-in-Ok-clause-err
 returns-in-Ok-clause-err c = no-job-found _ _ _ c.job_of.result c.in-Ok.ensures.fine c.in-Ok.ensures.is
-    c.job_of.ensures.job
+    c.job_of.ensures
 
 pub returns-in-Ok-clause-explained : goal.returns-in-Ok-clause-explained
 returns-in-Ok-clause-explained c = heard-as-asked c.job_of.result _ c.is_explained.result

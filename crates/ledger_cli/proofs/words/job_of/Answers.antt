@@ -1,323 +1,127 @@
--- The job is that of the subcommand that was met, with the values of its arguments.
-use Rattle.std.proofs.Common.{ap, inl, inr, refl, subst, sym, ◌∙◌}
-use Rattle.std.specs.Prelude.{codes}
-use Rattle.clap.specs.Words.{found_of, rows_of, subcommand_rows_of}
-use Rattle.line_text.specs.Numbers.{number_in}
-use Rattle.disk_changes.specs.declared.changes.ChangeKind.TheVariants as kinds
-use Rattle.disk_changes.specs.declared.changes.Lock.TheVariants.{Cleared, Set}
-use Rattle.ledger_jobs.specs.declared.jobs.Job.TheVariants as jobs
-use Rattle.file_rescues.specs.declared.forms.FileForm.TheVariants as files
-use Rattle.image_looks.specs.declared.kinds.Look.{Look}
-use Rattle.image_looks.specs.declared.kinds.Look.TheVariants as looks
-use Rattle.image_looks.specs.declared.objects.ImageObject.TheVariants as objects
-use Rattle.ledger_cli.specs.Images.{IsShowingJob}
-use Rattle.ledger_jobs.specs.Jobs.{IsFit}
-use Rattle.ledger_cli.specs.Jobs.{IsJob}
-use Rattle.ledger_cli.specs.Flags.{is_given}
-use Rattle.ledger_cli.specs.Forms.{candidates_in, effect_in, loss_in}
-use Rattle.ledger_cli.specs.Names.{entry_type_named}
-use Rattle.ledger_cli.specs.Numbers.{spelled_place}
-use Rattle.ledger_cli.proofs.Pictures.{picturing-met}
-use Rattle.ledger_cli.proofs.Named.{making-met, named-met, putting-met, records-met, renaming-met}
-use Rattle.ledger_cli.proofs.Named.{storing-met, titling-met}
-use Rattle.ledger_cli.proofs.Parses.{copy-fit, copy-met, format-fit, format-met, met-has, met-is, play-fit, play-met}
-use Rattle.ledger_cli.proofs.Parses.{repair-fit, repair-met}
-use Rattle.ledger_cli.proofs.Views.{checking-met, list-met, planning-met, show-met, showing-met, viewing-met}
+-- What the subcommand that was met asks for is what the words ask for.
+use Rattle.ledger_cli.proofs.Parses.{read-met}
 use Rattle.ledger_cli.proofs.words.job_of.Goals as goal
 
-pub returns-in_default : goal.returns-in_default
-returns-in_default c = record { job = inl c.from.ensures; fit = tt }
-
-pub returns-in_default-name : goal.returns-in_default-name
-returns-in_default-name c = record { job = inl c.from-in_default-name.ensures; fit = tt }
-
-pub returns-in-Some-tills_of : goal.returns-in-Some-tills_of
-returns-in-Some-tills_of c =
-    let new = is_given (codes "new") (rows_of (found_of c.in-Some.found.now)) in
-    let is = met-is c.parsed_subcommand.result _ c.in-Some.name c.in-Some.found _ c.parsed_subcommand.ensures c.in-Some.is c.in-format.is in
-    let fits = format-fit c.value_of-image.result _ new c.in-Some-tills_of.ensures.range in
-    record {
-      job = subst (IsJob _) (sym c.formatting.ensures) (format-met _ _ c.value_of-image.result _ new refl is
-          c.value_of-image.ensures
-          (ap (number_in 1 64) (sym c.value_of.ensures) ∙ sym c.in-Some-tills_of.ensures.exact));
-      fit = subst IsFit (sym c.formatting.ensures) fits;
-    }
-
-pub returns-in-None : goal.returns-in-None
-returns-in-None c = record {
-  job = (
-    refl,
-    met-has c.parsed_subcommand.result _ c.in-Some.name c.in-Some.found _ _ c.parsed_subcommand.ensures c.in-Some.is c.in-format.is
-        (ap (number_in 1 64) (sym c.value_of.ensures) ∙ sym c.in-None.ensures.exact),
-  );
-  fit = tt;
-}
+pub returns-in-format : goal.returns-in-format
+returns-in-format c = read-met c.parsed_subcommand.result _ c.in-Some.name c.in-Some.found _ c.format_job.result
+    c.parsed_subcommand.ensures c.in-Some.is c.in-format.is c.format_job.ensures
 
 pub returns-in-list : goal.returns-in-list
-returns-in-list c =
-    let rows = rows_of (found_of c.in-Some.found.now) in
-    let shown = subst (λ (what : Look). IsShowingJob rows what (objects.List c.is_given-as_is.result) c.showing.result)
-    c.disk_look-what.ensures c.showing.ensures in
-    let met = showing-met c.parsed_subcommand.result _ c.in-Some.name c.in-Some.found _ (objects.List c.is_given-as_is.result)
-    c.showing.result c.parsed_subcommand.ensures c.in-Some.is c.in-list.is
-    (λ plain. list-met rows _ c.name_form.result refl c.name_form.ensures plain) c.is_given-as_is.ensures shown in
-    record { job = met.0; fit = met.1 }
+returns-in-list c = read-met c.parsed_subcommand.result _ c.in-Some.name c.in-Some.found _ c.list_job.result
+    c.parsed_subcommand.ensures c.in-Some.is c.in-list.is c.list_job.ensures
 
 pub returns-in-check : goal.returns-in-check
-returns-in-check c =
-    let met = checking-met c.parsed_subcommand.result _ c.in-Some.name c.in-Some.found c.checking.result
-    c.parsed_subcommand.ensures c.in-Some.is c.in-check.is c.checking.ensures in
-    record { job = met.0; fit = met.1 }
+returns-in-check c = read-met c.parsed_subcommand.result _ c.in-Some.name c.in-Some.found _ c.check_job.result
+    c.parsed_subcommand.ensures c.in-Some.is c.in-check.is c.check_job.ensures
 
 pub returns-in-plan : goal.returns-in-plan
-returns-in-plan c =
-    let met = planning-met c.parsed_subcommand.result _ c.in-Some.name c.in-Some.found c.planning.result
-    c.parsed_subcommand.ensures c.in-Some.is c.in-plan.is c.planning.ensures in
-    record { job = met.0; fit = met.1 }
+returns-in-plan c = read-met c.parsed_subcommand.result _ c.in-Some.name c.in-Some.found _ c.plan_job.result
+    c.parsed_subcommand.ensures c.in-Some.is c.in-plan.is c.plan_job.ensures
 
 pub returns-in-show : goal.returns-in-show
-returns-in-show c =
-    let rows = rows_of (found_of c.in-Some.found.now) in
-    let object = objects.Show c.loss-loss.result c.is_given-as_is-in-show.result in
-    let shown = subst (λ (what : Look). IsShowingJob rows what object c.showing-in-show.result) c.disk_look-what-in-show.ensures
-    c.showing-in-show.ensures in
-    let met = showing-met c.parsed_subcommand.result _ c.in-Some.name c.in-Some.found _ object c.showing-in-show.result
-    c.parsed_subcommand.ensures c.in-Some.is c.in-show.is
-    (λ plain. show-met rows _ c.loss-loss.result refl c.loss-loss.ensures plain) (c.loss-loss.ensures, c.is_given-as_is-in-show.ensures) shown in
-    record { job = met.0; fit = met.1 }
+returns-in-show c = read-met c.parsed_subcommand.result _ c.in-Some.name c.in-Some.found _ c.show_job.result
+    c.parsed_subcommand.ensures c.in-Some.is c.in-show.is c.show_job.ensures
 
 pub returns-in-play : goal.returns-in-play
-returns-in-play c =
-    let rows = rows_of (found_of c.in-Some.found.now) in
-    let is = met-is c.parsed_subcommand.result _ c.in-Some.name c.in-Some.found _ c.parsed_subcommand.ensures c.in-Some.is c.in-play.is in
-    let found = subcommand_rows_of c.args.matches.now in
-    let synced = is_given (codes "sync") rows in
-    record {
-      job = subst (IsJob found) (sym c.playing.ensures)
-          (play-met found rows c.value_of-image.result c.value_of-script.result synced refl is c.value_of-image.ensures
-          c.value_of-script.ensures);
-      fit = subst IsFit (sym c.playing.ensures)
-          (play-fit c.value_of-image.result c.value_of-script.result (loss_in rows) synced);
-    }
-
-pub returns-in-dry : goal.returns-in-dry
-returns-in-dry c = record {
-  job = met-has c.parsed_subcommand.result _ c.in-Some.name c.in-Some.found _ _ c.parsed_subcommand.ensures c.in-Some.is c.in-dry.is
-      c.value_of-script.ensures;
-  fit = tt;
-}
+returns-in-play c = read-met c.parsed_subcommand.result _ c.in-Some.name c.in-Some.found _ c.play_job.result
+    c.parsed_subcommand.ensures c.in-Some.is c.in-play.is c.play_job.ensures
 
 pub returns-in-serve : goal.returns-in-serve
-returns-in-serve c = record {
-  job = met-has c.parsed_subcommand.result _ c.in-Some.name c.in-Some.found _ _ c.parsed_subcommand.ensures c.in-Some.is c.in-serve.is
-      (c.value_of-image.ensures, c.loss.ensures);
-  fit = tt;
-}
+returns-in-serve c = read-met c.parsed_subcommand.result _ c.in-Some.name c.in-Some.found _ c.serve_job.result
+    c.parsed_subcommand.ensures c.in-Some.is c.in-serve.is c.serve_job.ensures
 
 pub returns-in-copy : goal.returns-in-copy
-returns-in-copy c =
-    let rows = rows_of (found_of c.in-Some.found.now) in
-    let is = met-is c.parsed_subcommand.result _ c.in-Some.name c.in-Some.found _ c.parsed_subcommand.ensures c.in-Some.is c.in-copy.is in
-    let found = subcommand_rows_of c.args.matches.now in
-    let logged = is_given (codes "log") rows in
-    record {
-      job = subst (IsJob found) (sym c.copying.ensures)
-          (copy-met found rows c.value_of-image.result c.value_of-in-copy.result logged refl is c.value_of-image.ensures
-          c.value_of-in-copy.ensures);
-      fit = subst IsFit (sym c.copying.ensures) (copy-fit c.value_of-image.result c.value_of-in-copy.result logged);
-    }
+returns-in-copy c = read-met c.parsed_subcommand.result _ c.in-Some.name c.in-Some.found _ c.copy_job.result
+    c.parsed_subcommand.ensures c.in-Some.is c.in-copy.is c.copy_job.ensures
 
 pub returns-in-extract : goal.returns-in-extract
-returns-in-extract c = record {
-  job = met-has c.parsed_subcommand.result _ c.in-Some.name c.in-Some.found _ _ c.parsed_subcommand.ensures c.in-Some.is c.in-extract.is
-      (c.value_of-image.ensures, c.value_of-in-extract.ensures, c.choice.ensures);
-  fit = tt;
-}
+returns-in-extract c = read-met c.parsed_subcommand.result _ c.in-Some.name c.in-Some.found _ c.extract_job.result
+    c.parsed_subcommand.ensures c.in-Some.is c.in-extract.is c.extract_job.ensures
 
 pub returns-in-repair : goal.returns-in-repair
-returns-in-repair c =
-    let rows = rows_of (found_of c.in-Some.found.now) in
-    let sides = is_given (codes "sides") rows in
-    let is = met-is c.parsed_subcommand.result _ c.in-Some.name c.in-Some.found _ c.parsed_subcommand.ensures c.in-Some.is c.in-repair.is in
-    record {
-      job = subst (IsJob _) (sym c.repairing.ensures) (repair-met _ rows c.value_of-image.result sides refl is
-          c.value_of-image.ensures);
-      fit = subst IsFit (sym c.repairing.ensures) (repair-fit rows c.value_of-image.result sides);
-    }
+returns-in-repair c = read-met c.parsed_subcommand.result _ c.in-Some.name c.in-Some.found _ c.repair_job.result
+    c.parsed_subcommand.ensures c.in-Some.is c.in-repair.is c.repair_job.ensures
 
 pub returns-in-records : goal.returns-in-records
-returns-in-records c =
-    let rows = rows_of (found_of c.in-Some.found.now) in
-    let is = met-is c.parsed_subcommand.result _ c.in-Some.name c.in-Some.found _ c.parsed_subcommand.ensures c.in-Some.is c.in-records.is in
-    let met = records-met _ rows c.value_of-image.result c.taking_records.result is c.value_of-image.ensures
-    c.taking_records.ensures in
-    record { job = met.0; fit = met.1 }
+returns-in-records c = read-met c.parsed_subcommand.result _ c.in-Some.name c.in-Some.found _ c.records_job.result
+    c.parsed_subcommand.ensures c.in-Some.is c.in-records.is c.records_job.ensures
 
 pub returns-in-bytes : goal.returns-in-bytes
-returns-in-bytes c =
-    let rows = rows_of (found_of c.in-Some.found.now) in
-    let is = met-is c.parsed_subcommand.result _ c.in-Some.name c.in-Some.found _ c.parsed_subcommand.ensures c.in-Some.is c.in-bytes.is in
-    let met = named-met _ rows (λ name. jobs.Look c.value_of-image.result (looks.Bytes (files.Bytes c.byte_form.result) (candidates_in rows) name))
-    c.taking_file.result
-    (λ name at. record { rows = rows; is = is; holds = (c.value_of-image.ensures, tt, (at, c.byte_form.ensures, refl)) }) (λ name. tt)
-    (λ missing. inl (inr (inl (record { rows = rows; is = is; holds = missing })))) c.taking_file.ensures in
-    record { job = met.0; fit = met.1 }
+returns-in-bytes c = read-met c.parsed_subcommand.result _ c.in-Some.name c.in-Some.found _ c.bytes_job.result
+    c.parsed_subcommand.ensures c.in-Some.is c.in-bytes.is c.bytes_job.ensures
 
 pub returns-in-basic : goal.returns-in-basic
-returns-in-basic c =
-    let rows = rows_of (found_of c.in-Some.found.now) in
-    let is = met-is c.parsed_subcommand.result _ c.in-Some.name c.in-Some.found _ c.parsed_subcommand.ensures c.in-Some.is c.in-basic.is in
-    let met = named-met _ rows (λ name. jobs.Look c.value_of-image.result (looks.Bytes files.Listing (candidates_in rows) name))
-    c.taking_file-in-basic.result
-    (λ name at. record { rows = rows; is = is; holds = (c.value_of-image.ensures, tt, (at, refl)) }) (λ name. tt)
-    (λ missing. inl (inr (inr (inl (record { rows = rows; is = is; holds = missing }))))) c.taking_file-in-basic.ensures in
-    record { job = met.0; fit = met.1 }
+returns-in-basic c = read-met c.parsed_subcommand.result _ c.in-Some.name c.in-Some.found _ c.basic_job.result
+    c.parsed_subcommand.ensures c.in-Some.is c.in-basic.is c.basic_job.ensures
 
 pub returns-in-make : goal.returns-in-make
-returns-in-make c =
-    let is = met-is c.parsed_subcommand.result _ c.in-Some.name c.in-Some.found _ c.parsed_subcommand.ensures c.in-Some.is c.in-make.is in
-    let met = making-met _ (rows_of (found_of c.in-Some.found.now)) c.value_of-image.result c.making.result is c.value_of-image.ensures
-    c.making.ensures in
-    record { job = met.0; fit = met.1 }
+returns-in-make c = read-met c.parsed_subcommand.result _ c.in-Some.name c.in-Some.found _ c.make_job.result
+    c.parsed_subcommand.ensures c.in-Some.is c.in-make.is c.make_job.ensures
 
 pub returns-in-store : goal.returns-in-store
-returns-in-store c =
-    let is = met-is c.parsed_subcommand.result _ c.in-Some.name c.in-Some.found _ c.parsed_subcommand.ensures c.in-Some.is c.in-store.is in
-    let met = storing-met _ (rows_of (found_of c.in-Some.found.now)) c.value_of-image.result c.storing.result is c.value_of-image.ensures
-    c.storing.ensures in
-    record { job = met.0; fit = met.1 }
+returns-in-store c = read-met c.parsed_subcommand.result _ c.in-Some.name c.in-Some.found _ c.store_job.result
+    c.parsed_subcommand.ensures c.in-Some.is c.in-store.is c.store_job.ensures
 
 pub returns-in-put : goal.returns-in-put
-returns-in-put c =
-    let is = met-is c.parsed_subcommand.result _ c.in-Some.name c.in-Some.found _ c.parsed_subcommand.ensures c.in-Some.is c.in-put.is in
-    let met = putting-met _ (rows_of (found_of c.in-Some.found.now)) c.value_of-image.result c.putting.result is c.value_of-image.ensures
-    c.putting.ensures in
-    record { job = met.0; fit = met.1 }
+returns-in-put c = read-met c.parsed_subcommand.result _ c.in-Some.name c.in-Some.found _ c.put_job.result
+    c.parsed_subcommand.ensures c.in-Some.is c.in-put.is c.put_job.ensures
+
+pub returns-in-copy_file : goal.returns-in-copy_file
+returns-in-copy_file c = read-met c.parsed_subcommand.result _ c.in-Some.name c.in-Some.found _ c.copy_file_job.result
+    c.parsed_subcommand.ensures c.in-Some.is c.in-copy_file.is c.copy_file_job.ensures
 
 pub returns-in-rename : goal.returns-in-rename
-returns-in-rename c =
-    let is = met-is c.parsed_subcommand.result _ c.in-Some.name c.in-Some.found _ c.parsed_subcommand.ensures c.in-Some.is c.in-rename.is in
-    let met = renaming-met _ (rows_of (found_of c.in-Some.found.now)) c.value_of-image.result c.renaming.result is c.value_of-image.ensures
-    c.renaming.ensures in
-    record { job = met.0; fit = met.1 }
-
-pub returns-in-delete : goal.returns-in-delete
-returns-in-delete c =
-    let rows = rows_of (found_of c.in-Some.found.now) in
-    let is = met-is c.parsed_subcommand.result _ c.in-Some.name c.in-Some.found _ c.parsed_subcommand.ensures c.in-Some.is c.in-delete.is in
-    let met = named-met _ rows (λ name. jobs.Change c.value_of-image.result (effect_in rows) (loss_in rows) (kinds.Delete name)) c.deleting.result
-    (λ name at. record { rows = rows; is = is; holds = (c.value_of-image.ensures, at, refl, refl) }) (λ name. tt)
-    (λ missing. inr (inr (inr (inl (record { rows = rows; is = is; holds = missing }))))) c.deleting.ensures in
-    record { job = met.0; fit = met.1 }
-
-pub returns-in-lock : goal.returns-in-lock
-returns-in-lock c =
-    let rows = rows_of (found_of c.in-Some.found.now) in
-    let is = met-is c.parsed_subcommand.result _ c.in-Some.name c.in-Some.found _ c.parsed_subcommand.ensures c.in-Some.is c.in-lock.is in
-    let met = named-met _ rows (λ name. jobs.Change c.value_of-image.result (effect_in rows) (loss_in rows) (kinds.Lock Set name)) c.locking.result
-    (λ name at. record { rows = rows; is = is; holds = (c.value_of-image.ensures, at, refl, refl) }) (λ name. tt)
-    (λ missing. inr (inr (inr (inr (inr (inr (inr (inr (inl (record { rows = rows; is = is; holds = missing })))))))))) c.locking.ensures in
-    record { job = met.0; fit = met.1 }
-
-pub returns-in-unlock : goal.returns-in-unlock
-returns-in-unlock c =
-    let rows = rows_of (found_of c.in-Some.found.now) in
-    let is = met-is c.parsed_subcommand.result _ c.in-Some.name c.in-Some.found _ c.parsed_subcommand.ensures c.in-Some.is c.in-unlock.is in
-    let met = named-met _ rows (λ name. jobs.Change c.value_of-image.result (effect_in rows) (loss_in rows) (kinds.Lock Cleared name)) c.locking-in-unlock.result
-    (λ name at. record { rows = rows; is = is; holds = (c.value_of-image.ensures, at, refl, refl) }) (λ name. tt)
-    (λ missing. inr (inr (inr (inr (inr (inr (inr (inr (inr (inl (record { rows = rows; is = is; holds = missing }))))))))))) c.locking-in-unlock.ensures in
-    record { job = met.0; fit = met.1 }
-
-pub returns-in-Some-entry_type_named : goal.returns-in-Some-entry_type_named
-returns-in-Some-entry_type_named c =
-    let rows = rows_of (found_of c.in-Some.found.now) in
-    let is = met-is c.parsed_subcommand.result _ c.in-Some.name c.in-Some.found _ c.parsed_subcommand.ensures c.in-Some.is c.in-undelete.is in
-    let typed = ap entry_type_named (sym c.value_of-in-undelete.ensures) ∙ sym c.in-Some-entry_type_named.ensures in
-    let met = named-met _ rows (λ name. jobs.Change c.value_of-image.result (effect_in rows) (loss_in rows) (kinds.Undelete c.in-Some-entry_type_named.kind name)) c.undeleting.result
-    (λ name at. record { rows = rows; is = is; holds = (c.value_of-image.ensures, (at, typed), refl, refl) }) (λ name. tt)
-    (λ missing. inr (inr (inr (inr (inr (inr (inr (inr (inr (inr (record { rows = rows; is = is; holds = missing }))))))))))) c.undeleting.ensures in
-    record { job = met.0; fit = met.1 }
-
-pub returns-in-None-entry_type_named : goal.returns-in-None-entry_type_named
-returns-in-None-entry_type_named c = record {
-  job = (
-    refl,
-    inr (met-has c.parsed_subcommand.result _ c.in-Some.name c.in-Some.found _ _ c.parsed_subcommand.ensures c.in-Some.is c.in-undelete.is
-        (ap entry_type_named (sym c.value_of-in-undelete.ensures) ∙ sym c.in-None-entry_type_named.ensures)),
-  );
-  fit = tt;
-}
-
-pub returns-in-sort : goal.returns-in-sort
-returns-in-sort c =
-    let rows = rows_of (found_of c.in-Some.found.now) in
-    let is = met-is c.parsed_subcommand.result _ c.in-Some.name c.in-Some.found _ c.parsed_subcommand.ensures c.in-Some.is c.in-sort.is in
-    record {
-      job = subst (IsJob _) (sym c.sorting.ensures)
-          (record { rows = rows; is = is; holds = (c.value_of-image.ensures, tt, refl, refl) });
-      fit = subst IsFit (sym c.sorting.ensures) tt;
-    }
-
-pub returns-in-new : goal.returns-in-new
-returns-in-new c =
-    let rows = rows_of (found_of c.in-Some.found.now) in
-    let is = met-is c.parsed_subcommand.result _ c.in-Some.name c.in-Some.found _ c.parsed_subcommand.ensures c.in-Some.is c.in-new.is in
-    let met = titling-met _ rows (λ name id. jobs.New c.value_of-image.result name id) c.empty_disk.result
-    (λ name id at two. (record { rows = rows; is = is; holds = (c.value_of-image.ensures, at, two) }, at.short))
-    (λ missing. inr (inr (inr (inr (inr (inl (record { rows = rows; is = is; holds = missing })))))))
-    (λ missing. (refl, inl (record { rows = rows; is = is; holds = missing }))) c.empty_disk.ensures in
-    record { job = met.0; fit = met.1 }
+returns-in-rename c = read-met c.parsed_subcommand.result _ c.in-Some.name c.in-Some.found _ c.rename_job.result
+    c.parsed_subcommand.ensures c.in-Some.is c.in-rename.is c.rename_job.ensures
 
 pub returns-in-title : goal.returns-in-title
-returns-in-title c =
-    let rows = rows_of (found_of c.in-Some.found.now) in
-    let is = met-is c.parsed_subcommand.result _ c.in-Some.name c.in-Some.found _ c.parsed_subcommand.ensures c.in-Some.is c.in-title.is in
-    let met = titling-met _ rows (λ name id. jobs.Change c.value_of-image.result (effect_in rows) (loss_in rows) (kinds.Title id name)) c.titling.result
-    (λ name id at two. (record { rows = rows; is = is; holds = (c.value_of-image.ensures, (at, two), refl, refl) }, at.short))
-    (λ missing. inr (inr (inr (inr (inr (inr (inr (inl (record { rows = rows; is = is; holds = missing })))))))))
-    (λ missing. (refl, inr (record { rows = rows; is = is; holds = missing }))) c.titling.ensures in
-    record { job = met.0; fit = met.1 }
+returns-in-title c = read-met c.parsed_subcommand.result _ c.in-Some.name c.in-Some.found _ c.title_job.result
+    c.parsed_subcommand.ensures c.in-Some.is c.in-title.is c.title_job.ensures
+
+pub returns-in-lock : goal.returns-in-lock
+returns-in-lock c = read-met c.parsed_subcommand.result _ c.in-Some.name c.in-Some.found _ c.lock_job.result
+    c.parsed_subcommand.ensures c.in-Some.is c.in-lock.is c.lock_job.ensures
+
+pub returns-in-unlock : goal.returns-in-unlock
+returns-in-unlock c = read-met c.parsed_subcommand.result _ c.in-Some.name c.in-Some.found _ c.lock_job-in-unlock.result
+    c.parsed_subcommand.ensures c.in-Some.is c.in-unlock.is c.lock_job-in-unlock.ensures
+
+pub returns-in-delete : goal.returns-in-delete
+returns-in-delete c = read-met c.parsed_subcommand.result _ c.in-Some.name c.in-Some.found _ c.delete_job.result
+    c.parsed_subcommand.ensures c.in-Some.is c.in-delete.is c.delete_job.ensures
+
+pub returns-in-undelete : goal.returns-in-undelete
+returns-in-undelete c = read-met c.parsed_subcommand.result _ c.in-Some.name c.in-Some.found _ c.undelete_job.result
+    c.parsed_subcommand.ensures c.in-Some.is c.in-undelete.is c.undelete_job.ensures
+
+pub returns-in-sort : goal.returns-in-sort
+returns-in-sort c = read-met c.parsed_subcommand.result _ c.in-Some.name c.in-Some.found _ c.sort_job.result
+    c.parsed_subcommand.ensures c.in-Some.is c.in-sort.is c.sort_job.ensures
+
+pub returns-in-new : goal.returns-in-new
+returns-in-new c = read-met c.parsed_subcommand.result _ c.in-Some.name c.in-Some.found _ c.new_job.result
+    c.parsed_subcommand.ensures c.in-Some.is c.in-new.is c.new_job.ensures
 
 pub returns-in-map : goal.returns-in-map
-returns-in-map c =
-    let met = showing-met c.parsed_subcommand.result _ c.in-Some.name c.in-Some.found looks.Map objects.Map
-    c.showing-in-map.result c.parsed_subcommand.ensures c.in-Some.is c.in-map.is (λ plain. (refl, tt, plain)) tt
-    c.showing-in-map.ensures in
-    record { job = met.0; fit = met.1 }
+returns-in-map c = read-met c.parsed_subcommand.result _ c.in-Some.name c.in-Some.found _ c.map_job.result
+    c.parsed_subcommand.ensures c.in-Some.is c.in-map.is c.map_job.ensures
 
 pub returns-in-picture : goal.returns-in-picture
-returns-in-picture c =
-    let met = picturing-met c.parsed_subcommand.result _ c.in-Some.name c.in-Some.found c.picturing.result
-    c.parsed_subcommand.ensures c.in-Some.is c.in-picture.is c.picturing.ensures in
-    record { job = met.0; fit = met.1 }
+returns-in-picture c = read-met c.parsed_subcommand.result _ c.in-Some.name c.in-Some.found _ c.picture_job.result
+    c.parsed_subcommand.ensures c.in-Some.is c.in-picture.is c.picture_job.ensures
+
+pub returns-in-dry : goal.returns-in-dry
+returns-in-dry c = read-met c.parsed_subcommand.result _ c.in-Some.name c.in-Some.found _ c.dry_job.result
+    c.parsed_subcommand.ensures c.in-Some.is c.in-dry.is c.dry_job.ensures
 
 pub returns-in-free : goal.returns-in-free
-returns-in-free c =
-    let met = showing-met c.parsed_subcommand.result _ c.in-Some.name c.in-Some.found looks.Free objects.Free
-    c.showing-in-free.result c.parsed_subcommand.ensures c.in-Some.is c.in-free.is (λ plain. (refl, tt, plain)) tt
-    c.showing-in-free.ensures in
-    record { job = met.0; fit = met.1 }
+returns-in-free c = read-met c.parsed_subcommand.result _ c.in-Some.name c.in-Some.found _ c.free_job.result
+    c.parsed_subcommand.ensures c.in-Some.is c.in-free.is c.free_job.ensures
 
-pub returns-in-Some-place_of : goal.returns-in-Some-place_of
-returns-in-Some-place_of c = record {
-  job = met-has c.parsed_subcommand.result _ c.in-Some.name c.in-Some.found _ _ c.parsed_subcommand.ensures c.in-Some.is c.in-sector.is
-      (c.value_of-image.ensures, tt, ap spelled_place (sym c.value_of-in-sector.ensures) ∙ sym c.in-Some-place_of.ensures);
-  fit = tt;
-}
-
-pub returns-in-None-place_of : goal.returns-in-None-place_of
-returns-in-None-place_of c = record {
-  job = (
-    refl,
-    met-has c.parsed_subcommand.result _ c.in-Some.name c.in-Some.found _ _ c.parsed_subcommand.ensures c.in-Some.is c.in-sector.is
-        (ap spelled_place (sym c.value_of-in-sector.ensures) ∙ sym c.in-None-place_of.ensures),
-  );
-  fit = tt;
-}
+pub returns-in-sector : goal.returns-in-sector
+returns-in-sector c = read-met c.parsed_subcommand.result _ c.in-Some.name c.in-Some.found _ c.sector_job.result
+    c.parsed_subcommand.ensures c.in-Some.is c.in-sector.is c.sector_job.ensures
 
 pub returns-in-trim : goal.returns-in-trim
-returns-in-trim c = record {
-  job = met-has c.parsed_subcommand.result _ c.in-Some.name c.in-Some.found _ _ c.parsed_subcommand.ensures c.in-Some.is c.in-trim.is
-      c.value_of-image.ensures;
-  fit = tt;
-}
+returns-in-trim c = read-met c.parsed_subcommand.result _ c.in-Some.name c.in-Some.found _ c.trim_job.result
+    c.parsed_subcommand.ensures c.in-Some.is c.in-trim.is c.trim_job.ensures
