@@ -1,12 +1,13 @@
 -- What a job is where its words are parsed.
 use Rattle.std.proofs.Common.{◌≡◌, Bor, List, Option, Some, true, refl, ap, sym, ◌∙◌, subst, []}
-use Rattle.std.specs.Prelude.{Bool, Result, Ok, Err, IfErr, IfOk, MatchResult, option_map}
+use Rattle.std.specs.Prelude.{Bool, ℕ, Result, Ok, Err, IfErr, IfOk, IsErrAnd, MatchResult, option_map, slice_get}
 use Rattle.clap.specs.Words.{App, FailsBy, HasKind, HasMatchesOf, Kinds, Row, Text, fault_of, found_of, is_simple}
 use Rattle.clap.specs.Words.{is_simple_and_free, matches_of, rows_of, subcommand_of}
 use Rattle.clap.specs.declared.error.Error.{Error}
 use Rattle.clap.specs.declared.parser.matches.ArgMatches.{ArgMatches}
 use Rattle.command_table.specs.Grammar.{ledger}
 use Rattle.ledger_cli.specs.Jobs.{IsHeard, IsJob, IsNoJob, IsParse, IsRead}
+use Rattle.ledger_cli.specs.Names.{IsNameMissing, IsNoNameFor, NameUse, names_in}
 use Rattle.ledger_jobs.specs.Jobs.{IsFit}
 use Rattle.ledger_jobs.specs.declared.jobs.Job.{Job}
 use Rattle.ledger_cli.specs.declared.faults.JobFault.{JobFault}
@@ -73,6 +74,29 @@ pub read-met : (o : Option (Bor Text × Bor ArgMatches)) (found : Option (Text �
     → MatchResult r (λ j. IsJob found j × IsFit j) (IsNoJob [] found)
 read-met o found name at word r told some is read =
     subst (λ f. MatchResult r (λ j. IsJob f j × IsFit j) (IsNoJob [] f)) (sym (met-is o found name at word told some is)) read
+
+-- a text that the subcommand takes for a name is none
+pub name-refused : (word : Text) (rows : List Row) (number : ℕ) (purpose : NameUse) (text given : Text) (fault : JobFault)
+    (r : Result Job JobFault) → slice_get (names_in word rows) number ≡ Some (purpose, text) → given ≡ text
+    → (fault ≡ faults.Name) × IsNoNameFor purpose given → IsErrAnd r (λ e. e ≡ fault) → IsRead word rows r
+name-refused word rows number purpose text given fault (Ok job) at is none same = absurd same
+name-refused word rows number purpose text given fault (Err e) at is none same =
+    let missing : IsNameMissing (names_in word rows) = record {
+      number = number;
+      purpose = purpose;
+      text = text;
+      at = at;
+      none = subst (IsNoNameFor purpose) is none.1;
+    } in
+    subst (λ f. IsNoJob [] (Some (word, rows)) f) (sym (same ∙ none.0))
+    (refl, record { word = word; rows = rows; is = refl; missing = missing })
+
+-- there is no memory for its images
+pub memory-refused : (word : Text) (rows : List Row) (fault : JobFault) (r : Result Job JobFault)
+    → ((found : Option (Text × List Row)) → IsNoJob [] found fault) → IsErrAnd r (λ e. e ≡ fault) → IsRead word rows r
+memory-refused word rows fault (Ok job) none same = absurd same
+memory-refused word rows fault (Err e) none same =
+    subst (λ f. IsNoJob [] (Some (word, rows)) f) (sym same) (none (Some (word, rows)))
 
 -- what was heard is what the words ask for
 pub heard-as-asked : (r : Result Job JobFault) (asked heard : Bool) → heard ≡ asked → IsHeard r asked heard

@@ -30,7 +30,7 @@ is_no_picture rows =
     let n = length (values (codes "IMAGE") rows) in
     has_two_forms rows
     || (if is_given (codes "sheet") rows then nat_lt 400 n
-        else (if is_given (codes "compare") rows then not (nat_eq n 2) else nat_le 2 n))
+    else (if is_given (codes "compare") rows then not (nat_eq n 2) else nat_le 2 n))
 
 -- these are the images, in their order, and there are several
 abbrev pub AreImages : List Row → List (Bor Text) → Type 0

@@ -55,16 +55,16 @@ names_in word rows =
     else (if is_among (codes "rename" ∷ []) word then (Had, value (codes "OLD") rows) ∷ (Given, value (codes "NEW") rows) ∷ []
     else (if is_among (codes "copy-file" ∷ []) word then (Had, value (codes "NAME") rows) ∷ (Given, copy_name rows) ∷ []
     else (if is_among (codes "records" ∷ codes "bytes" ∷ codes "basic" ∷ codes "store" ∷ codes "delete" ∷ codes "undelete"
-        ∷ codes "lock" ∷ codes "unlock" ∷ codes "title" ∷ codes "new" ∷ []) word then (Had, value (codes "NAME") rows) ∷ []
+    ∷ codes "lock" ∷ codes "unlock" ∷ codes "title" ∷ codes "new" ∷ []) word then (Had, value (codes "NAME") rows) ∷ []
     else [])))
 
 -- one of these texts is no name for its use
 pub record IsNameMissing (names : List (NameUse × Text)) : Type 0 where
   pub number : ℕ
-  pub use : NameUse
+  pub purpose : NameUse
   pub text : Text
-  pub at : slice_get names number ≡ Some (use, text)
-  pub none : IsNoNameFor use text
+  pub at : slice_get names number ≡ Some (purpose, text)
+  pub none : IsNoNameFor purpose text
 
 -- These two bytes have this text: the ID of a disk.
 pub record IsIdOf (text bytes : List ℕ) : Type 0 where

@@ -19,8 +19,8 @@ use ledger_jobs::Job;
 
 /// The job that changes an image so, or only prints what that would print.
 fn changing<'a>(matches: &ArgMatches<'a>, kind: ChangeKind<'a>) -> Result<Job<'a>, JobFault>
-    requires asked { IsChangeIn kind.entry (rows_of (found_of matches.now)) }
-    requires fit { IsFit kind.entry }
+    requires asked { IsChangeIn kind (rows_of (found_of matches.now)) }
+    requires fit { IsFit kind }
     ensures { IsRead (word_of_change kind.entry) (rows_of (found_of matches.now)) result }
 {
     Ok(Job::Change {

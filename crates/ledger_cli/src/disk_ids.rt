@@ -10,8 +10,11 @@ use line_text::read_text;
 pub(crate) fn id_of(text: &str) -> Result<[u8; 2], JobFault>
     ensures { MatchResult result (λ id. IsIdOf text.now id) (λ fault. (fault ≡ faults.Id) × IsNoId text.now) }
 {
-    match read_text(text.as_bytes()) {
-        Some(bytes) if bytes.len() == 2 => Ok([bytes[0], bytes[1]]),
-        _ => Err(JobFault::Id),
+    let Some(bytes) = read_text(text.as_bytes()) else {
+        return Err(JobFault::Id);
+    };
+    if bytes.len() != 2 {
+        return Err(JobFault::Id);
     }
+    Ok([bytes[0], bytes[1]])
 }

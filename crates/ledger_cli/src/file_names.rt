@@ -23,8 +23,9 @@ pub(crate) fn new_name_of(text: &str) -> Result<Name, JobFault>
     ensures { MatchResult result (λ name. IsNameOf text.now (name_bytes name) × IsNewName (name_bytes name))
         (λ fault. (fault ≡ faults.Name) × IsNoNewName text.now) }
 {
-    match Name::read(text) {
-        Some(name) if name.is_new() => Ok(name),
-        _ => Err(JobFault::Name),
+    let name = name_of(text)?;
+    if !name.is_new() {
+        return Err(JobFault::Name);
     }
+    Ok(name)
 }

@@ -1,5 +1,5 @@
 //! The jobs that only look at images, one for each subcommand.
-ghost use Rattle.std.specs.Prelude.{◌≡◌, List, MatchResult, Option, codes, map, true, vec_items};
+ghost use Rattle.std.specs.Prelude.{◌≡◌, [], List, MatchResult, Option, codes, map, true, vec_items};
 ghost use Rattle.clap.specs.Words.{Row, Text, found_of, rows_of};
 ghost use Rattle.command_table.specs.Grammar.{values};
 ghost use Rattle.ledger_cli.specs.Flags.{is_given as given};

@@ -66,10 +66,6 @@ pub returns-in-put : goal.returns-in-put
 returns-in-put c = read-met c.parsed_subcommand.result _ c.in-Some.name c.in-Some.found _ c.put_job.result
     c.parsed_subcommand.ensures c.in-Some.is c.in-put.is c.put_job.ensures
 
-pub returns-in-copy_file : goal.returns-in-copy_file
-returns-in-copy_file c = read-met c.parsed_subcommand.result _ c.in-Some.name c.in-Some.found _ c.copy_file_job.result
-    c.parsed_subcommand.ensures c.in-Some.is c.in-copy_file.is c.copy_file_job.ensures
-
 pub returns-in-rename : goal.returns-in-rename
 returns-in-rename c = read-met c.parsed_subcommand.result _ c.in-Some.name c.in-Some.found _ c.rename_job.result
     c.parsed_subcommand.ensures c.in-Some.is c.in-rename.is c.rename_job.ensures

@@ -1,0 +1,10 @@
+-- Its name is none.
+use Rattle.std.proofs.Common.{refl}
+use Rattle.std.specs.Prelude.{codes}
+use Rattle.ledger_cli.specs.Names.NameUse.{Given}
+use Rattle.ledger_cli.proofs.Parses.{name-refused}
+use Rattle.ledger_cli.proofs.change_jobs.put_job.Goals as goal
+
+pub returns-in_err-name : goal.returns-in_err-name
+returns-in_err-name c = name-refused (codes "put") _ 0 Given _ _ _ _ refl c.value_of.ensures c.in_err-name.ensures
+    c.from_residual.ensures.1
