@@ -8,8 +8,8 @@ use std::io;
 /// How many bytes a disk may write at once.
 static PIECES: [usize; 3] = [512, 4096, 65_536];
 
-/// So many of these pieces are all.
-const ALL_OF: u64 = 8;
+/// Out of so many pieces a drawn number is on the disk, about.
+const OUT_OF: u64 = 8;
 
 /// How much of the changes of a file that weren't synced is on the disk.
 #[derive(Clone, Copy, PartialEq, Eq)]
@@ -79,10 +79,10 @@ fn put_pieces(held: &mut Vec<u8>, change: &Change, random: &mut Random) -> io::R
     let mut left = change.bytes.as_slice();
     let mut at = change.at;
     let piece = draw_piece(random);
-    let part = random.below(ALL_OF.saturating_add(1));
+    let part = random.below(OUT_OF.saturating_add(1));
     let pieces = left.len().checked_div(piece).unwrap_or(0);
     for _ in 0..=pieces {
-        if random.below(ALL_OF) < part {
+        if random.below(OUT_OF) < part {
             put(held, at, front(left, piece))?;
         }
         left = rest(left, piece);
