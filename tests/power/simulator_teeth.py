@@ -10,7 +10,7 @@ With --late the machine makes the step after the next call of another kind, a pr
 changed places: a log is named before it is synced, or a reply is printed before its commit is.
 The simulator plays the seeds 1, 2, ... until it finds something wrong; for a step that has to be found up to four times as many, since
 which seed finds a step changes with each change of the program. The status is 1 if such a step isn't found, and if a step that isn't
-found has no reason: in COVERED, why it does no harm to leave that step out, or to make it late, alone; or in UNSEEN, what no story meets."""
+found has no reason in COVERED or COVERED_LATE, why it does no harm to leave that step out, or to make it late, alone."""
 
 import re
 import sys
@@ -54,19 +54,21 @@ MUST_BOTH = {
     ("sync another file", "write another file"),
     ("sync the log in the making", "set a length"),
     ("sync the folder", "sync the log in the making"),
+    ("sync the folder", "rename a file"),
+    ("sync the log", "write the mark"),
+    ("remove a name", "give a second name"),
+    # a link can't be made, so a copy is renamed
+    ("rename a file", "give a second name"),
+    # these by a file that is no image, over which `format` writes
+    ("sync another file", "set a length"),
+    ("write another file", "sync the folder"),
 }
 # and those that were found when they were left out
 MUST = MUST_BOTH | {
     ("sync the folder", "remove a name"),
-    ("sync the folder", "rename a file"),
-    ("remove a name", "give a second name"),
-    # a link can't be made, so a copy is renamed
-    ("rename a file", "give a second name"),
     ("sync the log in the making", "write the log in the making"),
-    ("sync the log", "write the mark"),
     ("sync the log in the making", "write the mark"),
-    # these by a file that is no image, over which `format` writes
-    ("write another file", "sync the folder"),
+    # this by a file that is no image, over which `format` writes
     ("set a length", "write another file"),
     # these by the faults that meet at a story's end
     ("sync IMAGE", "the beginning"),
@@ -97,22 +99,8 @@ COVERED = {
     },
 }
 
-
-# the step that does harm which the stories meet too seldom
-UNSEEN = {
-    ("sync another file", "set a length"): "`format` writes over a file, and power goes when its last sector is on the disk, and others aren't",
-}
 # the steps that were found when they were made late
 MUST_LATE = MUST_BOTH
-# the steps that do harm if they are late, which the stories meet too seldom
-UNSEEN_LATE = {
-    ("sync the folder", "rename a file"): "IMAGE is written, and power goes before the log's name is on the disk",
-    ("sync the log", "write the mark"): "IMAGE is written, and power goes before the log's mark is on the disk",
-    ("remove a name", "give a second name"): "power goes when COPIED was printed, and the copy has its second name again",
-    ("rename a file", "give a second name"): "power goes when COPIED was printed, and the copy hasn't its name any more",
-    ("sync another file", "set a length"): UNSEEN["sync another file", "set a length"],
-    ("write another file", "sync the folder"): "`format` writes over a file, and power goes when its old directory is on the disk with new sectors",
-}
 # the steps that do no harm if they alone are late
 COVERED_LATE = {
     **COVERED,
@@ -135,8 +123,8 @@ class Way(NamedTuple):
     covered: dict
 
 
-WITHOUT = Way("--without", MUST, {**COVERED, **UNSEEN})
-LATE = Way("--late", MUST_LATE, {**COVERED_LATE, **UNSEEN_LATE})
+WITHOUT = Way("--without", MUST, COVERED)
+LATE = Way("--late", MUST_LATE, COVERED_LATE)
 
 
 def main(given):

@@ -93,6 +93,8 @@ impl Run {
     /// Counts a call. What happens to it.
     fn next(&mut self, is_step: bool) -> Strike {
         if self.stopped {
+            // the call that was struck was the last one, whichever it was
+            self.plan.at = 0;
             return Strike::Stops;
         }
         self.calls = self.calls.saturating_add(1);
@@ -490,13 +492,9 @@ impl Machine {
         }
     }
 
-    /// Whether the call that is made is the one that is struck. After it a stopped program does nothing any more.
+    /// Whether the call that is made, and isn't done, is the one that is struck. After it a stopped program does nothing any more.
     fn is_last(&self) -> bool {
-        let mut run = self.run.get();
-        let is_it = run.plan.at != 0;
-        run.plan.at = 0;
-        self.run.set(run);
-        is_it
+        self.run.get().plan.at != 0
     }
 
     /// Whether a call that changes something is done, and whether it returns Ok.

@@ -5,8 +5,11 @@ use crate::names::{Name, NameChange, bring};
 use crate::random::Random;
 use std::io;
 
-/// How many bytes a disk writes at once.
-const PIECE: usize = 512;
+/// How many bytes a disk may write at once.
+static PIECES: [usize; 3] = [512, 4096, 65_536];
+
+/// Out of so many pieces a drawn number is on the disk, about.
+const OUT_OF: u64 = 8;
 
 /// How much of the changes of a file that weren't synced is on the disk.
 #[derive(Clone, Copy, PartialEq, Eq)]
@@ -65,17 +68,25 @@ fn mix_change(held: &mut Vec<u8>, change: &Change, random: &mut Random) -> io::R
     Ok(())
 }
 
-/// Some pieces of a change.
+/// How many bytes a disk writes at once.
+fn draw_piece(random: &mut Random) -> usize {
+    let drawn = random.index(PIECES.len());
+    PIECES.get(drawn).copied().unwrap_or(512)
+}
+
+/// Some pieces of a change: few of them, or many.
 fn put_pieces(held: &mut Vec<u8>, change: &Change, random: &mut Random) -> io::Result<()> {
     let mut left = change.bytes.as_slice();
     let mut at = change.at;
-    let pieces = left.len() / PIECE;
+    let piece = draw_piece(random);
+    let part = random.below(OUT_OF.saturating_add(1));
+    let pieces = left.len().checked_div(piece).unwrap_or(0);
     for _ in 0..=pieces {
-        if random.once_in(2) {
-            put(held, at, front(left, PIECE))?;
+        if random.below(OUT_OF) < part {
+            put(held, at, front(left, piece))?;
         }
-        left = rest(left, PIECE);
-        at = at.saturating_add(PIECE);
+        left = rest(left, piece);
+        at = at.saturating_add(piece);
     }
     Ok(())
 }

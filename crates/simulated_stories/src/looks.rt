@@ -40,6 +40,15 @@ impl<P: Program> Story<'_, P> {
         )
     }
 
+    /// Once in two times power goes as soon as a copy was reported.
+    fn lose_copied(&mut self, ended: &Ended) -> Result<(), Stop> {
+        if ended.out.as_slice() != COPIED || self.random.once_in(2) {
+            return Ok(());
+        }
+        self.lose_power()?;
+        self.see_named(ended)
+    }
+
     /// A copy that is there is whole.
     fn see_copy(&mut self) -> Result<(), Stop> {
         if self.machine.has_file(COPY) {
@@ -84,6 +93,7 @@ impl<P: Program> Story<'_, P> {
             see_failure(&ended)?;
         } else {
             self.see_read(words, &ended)?;
+            self.lose_copied(&ended)?;
         }
         self.see_copy()?;
         self.see_shop(&SHOW, "a command that reads changed the shop")

@@ -23,6 +23,9 @@ const UNTAGGINGS: usize = 2;
 /// How many steps a service has after it has synced that the tag was taken away: it removes the log, and syncs the folder.
 const UNTAGGED: u64 = 2;
 
+/// How many it has after it has synced the mark of its log: it syncs the image twice before these.
+const MARKED: u64 = 4;
+
 /// The step of a `play` that syncs the image.
 const PLAYED: u64 = 2;
 
@@ -105,16 +108,16 @@ impl<P: Program> Story<'_, P> {
         self.see_shop(&SHOW, "a change of the disk changed the shop")
     }
 
-    /// Power goes in one of the last steps of a change, or when it is done.
-    fn change_and_lose(&mut self) -> Result<(), Stop> {
+    /// Power goes in this step of a change, or in one of its last ones, or when it is done.
+    fn change_and_lose(&mut self, named: Option<u64>) -> Result<(), Stop> {
         self.look(&SERVE)?;
         self.machine.put_file(SCRIPT, b"some bytes of a file\r")?;
         let words = self.draw_change()?;
         let made = self.made(words)?;
         see_refusal(&made.ended)?;
         let most = made.steps.saturating_add(1);
-        let plan = stop_at(most.saturating_sub(self.random.below(ENDING)));
-        let ended = self.run_alone(words, plan)?;
+        let last = most.saturating_sub(self.random.below(ENDING));
+        let ended = self.run_alone(words, stop_at(named.unwrap_or(last)))?;
         self.lose_power()?;
         self.look(&SERVE)?;
         self.see_half(&made, ended.out.as_slice().ends_with(b"\n"))?;
@@ -153,17 +156,17 @@ impl<P: Program> Story<'_, P> {
         self.see_shop(&SHOW, "a log that was made anew gives another shop")
     }
 
-    /// Power goes while a service takes the tag away. Without its log the image has to be the shop then, or to say that its log is
-    /// away.
-    fn untag(&mut self) -> Result<(), Stop> {
+    /// Power goes while a service ends, which has so many steps left. Without its log the image has to be the shop then, or to say
+    /// that its log is away.
+    fn serve_and_lose(&mut self, left: u64) -> Result<(), Stop> {
         self.look(&SERVE)?;
         let lines = self.draw_lines()?;
         let text = self.text_of(lines.as_slice())?;
         let twin = self.machine.copy()?;
         let input = twin.copy_of(text.as_slice())?;
         run(self.program, &twin, &SERVE, input, 1, Plan::NONE);
-        let untagged = twin.calls(Counted::Steps).saturating_sub(UNTAGGED);
-        let ended = self.run(&SERVE, text, 1, stop_at(untagged))?;
+        let step = twin.calls(Counted::Steps).saturating_sub(left);
+        let ended = self.run(&SERVE, text, 1, stop_at(step))?;
         let mut shop = self.shop;
         see_replies(
             self.alloc,
@@ -192,12 +195,15 @@ impl<P: Program> Story<'_, P> {
         self.play_and_log(words, plan)?;
         self.change_and_land()?;
         for _ in 0..ENDINGS {
-            self.change_and_lose()?;
+            self.change_and_lose(None)?;
         }
+        self.change_and_lose(Some(NAMED))?;
         self.serve_and_play()?;
         for _ in 0..UNTAGGINGS {
-            self.untag()?;
+            self.serve_and_lose(UNTAGGED)?;
         }
+        self.serve_and_lose(MARKED)?;
+        self.format_long()?;
         self.make_again()
     }
 }
