@@ -172,7 +172,7 @@ impl<R: Files> SystemFiles for R {
     }
 
     fn see_writable(&self, path: &str) -> io::Result<()> {
-        OpenOptions::new().read(true).write(true).open(self, path)?;
+        SystemFiles::open_to_change(self, path)?;
         Ok(())
     }
 
