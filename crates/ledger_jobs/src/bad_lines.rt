@@ -41,7 +41,8 @@ const LONG: &str = "its text has more bytes than a record can have";
 const UNSHOWN: &str =
     "a character that the C64 hasn't in this set; a control code is typed as a backslash and two digits, `\\0d` for example";
 
-const UNDOUBLED: &str = "a quotation mark in a text is typed twice, and the text stands between two others";
+const UNDOUBLED: &str =
+    "a quotation mark in a text is typed twice, and the text stands between two others";
 
 const COMMA: &str = "a text with a comma stands between quotation marks";
 
@@ -233,7 +234,11 @@ fn typed_pieces(set: CharacterSet, text: &[u8]) -> Option<usize> {
 /// What is wrong with a line that is typed in this set. `text` is what stands behind its number.
 fn fault_in_typed(line: &[u8], text: &[u8], set: CharacterSet) -> Option<LineFault> {
     let Some((_, inner)) = text_line(line) else {
-        return of_text(if text.contains(&b'"') { UNDOUBLED } else { COMMA });
+        return of_text(if text.contains(&b'"') {
+            UNDOUBLED
+        } else {
+            COMMA
+        });
     };
     match typed_pieces(set, inner) {
         None if inner.contains(&b'"') => of_text(UNDOUBLED),

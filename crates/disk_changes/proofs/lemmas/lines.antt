@@ -18,3 +18,4 @@ pub mod SeveralColumns
 pub mod TextGrown
 pub mod TextStored
 pub mod Typed
+pub mod ShownLines

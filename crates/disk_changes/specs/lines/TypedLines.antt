@@ -14,12 +14,14 @@ IsLeft set old text bytes = ((text ≡ one_line set (trimmed old)) × (bytes ≡
 -- a line is of no record's number and text, or no bytes that a record can have come of its text
 abbrev pub LeavesNone : CharacterSet → List (List ℕ) → (line : List ℕ) → Type 0
 LeavesNone set rs line = ((n : ℕ) (text : List ℕ) → 1 ≤ n → n ≤ 182880 → ¬ (IsTextLine line n text))
-    ⊎ ((n : ℕ) × (text : List ℕ) × IsTextLine line n text
+    ⊎ ((n : ℕ) × (text : List ℕ) × (1 ≤ n) × (n ≤ 182880) × IsTextLine line n text
     × ((bytes : List ℕ) → length bytes ≤ 254 → ¬ (IsLeft set (get_or rs (n - 1) []) text bytes)))
 
 -- a line of a record, for a line that is typed: its bytes are those that the text leaves in the record of its number
 pub record IsOfRecord (set : CharacterSet) (rs : List (List ℕ)) (line made : List ℕ) : Type 0 where
   pub number : ℕ
+  pub low : 1 ≤ number
+  pub high : number ≤ 182880
   pub text : List ℕ
   pub is : IsTextLine line number text
   pub bytes : List ℕ

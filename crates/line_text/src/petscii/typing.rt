@@ -43,7 +43,14 @@ fn behind_byte<'a>(set: CharacterSet, byte: u8, text: &'a [u8]) -> Option<&'a [u
     }
     match character(set, byte) {
         Some(shown) => behind(text, shown.encode_utf8(&mut [0; 4]).as_bytes()),
-        None => behind(text, &[b'\\', hex_digit(byte / 16) as u8, hex_digit(byte % 16) as u8]),
+        None => behind(
+            text,
+            &[
+                b'\\',
+                hex_digit(byte / 16) as u8,
+                hex_digit(byte % 16) as u8,
+            ],
+        ),
     }
 }
 

@@ -7,10 +7,11 @@ use Rattle.std.proofs.lemmas.Option.{get_or_from_slice_get}
 use Rattle.d64_image.specs.Memory.{disk_image, memory}
 use Rattle.d64_image.specs.declared.mem_disk.MemDisk.{MemDisk}
 use Rattle.disk_changes.proofs.Judged.{never-fails}
-use Rattle.disk_changes.specs.lines.TypedLines.{AreMadeOf, IsLeft, IsMadeOf, IsPushed, Pushes}
+use Rattle.disk_changes.specs.lines.TypedLines.{AreMadeOf, IsLeft, IsMadeOf, IsOfRecord, IsPushed, Pushes}
 use Rattle.disk_layout.specs.Layout.{File, Layout}
 use Rattle.disk_layout.specs.Records.{records}
-use Rattle.line_text.specs.bytes.Texts.{record_line}
+use Rattle.line_text.specs.bytes.Texts.{record_line, trimmed}
+use Rattle.line_text.specs.petscii.Quoted.{one_line}
 use Rattle.line_text.specs.petscii.Typing.{IsTextLine}
 use Rattle.line_text.specs.declared.petscii.characters.CharacterSet.{CharacterSet}
 use Rattle.rel_records.specs.Calls.{ReadsRecord}
@@ -47,15 +48,17 @@ module _ (a b : MemDisk) (l : Layout) (k : ℕ) (f : File) (v : RelFile) (n : �
 
 -- what was appended for a line with this number and text
 pub made-of : (set : CharacterSet) (rs : List (List ℕ)) (line : List ℕ) (n : ℕ) (text had old new : List ℕ)
-    → IsTextLine line n text → had ≡ get_or rs (n - 1) [] → IsPushed set n had text old new
+    → (1 ≤ n) × (n ≤ 182880) × IsTextLine line n text → had ≡ get_or rs (n - 1) [] → IsPushed set n had text old new
     → Pushes old new (IsMadeOf set rs line)
 made-of set rs line n text had old new is same (inl (bytes, left, pushed)) = (
   record_line n bytes,
   pushed,
   inl (record {
     number = n;
+    low = is.0;
+    high = is.1.0;
     text = text;
-    is = is;
+    is = is.1.1;
     bytes = bytes;
     left = subst (λ (h : List ℕ). IsLeft set h text bytes) same left;
     made_is = refl;
@@ -64,7 +67,7 @@ made-of set rs line n text had old new is same (inl (bytes, left, pushed)) = (
 made-of set rs line n text had old new is same (inr (none, pushed)) = (
   10 ∷ [],
   pushed,
-  inr (inr (n, text, is, subst (λ (h : List ℕ). (bytes : List ℕ) → length bytes ≤ 254 → ¬ (IsLeft set h text bytes)) same none), refl),
+  inr (inr (n, text, is.0, is.1.0, is.1.1, subst (λ (h : List ℕ). (bytes : List ℕ) → length bytes ≤ 254 → ¬ (IsLeft set h text bytes)) same none), refl),
 )
 
 -- the lines so far are made of the first of all lines, and those that are left are to come
@@ -80,9 +83,13 @@ snoc : (set : CharacterSet) (rs front : List (List ℕ)) (line made plain : List
     → IsMadeOf set rs line made → AreMadeOf set rs (front ++ line ∷ []) (plain ++ made)
 snoc set rs [] line made plain none is =
     (made, [], is, refl, ap (λ (p : List ℕ). p ++ made) none ∙ sym (append-nil made))
-snoc set rs (x ∷ front) line made plain (one, more, first, rest, split) is =
-    (one, more ++ made, first, snoc set rs front line made more rest is,
-    ap (λ (p : List ℕ). p ++ made) split ∙ append_assoc one more made)
+snoc set rs (x ∷ front) line made plain (one, more, first, rest, split) is = (
+  one,
+  more ++ made,
+  first,
+  snoc set rs front line made more rest is,
+  ap (λ (p : List ℕ). p ++ made) split ∙ append_assoc one more made,
+)
 
 pub made-more : (set : CharacterSet) (rs all left : List (List ℕ)) (line : List ℕ) (next : List (List ℕ)) (plain new : List ℕ)
     → MadeTo set rs all left plain → left ≡ line ∷ next → Pushes plain new (IsMadeOf set rs line)
@@ -98,3 +105,13 @@ pub made-all : (set : CharacterSet) (rs all left : List (List ℕ)) (plain : Lis
 made-all set rs all left plain to none =
     let front : all ≡ to.front = to.split ∙ ap (λ (ls : List (List ℕ)). to.front ++ ls) none ∙ append-nil to.front in
     subst (λ (ls : List (List ℕ)). AreMadeOf set rs ls plain) (sym front) to.made
+
+left-reads : (set : CharacterSet) (old text bytes : List ℕ) → IsLeft set old text bytes
+    → (text ≡ one_line set (trimmed bytes)) ⊎ (text ≡ one_line set bytes)
+left-reads set old text bytes (inl same) = inl (same.0 ∙ ap (λ (o : List ℕ). one_line set (trimmed o)) (sym same.1))
+left-reads set old text bytes (inr typed) = inr typed.1.0
+
+-- the record reads as its line does
+pub reads-so : (set : CharacterSet) (rs : List (List ℕ)) (line made : List ℕ) → (x : IsOfRecord set rs line made)
+    → (x.text ≡ one_line set (trimmed x.bytes)) ⊎ (x.text ≡ one_line set x.bytes)
+reads-so set rs line made x = left-reads set (get_or rs (x.number - 1) []) x.text x.bytes x.left

@@ -17,11 +17,7 @@ use Rattle.line_text.specs.petscii.Typing.{IsTyped, is_typed}
 use Rattle.line_text.specs.declared.petscii.characters.CharacterSet.{CharacterSet}
 use Rattle.line_text.specs.declared.petscii.characters.CharacterSet.TheVariants.{Graphics, Mixed}
 
--- a front that was compared
-pub front-taken : (text front : List ℕ) → take (length front) text ≡ front → text ≡ front ++ drop (length front) text
-front-taken text front same =
-    sym (take-append-drop (length front) text) ∙ ap (λ (xs : List ℕ). xs ++ drop (length front) text) same
-
+-- a text begins with a front
 pub taken-front : (text front rest : List ℕ) → text ≡ front ++ rest → take (length front) text ≡ front
 taken-front text front rest is = ap (λ (xs : List ℕ). take (length front) xs) is ∙ take-append_seam front rest
 
@@ -124,8 +120,10 @@ kind-of : (set : CharacterSet) (b : ℕ) → Kind set b
 kind-of set b = elim (eqb_tells b 34) [
   | inl mark ↦ inl mark.1
   | inr other ↦ elim (eqb_tells b 13) [
-    | inl cr ↦ inr (inl (record { text = subst (λ (n : ℕ). quoted_byte set n ≡ 92 ∷ hex_digit (n / 16) ∷ hex_digit (n % 16) ∷ [])
-        (sym cr.1) (cr-text set) }))
+    | inl cr ↦ inr (inl (record {
+      text = subst (λ (n : ℕ). quoted_byte set n ≡ 92 ∷ hex_digit (n / 16) ∷ hex_digit (n % 16) ∷ [])
+          (sym cr.1) (cr-text set);
+    }))
     | inr none ↦ other-kind set b (character_of set b) other.1 refl (other-text set b other.1 none.1)
   ]
 ]
@@ -233,10 +231,6 @@ never-empty set b xs same =
 abbrev pub AreTyped : List ℕ → Type 0
 AreTyped bytes = AllByRecursion (λ b. is_typed b ≡ true) bytes
 
-pub typed-more : (bytes : List ℕ) (b : ℕ) → AreTyped bytes → is_typed b ≡ true → AreTyped (bytes ++ b ∷ [])
-typed-more [] b all here = (here, tt)
-typed-more (x ∷ bytes) b all here = (all.0, typed-more bytes b all.1 here)
-
 -- what stands behind the text of the first bytes is the text of the others
 record IsBehind (set : CharacterSet) (pre bytes rest : List ℕ) : Type 0 where
   pub behind : List ℕ
@@ -287,15 +281,6 @@ pub none-more : (set : CharacterSet) (text rest pre : List ℕ) → AreTyped pre
 none-more set text rest pre tp is some full bytes few typed =
     let x = behind-of set pre bytes rest tp typed.1 (sym is ∙ typed.0) in
     no-room set rest pre bytes x.behind some full few x.split x.text
-
--- the text of one byte more
-pub text-more : (set : CharacterSet) (text pre rest behind : List ℕ) (b : ℕ) → text ≡ one_line set pre ++ rest
-    → rest ≡ quoted_byte set b ++ behind → text ≡ one_line set (pre ++ b ∷ []) ++ behind
-text-more set text pre rest behind b is here =
-    is ∙ ap (λ (zs : List ℕ). one_line set pre ++ zs) here
-    ∙ sym (append_assoc (one_line set pre) (quoted_byte set b) behind)
-    ∙ ap (λ (zs : List ℕ). zs ++ behind) (sym (flat_map-append (quoted_byte set) pre (b ∷ [])
-    ∙ ap (λ (zs : List ℕ). one_line set pre ++ zs) (append-nil (quoted_byte set b))))
 
 -- what stands behind a byte's text is shorter
 pub shorter : (set : CharacterSet) (b : ℕ) (rest behind : List ℕ) → rest ≡ quoted_byte set b ++ behind → length behind < length rest
