@@ -1,18 +1,22 @@
 -- The job that prints this of one image, or of several, where its words are parsed.
-use Rattle.std.proofs.Common.{◌≡◌, ◌∙◌, Bool, Bor, List, None, Option, Some, false, inl, inr, refl, subst, sym, true, []}
-use Rattle.std.specs.Prelude.{IfOk, MatchResult, Result, codes, option_map, ⊤}
+use Rattle.std.proofs.Common.{◌≡◌, ◌∙◌, Bool, Bor, List, None, Option, Some, ap, false, inl, inr, refl, subst, sym, true, []}
+use Rattle.std.specs.Prelude.{IfOk, MatchResult, Ok, Result, Vec, codes, if◌then◌else◌, option_map, vec_items, ⊤}
+use Rattle.std.specs.declared.alloc.Global.{Global}
 use Rattle.clap.specs.Words.{Row, Text, found_of, rows_of}
 use Rattle.clap.specs.declared.parser.matches.ArgMatches.{ArgMatches}
 use Rattle.ledger_jobs.specs.Jobs.{IsFit}
 use Rattle.ledger_jobs.specs.declared.jobs.Job.{Job}
+use Rattle.ledger_jobs.specs.declared.jobs.Job.TheVariants as jobs
 use Rattle.damaged_files.specs.declared.sides.planning.Loss.{Loss}
 use Rattle.disk_reports.specs.declared.texts.NameForm.{NameForm}
+use Rattle.image_looks.specs.declared.descriptions.ImageForm.{ImageForm}
+use Rattle.image_looks.specs.declared.descriptions.ImageForm.TheVariants as forms
 use Rattle.image_looks.specs.declared.kinds.DiskLook.TheVariants as disks
 use Rattle.image_looks.specs.declared.kinds.Look.{Look}
 use Rattle.image_looks.specs.declared.kinds.Look.TheVariants as looks
 use Rattle.image_looks.specs.declared.objects.ImageObject.{ImageObject}
 use Rattle.ledger_cli.specs.Flags.{is_given}
-use Rattle.ledger_cli.specs.Images.{IsCheckJob, IsLookJob, IsPlanJob, IsShowingJob}
+use Rattle.ledger_cli.specs.Images.{AreTabled, IsCheckJob, IsLookJob, IsPlanJob, IsShowingJob, table_in}
 use Rattle.ledger_cli.specs.Forms.{loss_in, name_form_in}
 use Rattle.ledger_cli.specs.Looks.{IsAlone, IsAskedBy, IsObjectAsked, IsOne, IsPlain, IsText, check_in, disk_look_in, object_word, word_of}
 use Rattle.ledger_cli.specs.Jobs.{IsJob, IsNoJob}
@@ -101,6 +105,32 @@ showing-met o found name at what object r told some is asks by (inr (inr (e, sam
     let P : Result Job JobFault → Type 0 = λ j. MatchResult j (IsJob found) (IsNoJob [] found) × IfOk j IsFit in
     subst P (sym same) (kind, tt)
 
+-- a table of images is the job of `check`
+tabled-met : (o : Option (Bor Text × Bor ArgMatches)) (found : Option (Text × List Row)) (name : Bor Text)
+    (at : Bor ArgMatches) (images : Vec (Bor Text) Global) (r : Result Job JobFault)
+    → option_map (λ (p : Bor Text × Bor ArgMatches). (p.0.now, rows_of (found_of p.1.now))) o ≡ found
+    → o ≡ Some (name, at) → name.now ≡ codes "check"
+    → (whole : Bool) → is_given (codes "as-is") (rows_of (found_of at.now)) ≡ whole
+    → r ≡ Ok (jobs.Describe (table_in (rows_of (found_of at.now))) images)
+    → AreTabled (rows_of (found_of at.now)) (table_in (rows_of (found_of at.now))) (vec_items images)
+    → MatchResult r (IsJob found) (IsNoJob [] found) × IfOk r IsFit
+tabled-met o found name at images r told some is true given same are =
+    let rows = rows_of (found_of at.now) in
+    let P : Result Job JobFault → Type 0 = λ j. MatchResult j (IsJob found) (IsNoJob [] found) × IfOk j IsFit in
+    let form : table_in rows ≡ forms.TableAsIs =
+    ap (λ (whole : Bool). if whole then forms.TableAsIs else forms.Table) given in
+    subst P (sym (same ∙ ap (λ (f : ImageForm). Ok (jobs.Describe f images)) form))
+    (met-has o found name at (codes "check") _ told some is
+    (subst (λ (f : ImageForm). AreTabled rows f (vec_items images)) form are), tt)
+tabled-met o found name at images r told some is false given same are =
+    let rows = rows_of (found_of at.now) in
+    let P : Result Job JobFault → Type 0 = λ j. MatchResult j (IsJob found) (IsNoJob [] found) × IfOk j IsFit in
+    let form : table_in rows ≡ forms.Table =
+    ap (λ (whole : Bool). if whole then forms.TableAsIs else forms.Table) given in
+    subst P (sym (same ∙ ap (λ (f : ImageForm). Ok (jobs.Describe f images)) form))
+    (met-has o found name at (codes "check") _ told some is
+    (subst (λ (f : ImageForm). AreTabled rows f (vec_items images)) form are), tt)
+
 -- what checks images, or describes each, is the job of `check`
 pub checking-met : (o : Option (Bor Text × Bor ArgMatches)) (found : Option (Text × List Row)) (name : Bor Text)
     (at : Bor ArgMatches) (r : Result Job JobFault)
@@ -114,8 +144,7 @@ checking-met o found name at r told some is (inr (inl (images, same, are))) =
     let P : Result Job JobFault → Type 0 = λ j. MatchResult j (IsJob found) (IsNoJob [] found) × IfOk j IsFit in
     subst P (sym same) (met-has o found name at (codes "check") _ told some is (refl, are), tt)
 checking-met o found name at r told some is (inr (inr (inl (images, same, are)))) =
-    let P : Result Job JobFault → Type 0 = λ j. MatchResult j (IsJob found) (IsNoJob [] found) × IfOk j IsFit in
-    subst P (sym same) (met-has o found name at (codes "check") _ told some is are, tt)
+    tabled-met o found name at images r told some is _ refl same are
 checking-met o found name at r told some is (inr (inr (inr (e, same, kind)))) =
     let P : Result Job JobFault → Type 0 = λ j. MatchResult j (IsJob found) (IsNoJob [] found) × IfOk j IsFit in
     subst P (sym same) (kind, tt)

@@ -55,9 +55,13 @@ IsNoPicture rows =
 abbrev pub AreImages : List Row → List (Bor Text) → Type 0
 AreImages rows images = (map (λ image. image.now) images ≡ values (codes "IMAGE") rows) × (2 ≤ length images)
 
--- a table of these images is asked for, in their order
-abbrev pub AreTabled : List Row → List (Bor Text) → Type 0
-AreTabled rows images = IsPlain rows × (is_given (codes "csv") rows ≡ true)
+-- the form of a table, as the flags ask for it
+abbrev pub table_in : List Row → ImageForm
+table_in rows = if is_given (codes "as-is") rows then forms.TableAsIs else forms.Table
+
+-- a table of these images in this form is asked for, in their order
+abbrev pub AreTabled : List Row → ImageForm → List (Bor Text) → Type 0
+AreTabled rows form images = (table_in rows ≡ form) × IsPlain rows × (is_given (codes "csv") rows ≡ true)
     × (map (λ image. image.now) images ≡ values (codes "IMAGE") rows)
 
 -- an object of JSON is asked for of each of these images, in their order
@@ -94,7 +98,7 @@ IsCheckJob rows result =
     (IsText rows × IsLookJob rows (check_in rows) result)
     ⊎ (((images : Vec (Bor Text) Global) × (result ≡ Ok (jobs.Describe (forms.Shown (check_object_in rows)) images))
     × AreShown rows (vec_items images))
-    ⊎ (((images : Vec (Bor Text) Global) × (result ≡ Ok (jobs.Describe forms.Table images)) × AreTabled rows (vec_items images))
+    ⊎ (((images : Vec (Bor Text) Global) × (result ≡ Ok (jobs.Describe (table_in rows) images)) × AreTabled rows (table_in rows) (vec_items images))
     ⊎ ((e : Error) × (result ≡ Err (faults.Words e)) × HasKind [] e)))
 
 -- they are to be planned in this form, and these are the images, in their order

@@ -2,7 +2,7 @@
 ghost use Rattle.std.specs.Prelude.{◌≡◌};
 ghost use Rattle.clap.specs.Words.{found_of, rows_of};
 ghost use Rattle.ledger_cli.specs.Images.{IsCheckJob, IsDescribing, IsLookJob, IsComparing, IsPictureJob};
-ghost use Rattle.ledger_cli.specs.Images.{IsPlanJob, IsSeveral, IsSheet, IsShowingJob, picture_job, has_two_forms as two_forms};
+ghost use Rattle.ledger_cli.specs.Images.{IsPlanJob, IsSeveral, IsSheet, IsShowingJob, picture_job, table_in, has_two_forms as two_forms};
 ghost use Rattle.ledger_cli.specs.Looks.{plan_in};
 
 use crate::faults::JobFault;
@@ -131,6 +131,17 @@ fn described<'a>(alloc: Global, form: ImageForm, images: &[&'a str]) -> Result<J
     }
 }
 
+/// The form of a table of images: as they are, if that is asked for.
+fn table_form<'a>(matches: &ArgMatches<'a>) -> ImageForm
+    ensures { result ≡ table_in (rows_of (found_of matches.now)) }
+{
+    if is_given(matches, "as-is") {
+        ImageForm::TableAsIs
+    } else {
+        ImageForm::Table
+    }
+}
+
 /// The job that checks images, or prints an object of each with --json, or a row of a table with --csv. --json goes before --csv.
 pub(crate) fn checking<'a>(alloc: Global, matches: &ArgMatches<'a>) -> Result<Job<'a>, JobFault>
     ensures { IsCheckJob (rows_of (found_of matches.now)) result }
@@ -148,7 +159,7 @@ pub(crate) fn checking<'a>(alloc: Global, matches: &ArgMatches<'a>) -> Result<Jo
         );
     }
     if is_given(matches, "csv") {
-        return described(alloc, ImageForm::Table, images);
+        return described(alloc, table_form(matches), images);
     }
     viewing(alloc, matches, checked(matches))
 }
