@@ -25,8 +25,8 @@ damaged, it prints what can be read, and then reports a fault.
 --text and --mixed print lines for people.
 --fields prints a column for each field: 1,\"MILK\",\"12\",\\. for MILK, CR, 12, CR.
 The last column is \\- if the last field has no CR. --at 1,25,49 prints the bytes
-from each position up to the next one, without the zeros at their end. --text and
---mixed have no effect then. `store` takes each back with the same flag.
+from each position up to the next one, without the zeros at their end. --text
+and --mixed have no effect then. `store` takes each back with the same flag.
 With --unclosed nothing of the disk but the file is checked.
 
 Exit status:

@@ -63,7 +63,7 @@ fn of_line(said: &'static str) -> Option<LineFault> {
     Some(LineFault { column: None, said })
 }
 
-/// The fault of the column behind the number.
+/// The fault of the column after the number.
 fn of_text(said: &'static str) -> Option<LineFault> {
     Some(LineFault {
         column: Some(2),
@@ -231,7 +231,7 @@ fn typed_pieces(set: CharacterSet, text: &[u8]) -> Option<usize> {
     Some(count)
 }
 
-/// What is wrong with a line that is typed in this set. `text` is what stands behind its number.
+/// What is wrong with a line that is typed in this set. `text` is what stands after its number.
 fn fault_in_typed(line: &[u8], text: &[u8], set: CharacterSet) -> Option<LineFault> {
     let Some((_, inner)) = text_line(line) else {
         return of_text(if text.contains(&b'"') {

@@ -22,7 +22,7 @@ fn is_typed(byte: u8) -> bool
     matches!(byte, 0..=0x5F | 0x80..=0xDF)
 }
 
-/// What stands behind this front of the text, if the text begins so.
+/// What comes after this front of the text, if the text begins so.
 fn behind<'a>(text: &'a [u8], front: &[u8]) -> Option<&'a [u8]>
     ensures { MatchOption result ((rest : List ℕ) → text.now ≢ front.now ++ rest) (λ rest. text.now ≡ front.now ++ rest.now) }
 {
@@ -33,7 +33,7 @@ fn behind<'a>(text: &'a [u8], front: &[u8]) -> Option<&'a [u8]>
     if head == front { Some(rest) } else { None }
 }
 
-/// What stands behind the text of this byte, if it is at the front.
+/// What comes after the text of this byte, if it is at the front.
 fn behind_byte<'a>(set: CharacterSet, byte: u8, text: &'a [u8]) -> Option<&'a [u8]>
     ensures { MatchOption result ((rest : List ℕ) → text.now ≢ quoted_byte set byte ++ rest)
         (λ rest. text.now ≡ quoted_byte set byte ++ rest.now) }
@@ -54,7 +54,7 @@ fn behind_byte<'a>(set: CharacterSet, byte: u8, text: &'a [u8]) -> Option<&'a [u
     }
 }
 
-/// The byte of a keyboard whose text is at the front, and what stands behind that.
+/// The byte of a keyboard whose text is at the front, and what comes after that.
 fn first_typed(set: CharacterSet, text: &[u8]) -> Option<(u8, &[u8])>
     ensures { MatchOption result
         ((b : ℕ) (rest : List ℕ) → typing.is_typed b ≡ true → text.now ≢ quoted_byte set b ++ rest)
@@ -119,7 +119,7 @@ fn unmarked(text: &[u8]) -> Option<&[u8]>
 }
 
 /// The number of a record's line, which is passed without its end, and the text of the record. None if the line has no number of 1
-/// to 182,880 without leading zeros and a comma, or if the text behind that has no marks around it, and a comma or a mark in it.
+/// to 182,880 without leading zeros and a comma, or if the text after that has no marks around it, and a comma or a mark in it.
 pub fn text_line(line: &[u8]) -> Option<(u32, &[u8])>
     ensures { MatchOption result
         ((n : ℕ) (text : List ℕ) → 1 ≤ n → n ≤ 182880 → ¬ (IsTextLine line.now n text))

@@ -9,7 +9,7 @@ use Rattle.line_text.specs.petscii.Typing.{IsBare, IsTextLine, has_mark}
 use Rattle.line_text.proofs.lemmas.digits.Fields.{before_read, before_spells}
 use Rattle.line_text.specs.Numbers.{number_before}
 
--- what stands behind the number of such a line
+-- what comes after the number of such a line
 record IsBehind (line : List ℕ) (n : ℕ) (text : List ℕ) : Type 0 where
   pub rest : List ℕ
   pub read : number_before 1 182880 line ≡ Some (n, rest)

@@ -1,4 +1,4 @@
--- What stands behind the number.
+-- What comes after the number.
 use Rattle.line_text.proofs.lemmas.bytes.Texts.{none-found}
 use Rattle.line_text.proofs.lemmas.petscii.TextLines.{line-found, number-refused, text-refused}
 use Rattle.line_text.proofs.petscii.typing.text_line.Goals as goal
