@@ -30,6 +30,9 @@ returns-clause-ok g c =
     let map = c.sector-map.ensures ∙ ap (sector (disk_image c.find_shortfall-lack.new.disk)) c.map_place.ensures
     ∙ ap (λ (i : Image). sector i map_place) (c.find_shortfall-lack.ensures.same ∙ judged) in
     let drawn = option_map (λ drawn. drawn_in drawn.now) c.drawing_in-drawing.result in
+    let missing = c.in-Ok.missing in
+    let text = ap (λ (m : Sector). row_as_is name found m lack image missing.errors missing.beyond) map
+    ∙ ap₂ (λ (e b : ℕ). row_as_is name found (map_in (disk_of image)) lack image e b) c.in-Ok.ensures.0 c.in-Ok.ensures.1 in
     record {
       size = sized.0;
       found = found;
@@ -39,6 +42,7 @@ returns-clause-ok g c =
       drawn = drawn;
       is_drawn = subst (IsDrawnOf image) (sym c.drawing_in-drawing.ensures)
           (drawn-beside image c.in-Some.tracks.now sized.1 c.in_ok-drawn.drawn c.in_ok-drawn.ensures.ok);
-      printed = ?;
+      printed = subst (λ (t : List ℕ). Appends (g.W.Write.contents c.args.out.now) (g.W.Write.contents c.describe_as_is.new.out) t)
+          text c.in_ok-describe_as_is.ensures.ok;
       told = c.is_clean.ensures;
     }
