@@ -1,6 +1,7 @@
 //! Records stored in a relative file of an image.
-ghost use Rattle.std.specs.Prelude.{IfErr, IfOk};
-ghost use Rattle.disk_changes.specs.Stores.{IsStoreRefusal, IsStored};
+ghost use Rattle.std.specs.Prelude.{[], IfErr, IfOk, vec_items};
+ghost use Rattle.disk_changes.specs.declared.changes.Columns.TheVariants.{Text};
+ghost use Rattle.disk_changes.specs.Stores.{IsNotStoredAs, IsStoreRefusal, IsStored, IsStoredAs, IsTypedText};
 
 use crate::changes::{Changed, Columns};
 use crate::judging::{taken_disk, usable_disk};

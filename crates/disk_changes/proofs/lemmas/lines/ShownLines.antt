@@ -199,20 +199,22 @@ from-made set L front (r ∷ rs) plain short are few made =
     let long : length r ≤ 254 = omega (arith, are.0.0, short) in
     let both = subst (λ (ls : List (List ℕ)). AreMadeOf set (front ++ r ∷ rs) ls plain)
     (first-shown set k r rest high are.0.1) made in
-    let here : get_or (front ++ r ∷ rs) (k - 1) [] ≡ r = behind-front front r rs in
-    let first : both.0 ≡ record_line k r = made-is set (front ++ r ∷ rs) k r (omega arith) high here long both.0 both.2.0 in
+    let place : k - 1 ≡ length front = omega arith in
+    let here : get_or (front ++ r ∷ rs) (k - 1) [] ≡ r =
+    ap (λ (i : ℕ). get_or (front ++ r ∷ rs) i []) place ∙ behind-front front r rs in
+    let first : both.0 ≡ record_line k r = made-is set (front ++ r ∷ rs) k r (omega arith) high here long both.0 both.2 in
     let next : (front ++ r ∷ []) ++ rs ≡ front ++ r ∷ rs = append_assoc front (r ∷ []) rs in
     let count : length (front ++ r ∷ []) ≡ k = omega (arith, length-append front (r ∷ [])) in
     let others : both.1 ≡ text_from (suc k) rs =
     subst (λ (m : ℕ). both.1 ≡ text_from (suc m) rs) count
     (from-made set L (front ++ r ∷ []) rs both.1 short are.1 (omega (arith, few, count))
     (subst (λ (m : ℕ). AreMadeOf set ((front ++ r ∷ []) ++ rs) (lines (lines_from set (suc m) rs)) both.1) (sym count)
-    (subst (λ (all : List (List ℕ)). AreMadeOf set all (lines rest) both.1) (sym next) both.2.1.0))) in
-    both.2.1.1 ∙ ap₂ (λ (a b : List ℕ). a ++ b) first others
+    (subst (λ (all : List (List ℕ)). AreMadeOf set all (lines rest) both.1) (sym next) both.3))) in
+    both.4 ∙ ap₂ (λ (a b : List ℕ). a ++ b) first others
 
 pub shown-back : (set : CharacterSet) (L : ℕ) (rs : List (List ℕ)) (plain : List ℕ) → L ≤ 254 → AreRecords L rs
     → length rs ≤ 182880 → AreMadeOf set rs (lines (records_as (forms.Text set) rs)) plain → plain ≡ records_text rs
 shown-back set L rs plain short are few made =
-    from-made set L [] rs plain short are few
+    from-made set L [] rs plain short are (omega (arith, few))
     (subst (λ (t : List ℕ). AreMadeOf set rs (lines t) plain) (to-from set rs (length rs) ∙ all-from set 1 rs) made)
     ∙ sym (text-is rs)

@@ -56,9 +56,9 @@ made-of set rs line n text had old new is same (inl (bytes, left, pushed)) = (
   inl (record {
     number = n;
     low = is.0;
-    high = is.1.0;
+    high = is.1;
     text = text;
-    is = is.1.1;
+    is = is.2;
     bytes = bytes;
     left = subst (λ (h : List ℕ). IsLeft set h text bytes) same left;
     made_is = refl;
@@ -67,7 +67,7 @@ made-of set rs line n text had old new is same (inl (bytes, left, pushed)) = (
 made-of set rs line n text had old new is same (inr (none, pushed)) = (
   10 ∷ [],
   pushed,
-  inr (inr (n, text, is.0, is.1.0, is.1.1, subst (λ (h : List ℕ). (bytes : List ℕ) → length bytes ≤ 254 → ¬ (IsLeft set h text bytes)) same none), refl),
+  inr (inr (n, text, is.0, is.1, is.2, subst (λ (h : List ℕ). (bytes : List ℕ) → length bytes ≤ 254 → ¬ (IsLeft set h text bytes)) same none), refl),
 )
 
 -- the lines so far are made of the first of all lines, and those that are left are to come

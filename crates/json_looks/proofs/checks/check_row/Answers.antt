@@ -19,7 +19,7 @@ use Rattle.json_looks.proofs.checks.check_row.Goals as goal
 pub returns-clause-ok : goal.returns-clause-ok
 returns-clause-ok g c =
     let image = c.args.image.now in
-    let name = c.as_bytes.result.now in
+    let name = c.args.name.now in
     let sized = c.in-Some.ensures in
     let disk : disk_of image ≡ take 174848 image = first-tracks image sized.0 in
     let loaded = c.in_ok-disk.ensures.ok in
@@ -31,7 +31,9 @@ returns-clause-ok g c =
     ∙ ap (λ (i : Image). sector i map_place) (c.find_shortfall-lack.ensures.same ∙ judged) in
     let drawn = option_map (λ drawn. drawn_in drawn.now) c.drawing_in-drawing.result in
     let missing = c.in-Ok.missing in
-    let text = ap (λ (m : Sector). row_as_is name found m lack image missing.errors missing.beyond) map
+    let text = ap (λ (n : List ℕ). row_as_is n found c.sector-map.result.now lack image missing.errors missing.beyond)
+    c.as_bytes.ensures.value
+    ∙ ap (λ (m : Sector). row_as_is name found m lack image missing.errors missing.beyond) map
     ∙ ap₂ (λ (e b : ℕ). row_as_is name found (map_in (disk_of image)) lack image e b) c.in-Ok.ensures.0 c.in-Ok.ensures.1 in
     record {
       size = sized.0;
