@@ -26,11 +26,13 @@ use Rattle.disk_changes.specs.Puts.{IsPut}
 use Rattle.disk_changes.specs.Renames.{IsRenamed}
 use Rattle.disk_changes.specs.Repairs.{IsMended, IsRepaired, frees}
 use Rattle.disk_changes.specs.ShopFiles.{HasShopFile, IsRelativeOf, IsShopSlot}
-use Rattle.disk_changes.specs.Stores.{IsStored}
+use Rattle.disk_changes.specs.Stores.{IsStored, IsStoredAs}
 use Rattle.disk_changes.specs.declared.changes.Change.{Change}
 use Rattle.disk_changes.specs.declared.changes.ChangeKind.{ChangeKind}
 use Rattle.disk_changes.specs.declared.changes.ChangeKind.TheVariants as kinds
 use Rattle.disk_changes.specs.declared.changes.Changed.{Changed}
+use Rattle.disk_changes.specs.declared.changes.Columns.{Columns}
+use Rattle.disk_changes.specs.declared.changes.Columns.TheVariants as columns
 use Rattle.disk_layout.proofs.lemmas.chains.Chains.{AgreeAt}
 use Rattle.disk_layout.proofs.lemmas.layouts.Agree.{IsLayout-put_map, map-unowned, owned-block, stays-agree}
 use Rattle.disk_layout.proofs.lemmas.layouts.Exact.{get-lt}
@@ -467,6 +469,15 @@ copied-as entry content source name to image cut made (inl (plain, x)) =
 copied-as entry content source name to image cut made (inr (relative, given, text, x)) =
     records-copied entry given to image cut made x
 
+-- lines stored by their columns, typed ones as the lines that are made of them
+stored-as-keeps : (columns : Columns) (image name given : List ℕ) (cut : Loss) (made : Changed)
+    → IsStoredAs columns image name given cut made
+    → slot_name name ≢ slot_name (codes "STOCK") → slot_name name ≢ slot_name (codes "REQUESTS")
+    → KeepsShops (sectors_in image) (disk_image made.disk)
+stored-as-keeps columns.One image name given cut made x = store-keeps image name given cut made x
+stored-as-keeps (columns.Several form) image name given cut made x = store-keeps image name given cut made x
+stored-as-keeps (columns.Text set) image name given cut made (text, typed, x) = store-keeps image name text cut made x
+
 -- a disk repaired, whether or not a loss is accepted
 repair-keeps : (image : List ℕ) (free : Bool) (cut : Loss) (made : Changed) → IsRepaired image free cut made
     → KeepsShops (sectors_in image) (disk_image made.disk)
@@ -519,7 +530,7 @@ done-keeps (kinds.Put file kind name) loss source image made fit spares done =
 done-keeps (kinds.CopyFile from name to) loss source image made fit spares done =
     copied-as done.entry done.content source (name_bytes name) (name_bytes to) image loss made done.copy
 done-keeps (kinds.Store records columns name) loss source image made fit spares done =
-    store-keeps image (name_bytes name) source loss made done spares.0 spares.1
+    stored-as-keeps columns image (name_bytes name) source loss made done spares.0 spares.1
 
 -- a shop's disk has no art that would be put aside
 pub changes-keep : (what : Change) (image : List ℕ) (made : Changed) → IsFit what.kind.now → SparesCards what.kind.now

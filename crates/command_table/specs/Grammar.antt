@@ -43,7 +43,7 @@ abbrev pub format : App
 format = with_rule (with_rule (over_image (codes "format")) (required_behind (codes "tills") (codes "TILLS")))
     (flag (codes "new"))
 
--- a subcommand that prints text of the disk, in one of two character sets, if --text or --mixed is given
+-- a subcommand that prints or reads text of the disk, in one of two character sets, if --text or --mixed is given
 abbrev pub may_be_text : App → App
 may_be_text a = with_rule (with_rule a (flag (codes "text"))) (flag (codes "mixed"))
 
@@ -124,10 +124,10 @@ abbrev pub make : App
 make = may_run_dry (may_accept_loss (with_rule (with_rule (over_image (codes "make")) (required (codes "NAME")))
     (required_behind (codes "length") (codes "BYTES"))))
 
--- store IMAGE NAME RECORDS [--accept-loss] [--fields] [--at POSITIONS] [--dry-run]
+-- store IMAGE NAME RECORDS [--accept-loss] [--text] [--mixed] [--fields] [--at POSITIONS] [--dry-run]
 abbrev pub store : App
-store = may_run_dry (may_have_columns (may_accept_loss (with_rule (with_rule (over_image (codes "store"))
-    (required (codes "NAME"))) (required (codes "RECORDS")))))
+store = may_run_dry (may_have_columns (may_be_text (may_accept_loss (with_rule (with_rule (over_image (codes "store"))
+    (required (codes "NAME"))) (required (codes "RECORDS"))))))
 
 -- put IMAGE NAME FILE --type TYPE [--accept-loss] [--dry-run]
 abbrev pub put : App

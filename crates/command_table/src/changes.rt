@@ -76,7 +76,23 @@ const RECORD_LINES: Value = Value {
     help: "The records as `records` prints them; - is standard input",
 };
 
-/// `store IMAGE NAME RECORDS [--accept-loss] [--fields] [--at POSITIONS] [--dry-run]`
+/// The flag of lines that are typed as text.
+const TYPED: Value = Value {
+    name: "text",
+    word: Some("text"),
+    count: Count::Flag,
+    help: "Read lines as `records --text` prints them",
+};
+
+/// The same of the other character set.
+const TYPED_MIXED: Value = Value {
+    name: "mixed",
+    word: Some("mixed"),
+    count: Count::Flag,
+    help: "Read lines as `records --mixed` prints them",
+};
+
+/// `store IMAGE NAME RECORDS [--accept-loss] [--text] [--mixed] [--fields] [--at POSITIONS] [--dry-run]`
 const STORE: Subcommand = Subcommand {
     name: "store",
     about: "Store records in a relative file, and print those that changed",
@@ -86,6 +102,9 @@ record number. With --fields each column after the number is a field, up to the
 mark \\. or \\- that `records --fields` prints. Empty ones after it are skipped.
 With --at 1,25,49 each column goes to its position, with zeros between them; one
 that goes beyond the next position is refused. Otherwise a line has one column.
+With --text or --mixed it is text, as `records` prints it with the same flag. A
+line that reads as its record does already leaves the record as it is. Any other
+gives the bytes that a keyboard gives for its characters.
 
 Exit status:
   0  the records were stored
@@ -101,6 +120,8 @@ Example: ledger store new.d64 ADDRESS address.csv",
         NAME,
         RECORD_LINES,
         ACCEPT_LOSS,
+        TYPED,
+        TYPED_MIXED,
         FIELDS,
         POSITIONS,
         DRY_RUN,

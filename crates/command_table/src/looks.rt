@@ -74,11 +74,12 @@ the fault concerns, `free` counts blocks, and `sha1` and `sha256` are hashes of
 the image. With --csv each has a row of a table, but without `files`. With --all
 every fault is printed with its files, for example OWNEDTWICE 6/17 \"A\" \"B\":
 first the one that check prints without it; MAPWRONG only if the files are
-sound. --json goes before --csv, both before --all, and --csv before --as-is.
+sound. --json goes before --csv, and both before --all.
 With --as-is it takes an image of 40 or 42 tracks, or with error bytes, too, and
 checks its first 35 tracks. After that it prints a line for each sector that the
 drive couldn't read, ERROR 23 17/4 \"MENU\", and for each file that goes on beyond
-track 35, BEYOND 17/4 \"MENU\". With --json they stand in `errors` and `beyond`.
+track 35, BEYOND 17/4 \"MENU\". With --json they stand in `errors` and `beyond`,
+and with --csv two columns more of these names say how many there are.
 Then the status isn't 0. SPEEDDOS 36-40 says that SpeedDOS keeps a map of these
 tracks in 18/0; DOLPHINDOS and PROLOGICDOS, too. An object doesn't say so.
 

@@ -22,11 +22,11 @@ const RECORDS: Subcommand = Subcommand {
     more: "\
 It prints a line for each record, for example 1,\"MILK\\0d\". If the file is
 damaged, it prints what can be read, and then reports a fault.
---text and --mixed print lines for people: `store` doesn't take them back.
+--text and --mixed print lines for people.
 --fields prints a column for each field: 1,\"MILK\",\"12\",\\. for MILK, CR, 12, CR.
 The last column is \\- if the last field has no CR. --at 1,25,49 prints the bytes
-from each position up to the next one, without the zeros at their end. `store`
-takes both back with the same flag. --text and --mixed have no effect then.
+from each position up to the next one, without the zeros at their end. --text
+and --mixed have no effect then. `store` takes each back with the same flag.
 With --unclosed nothing of the disk but the file is checked.
 
 Exit status:

@@ -13,6 +13,7 @@ pub mod ShopFiles
 pub mod SidesBuilt
 pub mod Slots
 pub mod StoredRecords
+pub mod TypedRecords
 pub mod Undeleted
 pub mod UnsoundArt
 pub mod Usable

@@ -11,7 +11,7 @@ use Rattle.disk_changes.specs.Rebuilds.{IsRebuildRefusal, IsRebuilt}
 use Rattle.disk_changes.specs.Renames.{IsRenameRefusal, IsRenamed}
 use Rattle.disk_changes.specs.Repairs.{IsRepairRefusal, IsRepaired, frees}
 use Rattle.disk_changes.specs.Sorts.{IsSortRefusal, IsSorted}
-use Rattle.disk_changes.specs.Stores.{IsStoreRefusal, IsStored}
+use Rattle.disk_changes.specs.Stores.{IsNotStoredAs, IsStoredAs}
 use Rattle.disk_changes.specs.Titles.{IsTitled}
 use Rattle.disk_changes.specs.Undeletes.{IsUndeleteRefusal, IsUndeleted}
 use Rattle.disk_changes.specs.declared.changes.Change.{Change}
@@ -46,7 +46,7 @@ IsDoneBy (kinds.Undelete kind name) loss source image made = IsUndeleted image (
 IsDoneBy kinds.Sort loss source image made = IsSorted image made
 IsDoneBy (kinds.Put file kind name) loss source image made = IsPut image (name_bytes name) kind source loss made
 IsDoneBy (kinds.CopyFile from name to) loss source image made = IsCopied source (name_bytes name) (name_bytes to) image loss made
-IsDoneBy (kinds.Store records columns name) loss source image made = IsStored image (name_bytes name) source loss made
+IsDoneBy (kinds.Store records columns name) loss source image made = IsStoredAs columns image (name_bytes name) source loss made
 
 -- it wasn't, for this reason
 abbrev pub IsBarredBy : ChangeKind → Loss → (source image : List ℕ) → CommandFault → Type 0
@@ -61,7 +61,7 @@ IsBarredBy (kinds.Undelete kind name) loss source image why = IsUndeleteRefusal 
 IsBarredBy kinds.Sort loss source image why = IsSortRefusal image why
 IsBarredBy (kinds.Put file kind name) loss source image why = IsPutRefusal image (name_bytes name) kind source loss why
 IsBarredBy (kinds.CopyFile from name to) loss source image why = IsCopyRefusal source (name_bytes name) (name_bytes to) image loss why
-IsBarredBy (kinds.Store records columns name) loss source image why = IsStoreRefusal image (name_bytes name) source loss why
+IsBarredBy (kinds.Store records columns name) loss source image why = IsNotStoredAs columns image (name_bytes name) source loss why
 
 -- the change was made of an image as it is
 abbrev pub IsDone : Change → (image : List ℕ) → Changed → Type 0

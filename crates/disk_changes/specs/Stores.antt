@@ -1,10 +1,15 @@
 -- What comes of storing records in a file of an image. Our own.
-use Rattle.std.specs.Prelude.{◌≡◌, List, Some, slice_get, ℕ}
+use Rattle.std.specs.Prelude.{◌≡◌, ◌⊎◌, List, [], Some, slice_get, ℕ}
 use Rattle.command_faults.specs.declared.faults.CommandFault.TheVariants as faults
 use Rattle.d64_image.specs.Memory.{disk_image, sectors_in}
 use Rattle.damaged_files.specs.declared.sides.planning.Loss.{Loss}
 use Rattle.disk_changes.specs.Judged.{IsUnusable, IsUsableBut, IsUsableDisk}
 use Rattle.disk_changes.specs.declared.changes.Changed.{Changed}
+use Rattle.disk_changes.specs.declared.changes.Columns.{Columns}
+use Rattle.disk_changes.specs.declared.changes.Columns.TheVariants as columns
+use Rattle.disk_changes.specs.lines.TypedLines.{AreMadeOf}
+use Rattle.file_rescues.specs.Records.{IsRecordFile}
+use Rattle.line_text.specs.declared.petscii.characters.CharacterSet.{CharacterSet}
 use Rattle.command_faults.specs.declared.faults.CommandFault.{CommandFault}
 use Rattle.disk_layout.specs.Layout.{File, record_length}
 use Rattle.disk_layout.specs.Records.{records}
@@ -47,3 +52,20 @@ IsStoreRefusal image name text cut (faults.RecordsLine k) = IsUsableBut image cu
 IsStoreRefusal image name text cut faults.DiskFull =
     IsUsableBut image cut (HasNoStoreRoom (sectors_in image) name text)
 IsStoreRefusal image name text cut why = IsUnusable image cut why
+
+-- the text is made of the lines that were given, which are typed in the characters of this set, over the records of the file
+abbrev pub IsTypedText : CharacterSet → (image name given text : List ℕ) → Type 0
+IsTypedText set image name given text = (file : File) × IsRecordFile image name file
+    × AreMadeOf set (records (sectors_in image) file) (lines given) text
+
+-- lines with these columns are stored so: typed ones as the lines that are made of them
+abbrev pub IsStoredAs : Columns → (image name given : List ℕ) → Loss → Changed → Type 0
+IsStoredAs (columns.Text set) image name given cut made =
+    (text : List ℕ) × IsTypedText set image name given text × IsStored image name text cut made
+IsStoredAs _ image name given cut made = IsStored image name given cut made
+
+-- why they aren't: typed ones because not even no line is, or because the lines that are made of them aren't
+abbrev pub IsNotStoredAs : Columns → (image name given : List ℕ) → Loss → CommandFault → Type 0
+IsNotStoredAs (columns.Text set) image name given cut why = IsStoreRefusal image name [] cut why
+    ⊎ ((text : List ℕ) × IsTypedText set image name given text × IsStoreRefusal image name text cut why)
+IsNotStoredAs _ image name given cut why = IsStoreRefusal image name given cut why

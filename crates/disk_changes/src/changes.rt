@@ -7,6 +7,7 @@ use d64_image::MemDisk;
 use damaged_files::Loss;
 use file_changes::{FileType, Name};
 use file_rescues::ColumnForm;
+use line_text::CharacterSet;
 
 /// What is changed of the files of a disk. A new file can have each name that a file gets, and a record 1 to 254 bytes; who makes
 /// a change ensures that.
@@ -130,6 +131,8 @@ pub enum Columns {
     One,
     /// Several for each record, in this form.
     Several(ColumnForm),
+    /// One, typed in the characters of this set.
+    Text(CharacterSet),
 }
 
 /// What a repair does with the sectors that the map calls taken and that no file owns.

@@ -15,7 +15,7 @@ use crate::rebuilding::rebuilt;
 use crate::renaming::renamed;
 use crate::repairing::repaired;
 use crate::sorting::sorted;
-use crate::storing::stored;
+use crate::storing::stored_as;
 use crate::titling::titled;
 use crate::undeleting::undeleted;
 use command_faults::CommandFault;
@@ -47,7 +47,9 @@ fn change_plain(alloc: Global, what: &Change<'_>, image: &[u8]) -> Result<Change
         ChangeKind::CopyFile { name, to, .. } => {
             copied(alloc, image, source, name.as_bytes(), to.as_bytes(), loss)
         }
-        ChangeKind::Store { name, .. } => stored(alloc, image, name.as_bytes(), source, loss),
+        ChangeKind::Store { columns, name, .. } => {
+            stored_as(alloc, image, name.as_bytes(), *columns, source, loss)
+        }
     }
 }
 

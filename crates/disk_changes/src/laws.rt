@@ -1,7 +1,9 @@
 //! Laws of records that are stored, of repairs, and of directory art, each the contract of a function that does nothing.
 ghost use Rattle.std.specs.Prelude.{◌≡◌, ◌≤◌, ◌⊎◌, ◌++◌, ℕ, Bool, List, [], drop, length};
 ghost use Rattle.std.specs.Io.KnownBytes.{Appends};
-ghost use Rattle.line_text.specs.bytes.Texts.{AreBytes};
+ghost use Rattle.line_text.specs.bytes.Texts.{AreBytes, trimmed};
+ghost use Rattle.line_text.specs.petscii.Quoted.{one_line};
+ghost use Rattle.line_text.specs.declared.petscii.characters.CharacterSet.{CharacterSet};
 ghost use Rattle.d64_image.specs.History.{WritesNothing};
 ghost use Rattle.d64_image.specs.Images.{Image};
 ghost use Rattle.d64_image.specs.Memory.{sectors_in};
@@ -10,10 +12,11 @@ ghost use Rattle.disk_layout.specs.Records.{records};
 ghost use Rattle.disk_layout.specs.declared.slot.Slot.{Slot};
 ghost use Rattle.disk_changes.specs.Art.{HasArt};
 ghost use Rattle.disk_changes.specs.lines.ColumnLines.{plain_text};
+ghost use Rattle.disk_changes.specs.lines.TypedLines.{AreMadeOf, IsOfRecord};
 ghost use Rattle.file_rescues.specs.Forms.{HasPositions, records_as};
 ghost use Rattle.file_rescues.specs.Printed.{AreRecordsPrinted};
 ghost use Rattle.file_rescues.specs.Records.{IsRecordFile, records_text};
-ghost use Rattle.file_rescues.specs.declared.forms.RecordForm.TheVariants.{Columns, Lines};
+ghost use Rattle.file_rescues.specs.declared.forms.RecordForm.TheVariants.{Columns, Lines, Text};
 ghost use Rattle.file_rescues.specs.declared.forms.ColumnForm.{ColumnForm};
 ghost use Rattle.disk_changes.specs.mended.Repairs.{IsMendedAs, mended_text};
 ghost use Rattle.disk_changes.specs.lines.Stores.{
@@ -101,6 +104,19 @@ pub fn records_come_back<D: Sectors, W: Write>()
 pub fn columns_come_back()
     ensures { (form : ColumnForm) (rs : List (List ℕ)) → HasPositions form → length rs ≤ 182880
         → plain_text form (records_as (Columns form) rs) ≡ records_text rs }
+{}
+
+/// What `records_image` prints of a file in the characters of a set, and is stored again in these, changes nothing: the lines that are
+/// made of it over the file's records are those that `records_image` prints without a set (`records_come_back`).
+pub fn shown_records_come_back()
+    ensures { (set : CharacterSet) (L : ℕ) (rs : List (List ℕ)) (plain : List ℕ) → L ≤ 254 → AreRecords L rs → length rs ≤ 182880
+        → AreMadeOf set rs (lines (records_as (Text set) rs)) plain → plain ≡ records_text rs }
+{}
+
+/// A line that is typed is made the line of a record that reads as it does.
+pub fn typed_records_read_so()
+    ensures { (set : CharacterSet) (rs : List (List ℕ)) (line made : List ℕ) → (x : IsOfRecord set rs line made)
+        → (x.text ≡ one_line set (trimmed x.bytes)) ⊎ (x.text ≡ one_line set x.bytes) }
 {}
 
 /// Two repairs of one image print one text, and leave as many sectors: what a repair of a copy prints, one of the disk

@@ -31,7 +31,8 @@ pub use changing::change;
 pub use entry_types::EntryType;
 pub use laws::{
     columns_come_back, last_lines_count, printed_records_are_stored, records_come_back,
-    repairs_print_the_same, sound_disks_have_no_art, stored_again_is_quiet, stored_records_are_so,
+    repairs_print_the_same, shown_records_come_back, sound_disks_have_no_art,
+    stored_again_is_quiet, stored_records_are_so, typed_records_read_so,
 };
 pub use lines::column_lines::plain_lines;
 pub use lines::record_storing::store_image;

@@ -4,3 +4,4 @@ pub(crate) mod judging;
 pub(crate) mod last_lines;
 pub(crate) mod record_storing;
 pub(crate) mod storing;
+pub(crate) mod typed_lines;

@@ -1,5 +1,5 @@
 -- What is printed of an image as a row of a table: comma-separated values (RFC 4180), a line for each. Our own.
-use Rattle.std.specs.Prelude.{ℕ, List, [], ◌∷◌, ◌++◌, None, Option, Some, codes, decimal, flat_map, slice_range}
+use Rattle.std.specs.Prelude.{ℕ, List, [], ◌∷◌, ◌++◌, None, Option, Some, codes, decimal, flat_map, length, slice_range}
 use Rattle.std.specs.Prelude.{◌||◌, if◌then◌else◌, nat_eq, nat_lt}
 use Rattle.d64_image.specs.Images.{Sector}
 use Rattle.line_text.specs.bytes.Texts.{text_of}
@@ -17,6 +17,10 @@ use Rattle.damaged_files.specs.reached.Names.{disk_name}
 -- the first line: what stands in each column
 abbrev pub heading : List ℕ
 heading = codes "name,size,verdict,track,sector,free,disk,id,short,fewer,sha1,sha256\n"
+
+-- and in each column of images that are described as they are
+abbrev pub heading_as_is : List ℕ
+heading_as_is = codes "name,size,verdict,track,sector,free,disk,id,short,fewer,sha1,sha256,errors,beyond\n"
 
 -- a byte of a field: a quotation mark stands twice, and a control byte is written by its number, as \u001b
 unfoldable pub field_char : ℕ → List ℕ
@@ -67,3 +71,18 @@ size_cell (Some size) = codes "," ++ (decimal size ++ codes ",")
 -- the row of an image that is refused for this reason
 abbrev pub refused_row : List ℕ → Option ℕ → List ℕ → List ℕ
 refused_row name size why = field name ++ (size_cell size ++ (why ++ codes ",,,,,,,,,\n"))
+
+-- how many sectors weren't read, and at how many places files go on past track 35
+abbrev pub missing_cells : (errors beyond : ℕ) → List ℕ
+missing_cells errors beyond = codes "," ++ (decimal errors ++ (codes "," ++ (decimal beyond ++ codes "\n")))
+
+-- the row of an image that is described as it is: of its first 35 tracks, with its size and its hashes, and what isn't on these tracks
+abbrev pub row_as_is : List ℕ → Option Fault → Sector → Option Shortfall → List ℕ → (errors beyond : ℕ) → List ℕ
+row_as_is name found map lack image errors beyond =
+    (field name ++ (codes "," ++ (decimal (length image) ++ (codes "," ++ (verdict_cells found ++ (codes "," ++ (disk_cells map
+    ++ (codes "," ++ (lack_cells lack ++ codes ",")))))))))
+    ++ ((flat_map digits (sha1 image) ++ (codes "," ++ flat_map digits (sha256 image))) ++ missing_cells errors beyond)
+
+-- the row of one that is refused for this reason
+abbrev pub refused_as_is : List ℕ → Option ℕ → List ℕ → List ℕ
+refused_as_is name size why = field name ++ (size_cell size ++ (why ++ codes ",,,,,,,,,,,\n"))

@@ -27,11 +27,14 @@ mod texts;
 mod trail;
 
 pub use concerned::list_files;
-pub use describing::{describe_image, describe_refusal, heading};
+pub use describing::{
+    describe_as_is, describe_image, describe_refusal, heading, heading_as_is, refusal_as_is,
+};
 pub use directory_listing::list_image;
 pub use judging::{check_among, check_image};
 pub use laws::{named_sides_hold, strings_are_read_back};
 pub use listing::list_faults;
 pub use near_names::print_near_names;
 pub use plans::{PlanForm, PlanVerdict, plan_heading, plan_image, plan_refusal};
+pub use rows::Missing;
 pub use texts::NameForm;

@@ -7,4 +7,5 @@ use Rattle.disk_changes.specs.declared.changes.Columns.TheVariants as columns
 -- the text with one column for each record
 abbrev pub text_in : Columns → List ℕ → List ℕ
 text_in columns.One text = text
+text_in (columns.Text set) text = text
 text_in (columns.Several form) text = plain_text form text

@@ -25,13 +25,13 @@ use std::alloc::Global;
 use std::fs::OpenFile;
 use std::io::{Read, Write};
 
-/// The text with one column for each record. `NoMemory` if there was none for it.
+/// The text with one column for each record; typed lines have one. `NoMemory` if there was none for it.
 fn one_column(alloc: Global, columns: Columns, text: Vec<u8>) -> Result<Vec<u8>, CommandFault>
     ensures ok { IfOk result (λ plain. vec_items plain ≡ text_in columns (vec_items text)) }
     ensures err { IfErr result (λ refusal. refusal ≡ NoMemory) }
 {
     match columns {
-        Columns::One => Ok(text),
+        Columns::One | Columns::Text(_) => Ok(text),
         Columns::Several(form) => match plain_lines(alloc, form, text.as_slice()) {
             Ok(plain) => Ok(plain),
             Err(_) => Err(CommandFault::NoMemory),

@@ -34,4 +34,5 @@ object_extent (objects.Show loss as_is) = if as_is then FirstTracks else Disk
 -- and which are described
 abbrev pub form_extent : ImageForm → Extent
 form_extent (forms.Shown object) = object_extent object
+form_extent forms.TableAsIs = Whole
 form_extent _ = Disk

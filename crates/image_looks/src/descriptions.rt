@@ -12,12 +12,15 @@ ghost use Rattle.opened_files.specs.Rights.{MayLook, MayReadImage};
 ghost use Rattle.image_looks.specs.declared.descriptions.ImageForm.TheVariants as forms;
 
 use crate::each_image::{PrintsImage, print_each, several_end};
-use crate::objects::{ImageObject, show_object, show_refused};
+use crate::objects::{ImageObject, show_object, show_refused, status_by_check};
 use crate::plans::{plan_against, plan_of};
 use command_faults::CommandFault;
 use disk_layout::Fault;
-use disk_reports::{PlanForm, describe_image, describe_refusal, heading, plan_heading};
+use disk_reports::{
+    PlanForm, describe_image, describe_refusal, heading, heading_as_is, plan_heading, refusal_as_is,
+};
 use image_file::{HostFiles, Locks};
+use json_looks::check_row;
 use opened_files::{Extent, size_of};
 use std::alloc::Global;
 use std::fs::OpenFile;
@@ -28,6 +31,9 @@ use std::io::{Read, Write};
 pub enum ImageForm {
     /// By a row of a table of what is known of each: comma-separated values (RFC 4180), below a heading.
     Table,
+    /// By a row of each as it is: an image of 40 or 42 tracks, or with error bytes, is described by its first 35 tracks, and two columns
+    /// say what isn't on these.
+    TableAsIs,
     /// By what can be done for each.
     Planned(PlanForm),
     /// By an object of what a look prints of each.
@@ -41,6 +47,7 @@ impl ImageForm {
     {
         match self {
             ImageForm::Shown(object) => object.extent(),
+            ImageForm::TableAsIs => Extent::Whole,
             _ => Extent::Disk,
         }
     }
@@ -52,6 +59,7 @@ fn heading_of(form: ImageForm) -> &'static [u8]
 {
     match form {
         ImageForm::Table => heading(),
+        ImageForm::TableAsIs => heading_as_is(),
         ImageForm::Planned(form) => plan_heading(form),
         ImageForm::Shown(_) => b"",
     }
@@ -77,6 +85,26 @@ where
     describe_refusal(path.as_bytes(), size_of(rt, path), why.as_bytes(), out)
 }
 
+/// Prints the row of an image that is refused, among those that are described as they are.
+fn print_refused_whole<R, W>(
+    rt: &R,
+    path: &str,
+    refusal: CommandFault,
+    out: &mut W,
+) -> Result<(), CommandFault>
+where
+    R: HostFiles + AllocGlobal,
+    W: Write,
+    requires { MayLook R.rights rt.now path.now }
+    ensures ok { OnOk result (IsRefusalPrinted W.contents forms.TableAsIs path.now refusal out.old out.new) }
+    ensures err { IfErr result IsCutOff }
+{
+    let Ok(why) = format!(in rt.alloc(); "{refusal}") else {
+        return Err(CommandFault::NoMemory);
+    };
+    refusal_as_is(path.as_bytes(), size_of(rt, path), why.as_bytes(), out)
+}
+
 /// Prints of the image at a path that is refused what the command would print of it alone.
 fn print_refusal_in<R, W>(
     rt: &R,
@@ -94,6 +122,7 @@ where
 {
     match form {
         ImageForm::Table => print_refused(rt, path, refusal, out),
+        ImageForm::TableAsIs => print_refused_whole(rt, path, refusal, out),
         ImageForm::Planned(form) => plan_against(
             rt.alloc(),
             form,
@@ -157,6 +186,7 @@ fn describe_one<W: Write>(
 {
     match form {
         ImageForm::Table => status_by_fault(describe_image(alloc, path.as_bytes(), image, out)),
+        ImageForm::TableAsIs => status_by_check(check_row(alloc, path, image, out)),
         ImageForm::Planned(form) => status_by_fault(plan_of(alloc, form, path, image, out)),
         ImageForm::Shown(object) => show_object(alloc, object, path, image, out),
     }

@@ -105,7 +105,7 @@ fn status_by_end(shown: Result<(), CommandFault>) -> Result<u8, CommandFault>
 }
 
 /// The exit status of an image that was shown, and of which this says whether it is whole.
-fn status_by_check(whole: Result<bool, CommandFault>) -> Result<u8, CommandFault>
+pub(crate) fn status_by_check(whole: Result<bool, CommandFault>) -> Result<u8, CommandFault>
     ensures { result ≡ status_of whole }
 {
     match whole {

@@ -20,6 +20,8 @@ use Rattle.disk_pictures.specs.Outcomes.{map_in}
 use Rattle.disk_pictures.specs.Trims.{IsAllThere}
 use Rattle.disk_pictures.specs.declared.drawing.Drawing.{Drawing}
 use Rattle.disk_reports.specs.Outcomes.{AreFound}
+use Rattle.disk_reports.specs.Rows.{row_as_is}
+use Rattle.std.specs.Io.KnownBytes.{Appends}
 use Rattle.command_faults.specs.declared.faults.CommandFault.{CommandFault}
 use Rattle.command_faults.specs.declared.faults.CommandFault.TheVariants as faults
 use Rattle.hex.specs.Hex.{encode_lower}
@@ -124,3 +126,17 @@ IsCheckFault image faults.ImageSize = ¬ (IsImageSize (length image))
 IsCheckFault image faults.NoMemory = IsImageSize (length image)
 IsCheckFault image faults.File = IsImageSize (length image)
 IsCheckFault image _ = ⊥
+
+-- an image was checked and printed as such a row: with as many sectors that weren't read, and as many places at which files go on past
+-- track 35, as its object has. And this says whether the check finds no fault, and all is there
+pub record IsRowShown {W : Type 0} (contents : W → Option (List ℕ)) (name image : List ℕ) (old new : W) (whole : Bool) : Type 0 where
+  pub size : IsImageSize (length image)
+  pub found : Option Fault
+  pub verdict : IsVerdict (sectors_in (disk_of image)) found
+  pub lack : Option Shortfall
+  pub lacks : IsShortfallOf (sectors_in (disk_of image)) lack
+  pub drawn : Option Layout
+  pub is_drawn : IsDrawnOf image drawn
+  pub printed : Appends (contents old) (contents new) (row_as_is name found (map_in (disk_of image)) lack image
+      (length (error_items image drawn)) (length (beyond_items image drawn)))
+  pub told : IsTrue whole ↔ (found ≡ None) × IsAllDrawn image drawn

@@ -3,11 +3,11 @@ ghost use Rattle.std.specs.Prelude.{◌≡◌, ◌≢◌, ◌↔◌, ◌≤◌, 
 ghost use Rattle.command_faults.specs.declared.faults.CommandFault.TheVariants as faults;
 ghost use Rattle.damaged_files.specs.reached.Names.{disk_name as name_of_disk, name_of};
 ghost use Rattle.disk_pictures.specs.Held.{drawn_in};
-ghost use Rattle.json_looks.specs.Checks.{IsAllDrawn, IsCheckFault, IsCheckShown, check_data, drawn_if, early_with, fewer_end, late_with, short_end, unchecked_data};
+ghost use Rattle.json_looks.specs.Checks.{IsAllDrawn, IsCheckFault, IsCheckShown, IsRowShown, check_data, drawn_if, early_with, fewer_end, late_with, short_end, unchecked_data};
 ghost use Rattle.disk_layout.specs.View.{blocks_free};
 ghost use Rattle.hex.specs.Hex.{encode_lower};
 ghost use Rattle.json_looks.specs.Entries.{count_if, typed};
-ghost use Rattle.json_looks.specs.Missing.{beyond_items};
+ghost use Rattle.json_looks.specs.Missing.{beyond_items, error_items};
 ghost use Rattle.json_looks.specs.Objects.{IsObjectFault, IsObjectPrinted};
 ghost use Rattle.line_text.specs.bytes.Texts.{text_of};
 ghost use Rattle.json_looks.specs.Verdicts.{found_place, found_text};
@@ -25,7 +25,7 @@ use d64_image::Place;
 use damaged_files::{Shortfall, disk_name, find_shortfall, first_tracks};
 use disk_layout::{BamView, Fault, Slot, map_place};
 use disk_pictures::{Drawing, drawn_of};
-use disk_reports::list_files;
+use disk_reports::{Missing, describe_as_is, list_files};
 use layout_check::verdict;
 use line_text::Text;
 use serde_json::{Map, Value, json, put};
@@ -271,6 +271,53 @@ pub fn check_object<W: Write>(
     };
     print_object(alloc, &value, out)?;
     Ok(is_clean(image, finding.found, finding.drawing))
+}
+
+/// How many sectors of an image weren't read, and at how many places files go on past track 35: as many as its object has.
+fn count_missing(
+    alloc: Global,
+    image: &[u8],
+    drawing: Option<&Drawing>,
+) -> Result<Missing, AllocError>
+    requires { 174848 ≤ length image.now }
+    ensures { IfOk result (λ missing.
+        (missing.errors ≡ length (error_items image.now (option_map (λ drawn. drawn_in drawn.now) drawing.entry)))
+        × (missing.beyond ≡ length (beyond_items image.now (option_map (λ drawn. drawn_in drawn.now) drawing.entry)))) }
+{
+    let errors = error_values(alloc, image, drawing)?.len();
+    let beyond = beyond_values(alloc, image, drawing)?.len();
+    Ok(Missing { errors, beyond })
+}
+
+/// Checks the disk in an image as `check_object` does, and prints what is found as a row of a table (`describe_as_is`). Returns whether
+/// there is no fault, each sector was read, and no file goes on past track 35.
+///
+/// `ImageSize`; `NoMemory`: nothing was printed then. `File` if the output failed, which may then have a part.
+pub fn check_row<W: Write>(
+    alloc: Global,
+    name: &str,
+    image: &[u8],
+    out: &mut W,
+) -> Result<bool, CommandFault>
+    ensures ok { IfOk result (IsRowShown W.contents name.now image.now out.old out.new) }
+    ensures err { IfErr result (IsCheckFault image.now) }
+    // At a refusal something was printed only if the output failed.
+    ensures untouched { IfErr result (λ fault. (fault ≢ faults.File) → out.new ≡ out.old) }
+{
+    let Some(tracks) = first_tracks(image) else {
+        return Err(CommandFault::ImageSize);
+    };
+    let drawn = drawn_of(alloc, tracks)?;
+    let mut disk = load(alloc, tracks)?;
+    let found = verdict(&mut disk);
+    let lack = find_shortfall(&mut disk);
+    let drawing = drawing_in(&drawn);
+    let Ok(missing) = count_missing(alloc, image, drawing) else {
+        return Err(CommandFault::NoMemory);
+    };
+    let map = disk.sector(map_place());
+    describe_as_is(name.as_bytes(), image, found, map, lack, missing, out)?;
+    Ok(is_clean(image, found, drawing))
 }
 
 /// The object of an image that is refused.

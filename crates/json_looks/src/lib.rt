@@ -12,7 +12,7 @@ mod sector_maps;
 mod shops;
 mod verdicts;
 
-pub use checks::{check_object, print_unchecked};
+pub use checks::{check_object, check_row, print_unchecked};
 pub use free_counts::free_object;
 pub use listings::list_object;
 pub use printing::print_refused;

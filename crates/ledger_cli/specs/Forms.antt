@@ -54,10 +54,15 @@ abbrev pub IsRecordForm : List Row → RecordForm → Type 0
 IsRecordForm rows (records.Columns form) = AsksForColumns rows form
 IsRecordForm rows form = AsksForNone rows × (form ≡ record_form (set_in rows))
 
--- the columns that records are read in
+-- the column of lines that are typed in this text, or the one that is read without
+abbrev pub text_columns : Option CharacterSet → Columns
+text_columns None = columns.One
+text_columns (Some set) = columns.Text set
+
+-- the columns that records are read in: several, or one, and then maybe typed
 abbrev pub AreColumns : List Row → Columns → Type 0
-AreColumns rows columns.One = AsksForNone rows
 AreColumns rows (columns.Several form) = AsksForColumns rows form
+AreColumns rows form = AsksForNone rows × (form ≡ text_columns (set_in rows))
 
 -- the form of records that the words ask for, or why there is none
 abbrev pub IsAskedForm : List Row → Result RecordForm JobFault → Type 0

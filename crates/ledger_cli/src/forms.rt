@@ -3,7 +3,7 @@ ghost use Rattle.std.specs.Prelude.{◌≡◌};
 ghost use Rattle.clap.specs.Words.{found_of, rows_of};
 ghost use Rattle.ledger_cli.specs.Forms.{record_form as of_set};
 ghost use Rattle.ledger_cli.specs.Forms.{effect_in, loss_in, unowned_in};
-ghost use Rattle.ledger_cli.specs.Forms.{AreAskedColumns, IsAskedForm, byte_form_in, name_form_in, set_in};
+ghost use Rattle.ledger_cli.specs.Forms.{AreAskedColumns, IsAskedForm, byte_form_in, name_form_in, set_in, text_columns};
 ghost use Rattle.ledger_cli.specs.Forms.{candidates_in, choice_in};
 ghost use Rattle.ledger_cli.specs.Looks.{alone as alone_look, plan_in};
 
@@ -65,13 +65,23 @@ fn text_set<'a>(matches: &ArgMatches<'a>) -> Option<CharacterSet>
     None
 }
 
+/// How the lines of a text have the records if no columns are asked for.
+fn plain_columns<'a>(matches: &ArgMatches<'a>) -> Columns
+    ensures { result ≡ text_columns (set_in (rows_of (found_of matches.now))) }
+{
+    match text_set(matches) {
+        Some(set) => Columns::Text(set),
+        None => Columns::One,
+    }
+}
+
 /// How the lines of a text have the records.
 pub(crate) fn columns<'a>(matches: &ArgMatches<'a>) -> Result<Columns, JobFault>
     ensures { AreAskedColumns (rows_of (found_of matches.now)) result }
 {
     match columns_asked(matches) {
         Ok(Some(form)) => Ok(Columns::Several(form)),
-        Ok(None) => Ok(Columns::One),
+        Ok(None) => Ok(plain_columns(matches)),
         Err(fault) => Err(fault),
     }
 }

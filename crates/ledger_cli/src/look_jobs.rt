@@ -102,10 +102,12 @@ pub(crate) fn check_job<'a>(alloc: Global, matches: &ArgMatches<'a>) -> Result<J
     }
     if is_given(matches, "csv") {
         let images = images_of(alloc, matches)?;
-        return Ok(Job::Describe {
-            form: ImageForm::Table,
-            images,
-        });
+        if is_given(matches, "as-is") {
+            let form = ImageForm::TableAsIs;
+            return Ok(Job::Describe { form, images });
+        }
+        let form = ImageForm::Table;
+        return Ok(Job::Describe { form, images });
     }
     if is_given(matches, "all") {
         viewing_disks(alloc, matches, DiskLook::Faults)

@@ -1,8 +1,9 @@
 //! Why a line isn't one of a record: what a person has to mend, and in which column.
 
+use arrayvec::ArrayVec;
 use disk_changes::Columns;
 use file_rescues::ColumnForm;
-use line_text::{next_line, number_before_comma};
+use line_text::{CharacterSet, next_line, number_before_comma, read_typed, text_line};
 
 /// The greatest number of a record that a line can have.
 const LAST_RECORD: u32 = 182_880;
@@ -37,6 +38,14 @@ const SEVERAL: &str =
 
 const LONG: &str = "its text has more bytes than a record can have";
 
+const UNSHOWN: &str =
+    "a character that the C64 hasn't in this set; a control code is typed as a backslash and two digits, `\\0d` for example";
+
+const UNDOUBLED: &str =
+    "a quotation mark in a text is typed twice, and the text stands between two others";
+
+const COMMA: &str = "a text with a comma stands between quotation marks";
+
 const BEYOND: &str =
     "the record has fewer bytes than the line, or the file can't have a record of this number";
 
@@ -52,6 +61,14 @@ pub(crate) struct LineFault {
 /// The fault of a whole line.
 fn of_line(said: &'static str) -> Option<LineFault> {
     Some(LineFault { column: None, said })
+}
+
+/// The fault of the column after the number.
+fn of_text(said: &'static str) -> Option<LineFault> {
+    Some(LineFault {
+        column: Some(2),
+        said,
+    })
 }
 
 /// Where a reader of a line's text is.
@@ -183,10 +200,61 @@ fn fault_in_text(text: &[u8], columns: Columns) -> Option<LineFault> {
     of_line(BEYOND)
 }
 
+/// How many bytes of a typed text stand for the byte of a record that begins with this one: a character, a mark that is doubled, or a
+/// backslash and two digits.
+fn piece_of(first: u8) -> usize {
+    match first {
+        b'"' | 0xC0..=0xDF => 2,
+        b'\\' | 0xE0..=0xEF => 3,
+        0xF0..=0xFF => 4,
+        _ => 1,
+    }
+}
+
+/// Whether each byte of a text that is typed in this set stands for a byte of a record, and how many bytes it gives.
+fn typed_pieces(set: CharacterSet, text: &[u8]) -> Option<usize> {
+    let mut bytes = ArrayVec::new();
+    let mut count = 0usize;
+    let mut rest = text;
+    while let [first, ..] = rest {
+        let length = piece_of(*first);
+        if rest.len() < length {
+            return None;
+        }
+        let (piece, behind) = rest.split_at(length);
+        if !read_typed(set, piece, &mut bytes) {
+            return None;
+        }
+        count = count.saturating_add(1);
+        rest = behind;
+    }
+    Some(count)
+}
+
+/// What is wrong with a line that is typed in this set. `text` is what stands after its number.
+fn fault_in_typed(line: &[u8], text: &[u8], set: CharacterSet) -> Option<LineFault> {
+    let Some((_, inner)) = text_line(line) else {
+        return of_text(if text.contains(&b'"') {
+            UNDOUBLED
+        } else {
+            COMMA
+        });
+    };
+    match typed_pieces(set, inner) {
+        None if inner.contains(&b'"') => of_text(UNDOUBLED),
+        None => of_text(UNSHOWN),
+        Some(count) if count > MOST_BYTES => of_line(LONG),
+        Some(_) => of_line(BEYOND),
+    }
+}
+
 /// What is wrong with a line that is no record's. Its number is that of a record, or it has none.
 fn fault_in_line(line: &[u8], columns: Columns) -> Option<LineFault> {
     if let Some((_, text)) = number_before_comma(line, 1, LAST_RECORD) {
-        return fault_in_text(text, columns);
+        return match columns {
+            Columns::Text(set) => fault_in_typed(line, text, set),
+            _ => fault_in_text(text, columns),
+        };
     }
     if line.starts_with(BYTE_ORDER_MARK) {
         return of_line(MARKED);

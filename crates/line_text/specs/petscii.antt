@@ -2,3 +2,4 @@
 pub mod Characters
 pub mod FileNames
 pub mod Quoted
+pub mod Typing

@@ -44,6 +44,7 @@ pub use petscii::file_names::{Ending, FileName, NAME_ROOM, file_name};
 pub use petscii::name_laws::{names_are_safe, names_differ};
 pub use petscii::quoting::{OneLine, Quoted};
 pub use petscii::reading::Readable;
+pub use petscii::typing::{read_typed, reads_as, text_line};
 pub use scripts::event_lines::{event_at, first_bad_line};
 pub use scripts::events::{Cut, Event};
 pub use scripts::laws::line_grammar;

@@ -4,3 +4,4 @@ pub(crate) mod file_names;
 pub(crate) mod name_laws;
 pub(crate) mod quoting;
 pub(crate) mod reading;
+pub(crate) mod typing;

@@ -17,3 +17,5 @@ pub mod Returned
 pub mod SeveralColumns
 pub mod TextGrown
 pub mod TextStored
+pub mod Typed
+pub mod ShownLines

@@ -2,3 +2,5 @@
 pub mod Names
 pub mod Printed
 pub mod Quoted
+pub mod Typed
+pub mod TextLines

@@ -10,7 +10,7 @@ use arrayvec::ArrayVec;
 
 /// The greatest number that a line can have: the 720 blocks that a file's side sectors can name would have 182,880
 /// records of one byte. A disk of 35 tracks has room for 167,132.
-const LAST_RECORD: u32 = 182_880;
+pub(crate) const LAST_RECORD: u32 = 182_880;
 
 /// The bytes between quotation marks, if there are two at the ends. Otherwise all bytes.
 fn unquoted(text: &[u8]) -> &[u8]

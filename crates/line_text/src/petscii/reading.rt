@@ -24,7 +24,7 @@ struct ReadableByte {
 }
 
 /// The digit of a number below 16.
-fn hex_digit(number: u8) -> char
+pub(crate) fn hex_digit(number: u8) -> char
     requires { number < 16 }
     ensures { result ≡ characters.hex_digit number }
 {
