@@ -4,6 +4,7 @@ pub mod Art
 pub mod Changes
 pub mod Copies
 pub mod Deletes
+pub mod GeosPuts
 pub mod Judged
 pub mod Locks
 pub mod Makes

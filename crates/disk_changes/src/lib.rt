@@ -8,6 +8,7 @@ mod changing;
 mod copying;
 mod deleting;
 mod entry_types;
+mod geos_putting;
 mod judging;
 mod laws;
 mod lines;

@@ -1,4 +1,5 @@
 pub mod Cvt
+pub mod Cvts
 pub mod Entries
 pub mod Marked
 pub mod Reached

@@ -4,6 +4,7 @@
 mod changing;
 mod containers;
 mod copying;
+mod cvts;
 mod edits;
 mod effect;
 mod new_disks;
@@ -12,6 +13,7 @@ mod trimming;
 
 pub use changing::change_end;
 pub use containers::{CutFile, cut_in, has_no_file};
+pub use cvts::is_whole_cvt;
 pub use copying::do_copying;
 pub use edits::do_edit;
 pub use effect::Effect;

@@ -118,9 +118,12 @@ pub putting-met : (found : Option (Text × List Row)) (rows : List Row) (image :
 putting-met found rows image r is by-image (inl (name, file, kind, same, at, new, by-file, by-type)) =
     let P : Result Job JobFault → Type 0 = λ j. MatchResult j (IsJob found) (IsNoJob [] found) × IfOk j IsFit in
     subst P (sym same) (record { rows = rows; is = is; holds = (by-image, (at, new, by-file, by-type), refl, refl) }, new.few)
-putting-met found rows image r is by-image (inr (inl (same, missing))) =
+putting-met found rows image r is by-image (inr (inl (name, file, same, at, new, by-file, by-type))) =
+    let P : Result Job JobFault → Type 0 = λ j. MatchResult j (IsJob found) (IsNoJob [] found) × IfOk j IsFit in
+    subst P (sym same) (record { rows = rows; is = is; holds = (by-image, (at, new, by-file, by-type), refl, refl) }, new.few)
+putting-met found rows image r is by-image (inr (inr (inl (same, missing)))) =
     let P : Result Job JobFault → Type 0 = λ j. MatchResult j (IsJob found) (IsNoJob [] found) × IfOk j IsFit in
     subst P (sym same) ((refl, inr (inr (inr (inr (inr (inr (inl (record { rows = rows; is = is; holds = missing })))))))), tt)
-putting-met found rows image r is by-image (inr (inr (same, name, missing))) =
+putting-met found rows image r is by-image (inr (inr (inr (same, name, missing)))) =
     let P : Result Job JobFault → Type 0 = λ j. MatchResult j (IsJob found) (IsNoJob [] found) × IfOk j IsFit in
     subst P (sym same) ((refl, inl (record { rows = rows; is = is; holds = (name, missing) })), tt)

@@ -1,6 +1,7 @@
 -- What the words of a command line ask for (our own).
 use Rattle.std.specs.Prelude.{◌≡◌, ◌⊎◌, ◌||◌, ⊤, Bool, true, false, List, Option, Some, None, Result, Err, [], codes}
 use Rattle.std.specs.Prelude.{length, vec_items}
+use Rattle.std.specs.Str.{bytes_eq}
 use Rattle.std.specs.Option.{option_map_or}
 use Rattle.clap.specs.Words.{HasKind, Kinds, Row, Text, found_of, rows_of, subcommand_rows_of}
 use Rattle.clap.specs.declared.parser.matches.ArgMatches.{ArgMatches}
@@ -50,6 +51,7 @@ word_of_change (kinds.Delete name) = codes "delete"
 word_of_change (kinds.Undelete kind name) = codes "undelete"
 word_of_change kinds.Sort = codes "sort"
 word_of_change (kinds.Put file kind name) = codes "put"
+word_of_change (kinds.PutGeos file name) = codes "put"
 word_of_change (kinds.CopyFile from name to) = codes "copy-file"
 word_of_change (kinds.Store records columns name) = codes "store"
 
@@ -70,6 +72,8 @@ IsChangeIn (kinds.Undelete kind name) rows = IsNameOf (value (codes "NAME") rows
 IsChangeIn kinds.Sort rows = ⊤
 IsChangeIn (kinds.Put file kind name) rows = IsNameOf (value (codes "NAME") rows) (name_bytes name)
     × IsNewName (name_bytes name) × (file.now ≡ value (codes "FILE") rows) × (type_in rows ≡ Some kind)
+IsChangeIn (kinds.PutGeos file name) rows = IsNameOf (value (codes "NAME") rows) (name_bytes name)
+    × IsNewName (name_bytes name) × (file.now ≡ value (codes "FILE") rows) × (bytes_eq (value (codes "TYPE") rows) (codes "cvt") ≡ true)
 IsChangeIn (kinds.CopyFile from name to) rows = IsNameOf (value (codes "NAME") rows) (name_bytes name)
     × IsNameOf (copy_name rows) (name_bytes to) × IsNewName (name_bytes to) × (from.now ≡ value (codes "FROM") rows)
 IsChangeIn (kinds.Store records columns name) rows = IsNameOf (value (codes "NAME") rows) (name_bytes name)

@@ -1,5 +1,5 @@
 -- The names that the words give, and the jobs of files with them. Our own.
-use Rattle.std.specs.Prelude.{◌≡◌, ◌⊎◌, ℕ, List, Option, Some, None, Result, Ok, Err, codes, if◌then◌else◌, length, option_map, unwrap_or}
+use Rattle.std.specs.Prelude.{◌≡◌, ◌⊎◌, ℕ, List, Option, Some, None, Result, Ok, Err, codes, if◌then◌else◌, length, option_map, true, unwrap_or}
 use Rattle.std.specs.Str.{bytes_eq}
 use Rattle.std.specs.Borrow.{Bor}
 use Rattle.clap.specs.Words.{Row, Text, first_of}
@@ -136,11 +136,14 @@ entry_type_in rows = entry_type_named (value (codes "TYPE") rows)
 abbrev pub type_in : List Row → Option FileType
 type_in rows = type_named (value (codes "TYPE") rows)
 
--- the job that puts a file on the disk; or there is no name for it, or no type
+-- the job that puts a file on the disk, of this type, or of GEOS out of a CVT; or there is no name for it, or no type
 abbrev pub IsPuttingJob : List Row → Bor Text → Result Job JobFault → Type 0
 IsPuttingJob rows image result =
     ((name : Name) × (file : Bor Text) × (kind : FileType) × (result ≡ Ok (jobs.Change image (effect_in rows) (loss_in rows) (kinds.Put file kind name)))
     × IsNameOf (value (codes "NAME") rows) (name_bytes name) × IsNewName (name_bytes name)
     × (file.now ≡ value (codes "FILE") rows) × (type_in rows ≡ Some kind))
+    ⊎ (((name : Name) × (file : Bor Text) × (result ≡ Ok (jobs.Change image (effect_in rows) (loss_in rows) (kinds.PutGeos file name)))
+    × IsNameOf (value (codes "NAME") rows) (name_bytes name) × IsNewName (name_bytes name)
+    × (file.now ≡ value (codes "FILE") rows) × (bytes_eq (value (codes "TYPE") rows) (codes "cvt") ≡ true))
     ⊎ (((result ≡ Err faults.Name) × HasNoNewName (codes "NAME") rows)
-    ⊎ ((result ≡ Err faults.Kind) × HasNewName (codes "NAME") rows × (type_in rows ≡ None)))
+    ⊎ ((result ≡ Err faults.Kind) × HasNewName (codes "NAME") rows × (type_in rows ≡ None))))

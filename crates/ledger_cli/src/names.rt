@@ -227,7 +227,11 @@ pub(crate) fn putting<'a>(matches: &ArgMatches<'a>, image: &'a str) -> Result<Jo
     let Some(name) = new_name(value_of(matches, "NAME")) else {
         return Err(JobFault::Name);
     };
-    match type_named(value_of(matches, "TYPE")) {
+    let word = value_of(matches, "TYPE");
+    if word == "cvt" {
+        return Ok(changing(matches, image, ChangeKind::PutGeos { file, name }));
+    }
+    match type_named(word) {
         Some(kind) => Ok(changing(matches, image, ChangeKind::Put { file, kind, name })),
         None => Err(JobFault::Kind),
     }

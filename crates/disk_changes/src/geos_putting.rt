@@ -1,0 +1,283 @@
+//! A file of GEOS put into an image, out of a CVT.
+ghost use Rattle.std.specs.Prelude.{◌≡◌, ◌≤◌, ◌<◌, ◌∷◌, ◌++◌, ◌⊎◌, [], IfErr, IfOk, IfSome, IsTrue, Contains, drop, length, slice_range};
+ghost use Rattle.d64_image.specs.Images.{sector};
+ghost use Rattle.d64_image.specs.Memory.{disk_image};
+ghost use Rattle.command_faults.specs.declared.faults.CommandFault.TheVariants.{NoFile, NoMemory};
+ghost use Rattle.disk_changes.specs.GeosPuts.{HasContent, HasEntryOf, IsGeosPut, IsGeosPutRefusal, IsLaid, IsPlainNamed};
+ghost use Rattle.disk_changes.specs.GeosPuts as specs;
+ghost use Rattle.disk_layout.specs.Layout.{IsLayout, IsSound, Layout};
+ghost use Rattle.file_changes.specs.PutWrites.{SameBeside};
+
+use crate::changes::Changed;
+use crate::judging::sound_disk;
+use crate::outcomes::changed;
+use crate::putting::put;
+use crate::sorting::put_entry;
+use arrayvec::ArrayVec;
+use command_faults::CommandFault;
+use d64_image::{MemDisk, Place, Sectors};
+use damaged_files::{Loss, read_so_far, reach_file};
+use disk_layout::{DATA, EntryView, MOST_BLOCKS, Slot, padded_name};
+use file_changes::{FileType, choose_named};
+use file_rescues::read_file;
+use geos_files::{GeosEntry, cvt_content, geos_entry, reach_geos};
+use std::alloc::Global;
+
+/// How many records a file has.
+const RECORDS: usize = 127;
+
+/// The byte of a CVT that says whether the file has records.
+const STRUCTURE: usize = 21;
+
+/// Writes bytes 0 and 1 of a sector.
+fn put_link(disk: &mut MemDisk, place: Place, track: u8, sector: u8)
+    ensures { SameBeside (disk_image disk.old) (place ∷ []) (disk_image disk.new) }
+{
+    let mut bytes = *disk.sector(place);
+    bytes[0] = track;
+    bytes[1] = sector;
+    let _ = disk.write(place, &bytes);
+}
+
+/// Makes a chain of some of these blocks, from block `from` on, `count` of them, with this last index. Returns the first one. None, and
+/// nothing is done, if there aren't as many.
+fn lay_chain(
+    disk: &mut MemDisk,
+    blocks: &[Place],
+    from: usize,
+    count: usize,
+    last: u8,
+) -> Option<Place>
+    ensures { SameBeside (disk_image disk.old) blocks.now (disk_image disk.new) }
+{
+    let part = blocks.get(from..)?.get(..count)?;
+    let [first, ..] = part else {
+        return None;
+    };
+    let [.., end] = part else {
+        return None;
+    };
+    put_link(disk, *end, 0, last);
+    Some(*first)
+}
+
+/// Makes records of these blocks, whose first two are the info block and the record block. The record block has two bytes for each record:
+/// how many blocks it has, and the index of its last byte. The first of these blocks comes in their place.
+fn lay_records(disk: &mut MemDisk, blocks: &[Place], at: Place)
+    requires { Contains blocks.now at }
+    ensures { SameBeside (disk_image disk.old) blocks.now (disk_image disk.new) }
+{
+    let mut bytes = *disk.sector(at);
+    bytes[0] = 0;
+    bytes[1] = 255;
+    let mut next: usize = 2;
+    for number in 0..RECORDS {
+        let pair = 2 + 2 * number;
+        let count = usize::from(bytes[pair]);
+        if let Some(first) = lay_chain(disk, blocks, next, count, bytes[pair + 1]) {
+            bytes[pair] = first.track();
+            bytes[pair + 1] = first.sector();
+        }
+        next += count;
+    }
+    let _ = disk.write(at, &bytes);
+}
+
+/// The slot with what a CVT says of its entry, and with the places of the info block and of the first block.
+fn geos_slot(slot: &Slot, cvt: &[u8], info: Place, first: Place) -> Slot
+    requires { 30 ≤ length cvt.now }
+{
+    let mut geos = *slot;
+    geos.bytes[2] = cvt[0];
+    geos.bytes[3] = first.track();
+    geos.bytes[4] = first.sector();
+    geos.bytes[21] = info.track();
+    geos.bytes[22] = info.sector();
+    geos.bytes[23..30].copy_from_slice(&cvt[STRUCTURE..28]);
+    geos
+}
+
+/// The first entry of that name of a sound disk. `NoFile` if none has it, or if it is that of a relative file.
+fn plain_named(disk: &MemDisk, name: &[u8]) -> Result<Slot, CommandFault>
+    requires sound { IsSound (disk_image disk.now) }
+    requires name { length name.now ≤ 16 }
+    ensures ok { IfOk result (λ s. (l : Layout) → IsLayout (disk_image disk.now) l → IsPlainNamed l name.now s) }
+    ensures low { IfOk result (λ s. s.number < 8) }
+    ensures err { IfErr result (λ why. why ≡ NoFile) }
+{
+    let mut sectors = ArrayVec::new();
+    let mut entries = ArrayVec::new();
+    let _ = read_so_far(disk, &mut sectors, &mut entries);
+    let slot = choose_named(entries.as_slice(), &padded_name(name))?;
+    if EntryView::new(&slot.bytes).is_relative() {
+        return Err(CommandFault::NoFile);
+    }
+    Ok(slot)
+}
+
+/// Makes the blocks of a file of GEOS of these, which have its content in one chain. Returns the info block and the first block. None, and
+/// nothing is done, if there are fewer than two.
+fn lay_blocks(disk: &mut MemDisk, blocks: &[Place], has_records: bool) -> Option<(Place, Place)>
+    ensures { SameBeside (disk_image disk.old) blocks.now (disk_image disk.new) }
+{
+    let [info, first, ..] = blocks else {
+        return None;
+    };
+    put_link(disk, *info, 0, 255);
+    if has_records {
+        lay_records(disk, blocks, *first);
+    }
+    Some((*info, *first))
+}
+
+/// Makes a file of GEOS of the blocks and the entry of a sound disk's first file of that name, which has the content of a CVT in one chain.
+/// Returns the entry as it was. `NoFile` if that isn't possible.
+fn lay(disk: &mut MemDisk, name: &[u8], cvt: &[u8]) -> Result<Slot, CommandFault>
+    requires sound { IsSound (disk_image disk.old) }
+    requires name { length name.now ≤ 16 }
+    requires size { 30 ≤ length cvt.now }
+    ensures ok { IfOk result (λ s. (l : Layout) → IsLayout (disk_image disk.old) l
+        → IsLaid (disk_image disk.old) l name.now s (disk_image disk.new)) }
+    ensures err { IfErr result (λ why. why ≡ NoFile) }
+{
+    let slot = plain_named(disk, name)?;
+    let mut blocks: ArrayVec<Place, MOST_BLOCKS> = ArrayVec::new();
+    let reach = reach_file(disk, &slot, &mut blocks);
+    if reach.fault.is_some() {
+        return Err(CommandFault::NoFile);
+    }
+    let Some((info, first)) = lay_blocks(disk, blocks.as_slice(), cvt[STRUCTURE] == 1) else {
+        return Err(CommandFault::NoFile);
+    };
+    let entry = geos_slot(&slot, cvt, info, first);
+    put_entry(disk, &slot, &entry);
+    Ok(slot)
+}
+
+/// How many blocks come before those of the data.
+fn leading(entry: &GeosEntry) -> usize
+    ensures { result ≡ specs.leading entry.now }
+{
+    if entry.has_records { 2 } else { 1 }
+}
+
+/// The blocks of the data.
+fn data_blocks<'a>(blocks: &'a [Place], entry: &GeosEntry) -> &'a [Place]
+    ensures value { result.now ≡ drop (specs.leading entry.now) blocks.now }
+    ensures few { length result.now ≤ length blocks.now }
+{
+    let leading = leading(entry);
+    if leading > blocks.len() {
+        return &blocks[blocks.len()..];
+    }
+    &blocks[leading..]
+}
+
+/// Whether the content is these three parts, one after another.
+fn is_joined(content: &[u8], front: &[u8], middle: &[u8], back: &[u8]) -> bool
+    ensures { IsTrue result → content.now ≡ front.now ++ (middle.now ++ back.now) }
+{
+    let Some(rest) = content.strip_prefix(front) else {
+        return false;
+    };
+    match rest.strip_prefix(middle) {
+        Some(rest) => rest == back,
+        None => false,
+    }
+}
+
+/// Whether the CVT of the entry's file has this content from its info block on, and no fault is in the way. `NoMemory` if there was none for it.
+fn has_content(
+    alloc: Global,
+    disk: &MemDisk,
+    slot: &Slot,
+    content: &[u8],
+) -> Result<bool, CommandFault>
+    ensures ok { IfOk result (λ is. IsTrue is → HasContent (disk_image disk.now) slot.now content.now) }
+    ensures err { IfErr result (λ why. why ≡ NoMemory) }
+{
+    let Some(entry) = geos_entry(slot) else {
+        return Ok(false);
+    };
+    let mut blocks: ArrayVec<Place, MOST_BLOCKS> = ArrayVec::new();
+    let mut pairs: ArrayVec<u8, DATA> = ArrayVec::new();
+    let reach = reach_geos(disk, &entry, &mut blocks, &mut pairs);
+    if reach.fault.is_some() {
+        return Ok(false);
+    }
+    let data = read_file(alloc, disk, data_blocks(blocks.as_slice(), &entry), reach.last)?;
+    let info = &disk.sector(entry.info)[2..256];
+    Ok(is_joined(
+        content,
+        info,
+        pairs.as_slice(),
+        data.as_slice(),
+    ))
+}
+
+/// Whether both are the same bytes.
+fn are_same(one: &[u8], other: &[u8]) -> bool
+    ensures { IsTrue result → one.now ≡ other.now }
+{
+    one == other
+}
+
+/// Whether the entry has this name, and what a CVT says of it.
+fn has_entry_of(slot: &Slot, name: &[u8], cvt: &[u8]) -> bool
+    requires name { length name.now ≤ 16 }
+    requires size { 30 ≤ length cvt.now }
+    ensures { IsTrue result → HasEntryOf slot.now name.now cvt.now }
+{
+    if EntryView::new(&slot.bytes).is_relative() || slot.bytes[2] != cvt[0] {
+        return false;
+    }
+    are_same(&slot.bytes[5..21], &padded_name(name))
+        && are_same(&slot.bytes[23..30], &cvt[STRUCTURE..28])
+}
+
+/// Whether the entry is that of the file that a CVT holds, whose content this is, under this name.
+fn is_made(
+    alloc: Global,
+    disk: &MemDisk,
+    slot: &Slot,
+    name: &[u8],
+    cvt: &[u8],
+    content: &[u8],
+) -> Result<bool, CommandFault>
+    requires name { length name.now ≤ 16 }
+    requires size { 30 ≤ length cvt.now }
+    ensures ok { IfOk result (λ is. IsTrue is → HasEntryOf slot.now name.now cvt.now
+        × HasContent (disk_image disk.now) slot.now content.now) }
+    ensures err { IfErr result (λ why. why ≡ NoMemory) }
+{
+    if !has_entry_of(slot, name, cvt) {
+        return Ok(false);
+    }
+    has_content(alloc, disk, slot, content)
+}
+
+/// The image with the file of GEOS that a CVT holds, under this name, which was judged before. The new disk is judged, too.
+pub(crate) fn geos_put(
+    alloc: Global,
+    image: &[u8],
+    name: &[u8],
+    cvt: &[u8],
+    cut: Loss,
+) -> Result<Changed, CommandFault>
+    requires name { length name.now ≤ 16 }
+    ensures ok { IfOk result (IsGeosPut image.now name.now cvt.now cut) }
+    ensures err { IfErr result (IsGeosPutRefusal image.now name.now cvt.now cut) }
+{
+    let Some(content) = cvt_content(cvt) else {
+        return Err(CommandFault::NoFile);
+    };
+    let first = put(alloc, image, name, FileType::Usr, content, cut)?;
+    let mut disk = first.disk;
+    let slot = lay(&mut disk, name, cvt)?;
+    let judged = sound_disk(alloc, disk.bytes())?;
+    let now = Slot::in_sector(judged.sector(slot.sector), slot.sector, slot.number);
+    if !is_made(alloc, &judged, &now, name, cvt, content)? {
+        return Err(CommandFault::NoFile);
+    }
+    changed(alloc, judged, b"PUT\n")
+}

@@ -1,0 +1,134 @@
+//! A CVT taken apart.
+ghost use Rattle.std.specs.Prelude.{◌≡◌, ◌≤◌, ◌<◌, ◌*◌, IfSome, length, option_map};
+ghost use Rattle.geos_files.specs.Cvts as cvts;
+
+use crate::headers::cvt_signature;
+
+/// How many records a file has.
+const RECORDS: usize = 127;
+
+/// Where the signature is, after the entry from its type on.
+const SIGNATURE: usize = 30;
+
+/// Where the info block begins.
+const INFO: usize = 254;
+
+/// Where the bytes for the records begin.
+const PAIRS: usize = 508;
+
+/// Whether the file has records.
+fn has_records(bytes: &[u8]) -> bool
+    requires { 508 < length bytes.now }
+    ensures { result ≡ cvts.has_records bytes.now }
+{
+    bytes[21] == 1
+}
+
+/// How many blocks all records have.
+fn record_blocks(bytes: &[u8]) -> usize
+    requires { 762 ≤ length bytes.now }
+    ensures value { result ≡ cvts.record_blocks bytes.now 127 }
+    ensures few { result ≤ 255 * 127 }
+{
+    let mut blocks = 0;
+    for number in 0..RECORDS {
+        blocks += bytes[PAIRS + 2 * number] as usize;
+    }
+    blocks
+}
+
+/// The index of the last byte of the last record that has a block. 255 if none has one.
+fn last_index(bytes: &[u8]) -> usize
+    requires { 762 ≤ length bytes.now }
+    ensures value { result ≡ cvts.last_index bytes.now 127 }
+    ensures low { result ≤ 255 }
+{
+    let mut last = 255;
+    for number in 0..RECORDS {
+        if bytes[PAIRS + 2 * number] != 0 {
+            last = bytes[PAIRS + 1 + 2 * number];
+        }
+    }
+    last as usize
+}
+
+/// Where the last record ends.
+fn records_end(bytes: &[u8]) -> usize
+    requires { 762 ≤ length bytes.now }
+    ensures value { result ≡ cvts.records_end bytes.now }
+    ensures high { 507 ≤ result }
+    ensures low { result ≤ 9000000 }
+{
+    PAIRS - 1 + 254 * record_blocks(bytes) + last_index(bytes)
+}
+
+/// What comes after the first 254 bytes of a file with records, if no block is missing.
+fn records_content(bytes: &[u8]) -> Option<&[u8]>
+    ensures { option_map (λ content. content.now) result ≡ cvts.records_content bytes.now }
+{
+    if bytes.len() < 762 {
+        return None;
+    }
+    let end = records_end(bytes);
+    if last_index(bytes) < 2 {
+        return None;
+    }
+    if end > bytes.len() {
+        return None;
+    }
+    if bytes.len() >= end + 254 {
+        return None;
+    }
+    Some(&bytes[INFO..end])
+}
+
+/// What comes after the first 254 bytes of a file with one chain, if no block is missing.
+fn chain_content(bytes: &[u8]) -> Option<&[u8]>
+    requires { 508 < length bytes.now }
+    ensures { option_map (λ content. content.now) result ≡ cvts.chain_content bytes.now }
+{
+    let counted = usize::from(bytes[28]) + 256 * usize::from(bytes[29]);
+    if counted <= 1 + (bytes.len() - PAIRS + 253) / 254 {
+        Some(&bytes[INFO..])
+    } else {
+        None
+    }
+}
+
+/// Whether they have the signature of a CVT. Some programs write that of a file with records for each file.
+fn is_signed(bytes: &[u8]) -> bool
+    requires { 508 < length bytes.now }
+    ensures { result ≡ cvts.is_signed bytes.now }
+{
+    let after = &bytes[SIGNATURE..];
+    after.starts_with(cvt_signature(true)) || after.starts_with(cvt_signature(false))
+}
+
+/// Whether they begin like a CVT, whose structure GEOS has, and go on after the info block.
+fn begins_cvt(bytes: &[u8]) -> bool
+    ensures { result ≡ cvts.begins_cvt bytes.now }
+{
+    bytes.len() > PAIRS && (is_signed(bytes) && bytes[21] <= 1)
+}
+
+/// What comes after the first 254 bytes of a CVT, as it stands on a disk with 254 bytes in each block: the info block, two
+/// bytes for each of 127 records if the file has records, and the data. Bytes after the end of the last record aren't of it.
+///
+/// None if the bytes aren't a whole CVT: they have no signature of one, a structure that GEOS hasn't, fewer blocks than are counted,
+/// or a block more than the records count.
+pub fn cvt_content(bytes: &[u8]) -> Option<&[u8]>
+    ensures value { option_map (λ content. content.now) result ≡ cvts.content_of bytes.now }
+    ensures long { IfSome result (λ _. 508 < length bytes.now) }
+{
+    if bytes.len() <= PAIRS {
+        return None;
+    }
+    if !begins_cvt(bytes) {
+        return None;
+    }
+    if has_records(bytes) {
+        records_content(bytes)
+    } else {
+        chain_content(bytes)
+    }
+}
