@@ -120,7 +120,7 @@ const FILE_TYPE: Value = Value {
     name: "TYPE",
     word: Some("type"),
     count: Count::One,
-    help: "The file's type: prg, seq or usr",
+    help: "The file's type: prg, seq or usr; or cvt, for a file of GEOS out of its CVT",
 };
 
 /// `put IMAGE NAME FILE --type TYPE [--accept-loss] [--dry-run]`
@@ -132,13 +132,17 @@ It prints PUT. An empty FILE gives a file with one byte, a carriage return. A
 P00 is put without its header, and of a T64 its program; one that has several is
 refused (FILE): cbmconvert takes them out.
 
+With --type cvt, FILE is a CVT, as extract, c1541 or cbmconvert writes it, and its
+file of GEOS comes on the disk under NAME: the info block, the records, and the
+type and the date that the CVT has. Without it a CVT is a file as any other.
+
 Exit status:
   0  the file is on the disk
   1  nothing was done. The disk isn't clean (LAYOUT and a fault: repair mends
      MAPWRONG and COUNTWRONG, repair --sides also BADSIDE, nothing else); or
      SHORT, GEOS, IMAGE SIZE, LOG, LOG AWAY, TWO NAMES, FILE EXISTS, DISK FULL
   2  NAME, TYPE, PATH
-  3  FILE, NOT READY, NO MEMORY, IN USE, DEVICE
+  3  FILE (also for a CVT that isn't whole), NOT READY, NO MEMORY, IN USE, DEVICE
 
 Example: ledger put new.d64 GAME game.prg --type prg",
     values: &[IMAGE, NAME, FILE, FILE_TYPE, ACCEPT_LOSS, DRY_RUN],

@@ -41,9 +41,19 @@ has_all_of_chain bytes = nat_le (entry_blocks bytes) (1 + (length bytes - 508 + 
 abbrev pub is_signed : List ℕ → Bool
 is_signed bytes = starts_with nat_eq (drop 30 bytes) (signature true) || starts_with nat_eq (drop 30 bytes) (signature false)
 
--- they begin like a CVT, whose structure GEOS has, and go on after the info block
+-- the entry is that of a closed SEQ, PRG or USR, locked or not, with a structure and a type that GEOS has
+abbrev pub has_plain_type : List ℕ → Bool
+has_plain_type bytes = (nat_le 129 (slice_index bytes 0) && nat_le (slice_index bytes 0) 131)
+    || (nat_le 193 (slice_index bytes 0) && nat_le (slice_index bytes 0) 195)
+
+abbrev pub has_geos_type : List ℕ → Bool
+has_geos_type bytes =
+    nat_le (slice_index bytes 21) 1 && (nat_le 1 (slice_index bytes 22) && nat_le (slice_index bytes 22) 15)
+
+-- they begin like the CVT of such a file, and go on after the info block
 abbrev pub begins_cvt : List ℕ → Bool
-begins_cvt bytes = nat_lt 508 (length bytes) && (is_signed bytes && nat_le (slice_index bytes 21) 1)
+begins_cvt bytes =
+    nat_lt 508 (length bytes) && (is_signed bytes && (has_plain_type bytes && has_geos_type bytes))
 
 -- what comes after the first 254 bytes, if no block is missing
 abbrev pub records_content : List ℕ → Option (List ℕ)

@@ -104,17 +104,33 @@ fn is_signed(bytes: &[u8]) -> bool
     after.starts_with(cvt_signature(true)) || after.starts_with(cvt_signature(false))
 }
 
-/// Whether they begin like a CVT, whose structure GEOS has, and go on after the info block.
+/// Whether the entry is that of a closed SEQ, PRG or USR, locked or not.
+fn has_plain_type(bytes: &[u8]) -> bool
+    requires { 508 < length bytes.now }
+    ensures { result ≡ cvts.has_plain_type bytes.now }
+{
+    matches!(bytes[0], 129..=131 | 193..=195)
+}
+
+/// Whether GEOS has the structure and the type of the entry.
+fn has_geos_type(bytes: &[u8]) -> bool
+    requires { 508 < length bytes.now }
+    ensures { result ≡ cvts.has_geos_type bytes.now }
+{
+    bytes[21] <= 1 && (1 <= bytes[22] && bytes[22] <= 15)
+}
+
+/// Whether they begin like the CVT of a file of GEOS, and go on after the info block.
 fn begins_cvt(bytes: &[u8]) -> bool
     ensures { result ≡ cvts.begins_cvt bytes.now }
 {
-    bytes.len() > PAIRS && (is_signed(bytes) && bytes[21] <= 1)
+    bytes.len() > PAIRS && (is_signed(bytes) && (has_plain_type(bytes) && has_geos_type(bytes)))
 }
 
 /// What comes after the first 254 bytes of a CVT, as it stands on a disk with 254 bytes in each block: the info block, two
 /// bytes for each of 127 records if the file has records, and the data. Bytes after the end of the last record aren't of it.
 ///
-/// None if the bytes aren't a whole CVT: they have no signature of one, a structure that GEOS hasn't, fewer blocks than are counted,
+/// None if the bytes aren't a whole CVT: they have no signature of one, an entry that no file of GEOS has, fewer blocks than are counted,
 /// or a block more than the records count.
 pub fn cvt_content(bytes: &[u8]) -> Option<&[u8]>
     ensures value { option_map (λ content. content.now) result ≡ cvts.content_of bytes.now }
