@@ -1,6 +1,6 @@
 -- What comes of putting the file of GEOS that a CVT holds into an image. The content of the CVT is put there as one chain, which then
 -- becomes the info block, the record block and the records; what came of it is judged. Our own.
-use Rattle.std.specs.Prelude.{◌≡◌, ◌⊎◌, ◌++◌, ◌∷◌, [], List, None, Option, Some, codes, drop, false, slice_index, slice_range, ℕ}
+use Rattle.std.specs.Prelude.{◌≡◌, ◌⊎◌, ◌++◌, ◌∷◌, [], List, None, Option, Some, codes, drop, false, if◌then◌else◌, slice_index, slice_range, ℕ}
 use Rattle.command_faults.specs.Faults.{IsSoundFault}
 use Rattle.command_faults.specs.declared.faults.CommandFault.{CommandFault}
 use Rattle.command_faults.specs.declared.faults.CommandFault.TheVariants as faults

@@ -16,7 +16,7 @@ use crate::sorting::put_entry;
 use arrayvec::ArrayVec;
 use command_faults::CommandFault;
 use d64_image::{MemDisk, Place, Sectors};
-use damaged_files::{Loss, read_so_far, reach_file};
+use damaged_files::{Loss, reach_file, read_so_far};
 use disk_layout::{DATA, EntryView, MOST_BLOCKS, Slot, padded_name};
 use file_changes::{FileType, choose_named};
 use file_rescues::read_file;
@@ -205,14 +205,14 @@ fn has_content(
     if reach.fault.is_some() {
         return Ok(false);
     }
-    let data = read_file(alloc, disk, data_blocks(blocks.as_slice(), &entry), reach.last)?;
+    let data = read_file(
+        alloc,
+        disk,
+        data_blocks(blocks.as_slice(), &entry),
+        reach.last,
+    )?;
     let info = &disk.sector(entry.info)[2..256];
-    Ok(is_joined(
-        content,
-        info,
-        pairs.as_slice(),
-        data.as_slice(),
-    ))
+    Ok(is_joined(content, info, pairs.as_slice(), data.as_slice()))
 }
 
 /// Whether both are the same bytes.

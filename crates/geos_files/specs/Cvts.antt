@@ -10,12 +10,12 @@ abbrev pub has_records : List ℕ → Bool
 has_records bytes = nat_eq (slice_index bytes 21) 1
 
 -- how many blocks the first k records have: from byte 508 on there are two bytes for each record, and the first is this number
-abbrev pub record_blocks : List ℕ → (k : ℕ) → ℕ
+unfoldable pub record_blocks : List ℕ → (k : ℕ) → ℕ
 record_blocks bytes zero = 0
 record_blocks bytes (suc k) = record_blocks bytes k + slice_index bytes (508 + 2 * k)
 
 -- the second byte of the last of them that has a block: the index of its last byte. 255 if none has one
-abbrev pub last_index : List ℕ → (k : ℕ) → ℕ
+unfoldable pub last_index : List ℕ → (k : ℕ) → ℕ
 last_index bytes zero = 255
 last_index bytes (suc k) =
     if nat_eq (slice_index bytes (508 + 2 * k)) 0 then last_index bytes k else slice_index bytes (509 + 2 * k)
@@ -29,10 +29,14 @@ entry_blocks bytes = slice_index bytes 28 + 256 * slice_index bytes 29
 abbrev pub records_end : List ℕ → ℕ
 records_end bytes = 507 + 254 * record_blocks bytes 127 + last_index bytes 127
 
--- all these bytes are there, and fewer than a block's stand after them
+-- records that end there, the last one with this last index, are in so many bytes, and fewer than a block's stand after them
+abbrev pub has_all : (size last end : ℕ) → Bool
+has_all size last end = nat_le 2 last && (nat_le end size && nat_lt size (end + 254))
+
+-- all bytes of the records are there
 abbrev pub has_all_records : List ℕ → Bool
-has_all_records bytes = nat_le 762 (length bytes) && (nat_le 2 (last_index bytes 127)
-    && (nat_le (records_end bytes) (length bytes) && nat_lt (length bytes) (records_end bytes + 254)))
+has_all_records bytes =
+    nat_le 762 (length bytes) && has_all (length bytes) (last_index bytes 127) (records_end bytes)
 
 -- one chain has no fewer blocks than the entry counts
 abbrev pub has_all_of_chain : List ℕ → Bool

@@ -1,5 +1,5 @@
 //! A CVT taken apart.
-ghost use Rattle.std.specs.Prelude.{◌≡◌, ◌≤◌, ◌<◌, ◌*◌, IfSome, length, option_map};
+ghost use Rattle.std.specs.Prelude.{◌≡◌, ◌≤◌, ◌<◌, ◌*◌, IfSome, IsTrue, None, Some, if◌then◌else◌, length, option_map, slice_range};
 ghost use Rattle.geos_files.specs.Cvts as cvts;
 
 use crate::headers::cvt_signature;
@@ -25,6 +25,7 @@ fn has_records(bytes: &[u8]) -> bool
 }
 
 /// How many blocks all records have.
+#[tactic(auto, unfolding(crate::specs::Cvts::record_blocks))]
 fn record_blocks(bytes: &[u8]) -> usize
     requires { 762 ≤ length bytes.now }
     ensures value { result ≡ cvts.record_blocks bytes.now 127 }
@@ -38,6 +39,7 @@ fn record_blocks(bytes: &[u8]) -> usize
 }
 
 /// The index of the last byte of the last record that has a block. 255 if none has one.
+#[tactic(auto, unfolding(crate::specs::Cvts::last_index))]
 fn last_index(bytes: &[u8]) -> usize
     requires { 762 ≤ length bytes.now }
     ensures value { result ≡ cvts.last_index bytes.now 127 }
@@ -62,6 +64,29 @@ fn records_end(bytes: &[u8]) -> usize
     PAIRS - 1 + 254 * record_blocks(bytes) + last_index(bytes)
 }
 
+/// Whether records that end there, the last one with this last index, are in so many bytes, and fewer than a block's stand after them.
+fn has_all(size: usize, last: usize, end: usize) -> bool
+    requires { end ≤ 9000000 }
+    ensures value { result ≡ cvts.has_all size last end }
+    ensures inside { IsTrue result → end ≤ size }
+{
+    last >= 2 && (end <= size && size < end + 254)
+}
+
+/// What comes after the first 254 bytes, up to the end of the records, if all of it is there.
+fn part_to(bytes: &[u8], last: usize, end: usize) -> Option<&[u8]>
+    requires high { 507 ≤ end }
+    requires low { end ≤ 9000000 }
+    ensures { option_map (λ content. content.now) result
+        ≡ (if cvts.has_all (length bytes.now) last end then Some (slice_range bytes.now 254 end) else None) }
+{
+    if has_all(bytes.len(), last, end) {
+        Some(&bytes[INFO..end])
+    } else {
+        None
+    }
+}
+
 /// What comes after the first 254 bytes of a file with records, if no block is missing.
 fn records_content(bytes: &[u8]) -> Option<&[u8]>
     ensures { option_map (λ content. content.now) result ≡ cvts.records_content bytes.now }
@@ -69,17 +94,7 @@ fn records_content(bytes: &[u8]) -> Option<&[u8]>
     if bytes.len() < 762 {
         return None;
     }
-    let end = records_end(bytes);
-    if last_index(bytes) < 2 {
-        return None;
-    }
-    if end > bytes.len() {
-        return None;
-    }
-    if bytes.len() >= end + 254 {
-        return None;
-    }
-    Some(&bytes[INFO..end])
+    part_to(bytes, last_index(bytes), records_end(bytes))
 }
 
 /// What comes after the first 254 bytes of a file with one chain, if no block is missing.
@@ -122,7 +137,8 @@ fn has_geos_type(bytes: &[u8]) -> bool
 
 /// Whether they begin like the CVT of a file of GEOS, and go on after the info block.
 fn begins_cvt(bytes: &[u8]) -> bool
-    ensures { result ≡ cvts.begins_cvt bytes.now }
+    ensures value { result ≡ cvts.begins_cvt bytes.now }
+    ensures long { IsTrue result → 508 < length bytes.now }
 {
     bytes.len() > PAIRS && (is_signed(bytes) && (has_plain_type(bytes) && has_geos_type(bytes)))
 }
@@ -136,9 +152,6 @@ pub fn cvt_content(bytes: &[u8]) -> Option<&[u8]>
     ensures value { option_map (λ content. content.now) result ≡ cvts.content_of bytes.now }
     ensures long { IfSome result (λ _. 508 < length bytes.now) }
 {
-    if bytes.len() <= PAIRS {
-        return None;
-    }
     if !begins_cvt(bytes) {
         return None;
     }

@@ -25,7 +25,8 @@ const LOGGED: &str = "; all replies are in its log, which goes with it (`ledger 
 
 const UNWAITED: &str = "; it is set not to wait (O_NONBLOCK): hand over one that waits";
 
-const CVT: &str = "it is no whole CVT: it doesn't begin like one, or is shorter or longer than its own lengths say";
+const CVT: &str =
+    "it is no whole CVT: it doesn't begin like one, or is shorter or longer than its own lengths say";
 
 const TAPE: &str = "it is a tape (T64) of several programs, or of none; cbmconvert takes them out";
 
