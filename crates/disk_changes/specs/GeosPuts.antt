@@ -21,7 +21,7 @@ use Rattle.file_changes.specs.Entries.{IsFirstNamed, entries_of}
 use Rattle.file_changes.specs.PutWrites.{SameBeside}
 use Rattle.file_changes.specs.declared.file_type.FileType.TheVariants.{Usr}
 use Rattle.file_rescues.specs.Bytes.{file_bytes}
-use Rattle.geos_files.specs.Cvts.{content_of}
+use Rattle.disk_changes.specs.Cvts.{content_of}
 use Rattle.geos_files.specs.Entries.{geos_entry}
 use Rattle.geos_files.specs.Reached.{IsGeosReach}
 use Rattle.geos_files.specs.declared.entries.GeosEntry.{GeosEntry}

@@ -3,6 +3,7 @@ pub mod mended
 pub mod Art
 pub mod Changes
 pub mod Copies
+pub mod Cvts
 pub mod Deletes
 pub mod GeosPuts
 pub mod Judged

@@ -1,6 +1,5 @@
 //! A file of GEOS put into an image, out of a CVT.
-ghost use Rattle.std.specs.Prelude.{◌≡◌, ◌≤◌, ◌<◌, ◌∷◌, ◌++◌, ◌⊎◌, [], IfErr, IfOk, IfSome, IsTrue, Contains, drop, length, slice_range};
-ghost use Rattle.d64_image.specs.Images.{sector};
+ghost use Rattle.std.specs.Prelude.{◌≡◌, ◌≤◌, ◌<◌, ◌+◌, ◌++◌, IfErr, IfOk, IsTrue, drop, length};
 ghost use Rattle.d64_image.specs.Memory.{disk_image};
 ghost use Rattle.command_faults.specs.declared.faults.CommandFault.TheVariants.{NoFile, NoMemory};
 ghost use Rattle.disk_changes.specs.GeosPuts.{HasContent, HasEntryOf, IsGeosPut, IsGeosPutRefusal, IsLaid, IsPlainNamed};
@@ -9,6 +8,7 @@ ghost use Rattle.disk_layout.specs.Layout.{IsLayout, IsSound, Layout};
 ghost use Rattle.file_changes.specs.PutWrites.{SameBeside};
 
 use crate::changes::Changed;
+use crate::cvts::cvt_content;
 use crate::judging::sound_disk;
 use crate::outcomes::changed;
 use crate::putting::put;
@@ -20,7 +20,7 @@ use damaged_files::{Loss, reach_file, read_so_far};
 use disk_layout::{DATA, EntryView, MOST_BLOCKS, Slot, padded_name};
 use file_changes::{FileType, choose_named};
 use file_rescues::read_file;
-use geos_files::{GeosEntry, cvt_content, geos_entry, reach_geos};
+use geos_files::{GeosEntry, geos_entry, reach_geos};
 use std::alloc::Global;
 
 /// How many records a file has.
@@ -29,18 +29,27 @@ const RECORDS: usize = 127;
 /// The byte of a CVT that says whether the file has records.
 const STRUCTURE: usize = 21;
 
-/// Writes bytes 0 and 1 of a sector.
-fn put_link(disk: &mut MemDisk, place: Place, track: u8, sector: u8)
-    ensures { SameBeside (disk_image disk.old) (place ∷ []) (disk_image disk.new) }
+/// Writes one of these blocks.
+fn put_block(disk: &mut MemDisk, blocks: &[Place], number: usize, bytes: &[u8; 256])
+    requires { number < length blocks.now }
+    ensures { SameBeside (disk_image disk.old) blocks.now (disk_image disk.new) }
 {
-    let mut bytes = *disk.sector(place);
-    bytes[0] = track;
-    bytes[1] = sector;
-    let _ = disk.write(place, &bytes);
+    let _ = disk.write(blocks[number], bytes);
 }
 
-/// Makes a chain of some of these blocks, from block `from` on, `count` of them, with this last index. Returns the first one. None, and
-/// nothing is done, if there aren't as many.
+/// Ends a chain at one of these blocks, at this last index.
+fn end_chain(disk: &mut MemDisk, blocks: &[Place], number: usize, last: u8)
+    requires { number < length blocks.now }
+    ensures { SameBeside (disk_image disk.old) blocks.now (disk_image disk.new) }
+{
+    let mut bytes = *disk.sector(blocks[number]);
+    bytes[0] = 0;
+    bytes[1] = last;
+    put_block(disk, blocks, number, &bytes);
+}
+
+/// Makes a chain of `count` of these blocks, from block `from` on, with this last index. Returns the first one. None, and nothing is
+/// done, if there aren't as many, or none.
 fn lay_chain(
     disk: &mut MemDisk,
     blocks: &[Place],
@@ -48,26 +57,26 @@ fn lay_chain(
     count: usize,
     last: u8,
 ) -> Option<Place>
+    requires { from + count ≤ 100000 }
     ensures { SameBeside (disk_image disk.old) blocks.now (disk_image disk.new) }
 {
-    let part = blocks.get(from..)?.get(..count)?;
-    let [first, ..] = part else {
+    if count == 0 {
         return None;
-    };
-    let [.., end] = part else {
+    }
+    if from + count > blocks.len() {
         return None;
-    };
-    put_link(disk, *end, 0, last);
-    Some(*first)
+    }
+    end_chain(disk, blocks, from + count - 1, last);
+    Some(blocks[from])
 }
 
 /// Makes records of these blocks, whose first two are the info block and the record block. The record block has two bytes for each record:
 /// how many blocks it has, and the index of its last byte. The first of these blocks comes in their place.
-fn lay_records(disk: &mut MemDisk, blocks: &[Place], at: Place)
-    requires { Contains blocks.now at }
+fn lay_records(disk: &mut MemDisk, blocks: &[Place])
+    requires { 1 < length blocks.now }
     ensures { SameBeside (disk_image disk.old) blocks.now (disk_image disk.new) }
 {
-    let mut bytes = *disk.sector(at);
+    let mut bytes = *disk.sector(blocks[1]);
     bytes[0] = 0;
     bytes[1] = 255;
     let mut next: usize = 2;
@@ -80,7 +89,7 @@ fn lay_records(disk: &mut MemDisk, blocks: &[Place], at: Place)
         }
         next += count;
     }
-    let _ = disk.write(at, &bytes);
+    put_block(disk, blocks, 1, &bytes);
 }
 
 /// The slot with what a CVT says of its entry, and with the places of the info block and of the first block.
@@ -115,19 +124,15 @@ fn plain_named(disk: &MemDisk, name: &[u8]) -> Result<Slot, CommandFault>
     Ok(slot)
 }
 
-/// Makes the blocks of a file of GEOS of these, which have its content in one chain. Returns the info block and the first block. None, and
-/// nothing is done, if there are fewer than two.
-fn lay_blocks(disk: &mut MemDisk, blocks: &[Place], has_records: bool) -> Option<(Place, Place)>
+/// Makes the blocks of a file of GEOS of these, which have its content in one chain.
+fn lay_blocks(disk: &mut MemDisk, blocks: &[Place], has_records: bool)
+    requires { 1 < length blocks.now }
     ensures { SameBeside (disk_image disk.old) blocks.now (disk_image disk.new) }
 {
-    let [info, first, ..] = blocks else {
-        return None;
-    };
-    put_link(disk, *info, 0, 255);
+    end_chain(disk, blocks, 0, 255);
     if has_records {
-        lay_records(disk, blocks, *first);
+        lay_records(disk, blocks);
     }
-    Some((*info, *first))
 }
 
 /// Makes a file of GEOS of the blocks and the entry of a sound disk's first file of that name, which has the content of a CVT in one chain.
@@ -146,10 +151,11 @@ fn lay(disk: &mut MemDisk, name: &[u8], cvt: &[u8]) -> Result<Slot, CommandFault
     if reach.fault.is_some() {
         return Err(CommandFault::NoFile);
     }
-    let Some((info, first)) = lay_blocks(disk, blocks.as_slice(), cvt[STRUCTURE] == 1) else {
+    if blocks.len() < 2 {
         return Err(CommandFault::NoFile);
-    };
-    let entry = geos_slot(&slot, cvt, info, first);
+    }
+    lay_blocks(disk, blocks.as_slice(), cvt[STRUCTURE] == 1);
+    let entry = geos_slot(&slot, cvt, blocks[0], blocks[1]);
     put_entry(disk, &slot, &entry);
     Ok(slot)
 }

@@ -4,7 +4,7 @@ use Rattle.disk_changes.specs.declared.changes.ChangeKind.{ChangeKind}
 use Rattle.disk_changes.specs.declared.changes.ChangeKind.TheVariants as kinds
 use Rattle.image_file.specs.paths.Rights.{Rights}
 use Rattle.image_file.specs.paths.Standing.{Stands}
-use Rattle.geos_files.specs.Cvts.{content_of}
+use Rattle.disk_changes.specs.Cvts.{content_of}
 use Rattle.image_edits.specs.Columns.{text_in}
 use Rattle.image_edits.specs.Containers.{file_in}
 use Rattle.opened_files.specs.HostFiles.{OfImage, OfText}

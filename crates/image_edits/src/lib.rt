@@ -14,7 +14,7 @@ mod trimming;
 pub use changing::change_end;
 pub use containers::{CutFile, cut_in, has_no_file};
 pub use copying::do_copying;
-pub use cvts::is_whole_cvt;
+pub use cvts::is_no_cvt;
 pub use edits::do_edit;
 pub use effect::Effect;
 pub use new_disks::do_new;

@@ -16,7 +16,8 @@ pub(crate) fn text_file<'a>(job: &Job<'a>) -> Option<&'a str>
             script,
         ),
         Job::Change { kind, .. } => match kind {
-            ChangeKind::Put { file, .. } | ChangeKind::PutGeos { file, .. } => Some(file),
+            ChangeKind::Put { file, .. } => Some(file),
+            ChangeKind::PutGeos { file, .. } => Some(file),
             ChangeKind::Store { records, .. } => Some(records),
             _ => None,
         },

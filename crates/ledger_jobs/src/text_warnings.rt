@@ -4,7 +4,7 @@ ghost use Rattle.ledger_jobs.specs.JobRights.{MayExplain, MayReadAgain};
 use crate::jobs::Job;
 use crate::read_again::{bytes_of_text, text_again};
 use disk_changes::ChangeKind;
-use image_edits::{cut_in, has_no_file, is_whole_cvt};
+use image_edits::{cut_in, has_no_file, is_no_cvt};
 use image_file::{HostFiles, ShownPath};
 use opened_files::{STANDARD_INPUT, size_of};
 use std::io::Write;
@@ -28,7 +28,7 @@ fn text_bytes<R: HostFiles + AllocGlobal>(rt: &R, path: &str) -> Option<Vec<u8>>
 fn lacks_file(kind: &ChangeKind<'_>, bytes: &[u8]) -> bool {
     match kind {
         ChangeKind::Put { .. } => has_no_file(bytes),
-        ChangeKind::PutGeos { .. } => !is_whole_cvt(bytes),
+        ChangeKind::PutGeos { .. } => is_no_cvt(bytes),
         _ => false,
     }
 }

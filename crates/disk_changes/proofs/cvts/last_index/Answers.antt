@@ -1,7 +1,7 @@
 -- All 127 records.
 use Rattle.std.proofs.Common.{◌≡◌, ◌∙◌, ap, arith}
-use Rattle.geos_files.specs.Cvts.{last_index}
-use Rattle.geos_files.proofs.cvts.last_index.Goals as goal
+use Rattle.disk_changes.specs.Cvts.{last_index}
+use Rattle.disk_changes.proofs.cvts.last_index.Goals as goal
 
 pub returns-clause-value : goal.returns-clause-value
 returns-clause-value c =

@@ -1,8 +1,8 @@
 //! A CVT taken apart.
 ghost use Rattle.std.specs.Prelude.{◌≡◌, ◌≤◌, ◌<◌, ◌*◌, IfSome, IsTrue, None, Some, if◌then◌else◌, length, option_map, slice_range};
-ghost use Rattle.geos_files.specs.Cvts as cvts;
+ghost use Rattle.disk_changes.specs.Cvts as cvts;
 
-use crate::headers::cvt_signature;
+use geos_files::cvt_signature;
 
 /// How many records a file has.
 const RECORDS: usize = 127;

@@ -1,7 +1,7 @@
 -- The blocks of the records so far.
 use Rattle.std.proofs.Common.{◌≡◌, ◌≤◌, ◌*◌}
-use Rattle.geos_files.specs.Cvts.{record_blocks}
-use Rattle.geos_files.proofs.cvts.record_blocks.Given as goal
+use Rattle.disk_changes.specs.Cvts.{record_blocks}
+use Rattle.disk_changes.proofs.cvts.record_blocks.Given as goal
 
 abbrev pub invariant-loop-number : goal.invariant-loop-number
 invariant-loop-number l = record {
