@@ -132,9 +132,10 @@ It prints PUT. An empty FILE gives a file with one byte, a carriage return. A
 P00 is put without its header, and of a T64 its program; one that has several is
 refused (FILE): cbmconvert takes them out.
 
-With --type cvt, FILE is a CVT, as extract, c1541 or cbmconvert writes it, and its
-file of GEOS comes on the disk under NAME: the info block, the records, and the
-type and the date that the CVT has. Without it a CVT is a file as any other.
+With --type cvt, FILE is a CVT, as extract, c1541 or cbmconvert writes it. The
+disk gets its file of GEOS under NAME, with the type and the date that the CVT
+has. A CVT that isn't whole is refused (FILE). With another TYPE a CVT is a file
+as any other.
 
 Exit status:
   0  the file is on the disk
@@ -142,7 +143,7 @@ Exit status:
      MAPWRONG and COUNTWRONG, repair --sides also BADSIDE, nothing else); or
      SHORT, GEOS, IMAGE SIZE, LOG, LOG AWAY, TWO NAMES, FILE EXISTS, DISK FULL
   2  NAME, TYPE, PATH
-  3  FILE (also for a CVT that isn't whole), NOT READY, NO MEMORY, IN USE, DEVICE
+  3  FILE, NOT READY, NO MEMORY, IN USE, DEVICE
 
 Example: ledger put new.d64 GAME game.prg --type prg",
     values: &[IMAGE, NAME, FILE, FILE_TYPE, ACCEPT_LOSS, DRY_RUN],

@@ -1,5 +1,6 @@
 //! A file of GEOS put into an image, out of a CVT.
 ghost use Rattle.std.specs.Prelude.{◌≡◌, ◌≤◌, ◌<◌, ◌+◌, ◌++◌, IfErr, IfOk, IsTrue, drop, length};
+ghost use Rattle.d64_image.specs.Images.{put as put_at};
 ghost use Rattle.d64_image.specs.Memory.{disk_image};
 ghost use Rattle.command_faults.specs.declared.faults.CommandFault.TheVariants.{NoFile, NoMemory};
 ghost use Rattle.disk_changes.specs.GeosPuts.{HasContent, HasEntryOf, IsGeosPut, IsGeosPutRefusal, IsLaid, IsPlainNamed};
@@ -29,12 +30,19 @@ const RECORDS: usize = 127;
 /// The byte of a CVT that says whether the file has records.
 const STRUCTURE: usize = 21;
 
+/// Writes the sector at a place.
+fn put_sector(disk: &mut MemDisk, place: Place, bytes: &[u8; 256])
+    ensures { disk_image disk.new ≡ put_at (disk_image disk.old) place bytes.now }
+{
+    let _ = disk.write(place, bytes);
+}
+
 /// Writes one of these blocks.
 fn put_block(disk: &mut MemDisk, blocks: &[Place], number: usize, bytes: &[u8; 256])
     requires { number < length blocks.now }
     ensures { SameBeside (disk_image disk.old) blocks.now (disk_image disk.new) }
 {
-    let _ = disk.write(blocks[number], bytes);
+    put_sector(disk, blocks[number], bytes);
 }
 
 /// Ends a chain at one of these blocks, at this last index.
