@@ -1,6 +1,7 @@
 -- A file of GEOS that is made of a file with one chain.
-use Rattle.std.proofs.Common.{◌≡◌, ◌<◌, ◌∙◌, ◌×◌, ℕ, List, false, inl, inr, subst, sym}
-use Rattle.std.specs.Prelude.{Contains, Option, slice_get}
+use Rattle.std.proofs.Common.{◌≡◌, ◌<◌, ◌∙◌, ◌↔◌, ℕ, Bool, List, false, inl, inr, subst, sym}
+use Rattle.std.specs.Prelude.{Contains, IsTrue, Option, slice_get}
+use Rattle.std.proofs.lemmas.Bool.{cases_Bool, false≢true}
 use Rattle.command_faults.specs.declared.faults.CommandFault.TheVariants as faults
 use Rattle.d64_image.specs.Images.{Image, Sector, put, sector}
 use Rattle.d64_image.specs.declared.place.Place.{Place}
@@ -33,6 +34,13 @@ pub beside-wider : (a b : Image) (qs ps : List Place) → ((q : Place) → Conta
     → SameBeside a ps b
 beside-wider a b qs ps sub same q not = same q (λ on. not (sub q on))
 
+-- a test that says no
+pub says-no : (b t : Bool) → IsTrue b ↔ IsTrue t → b ≡ false → t ≡ false
+says-no b t same no = elim (cases_Bool t) [
+  | inl e ↦ absurd (false≢true (sym no ∙ same.1 e))
+  | inr e ↦ e
+]
+
 -- the first entry of a name, among those that were read of a sound disk
 module _ (img : Image) (name padded : List ℕ) (is : padded ≡ slot_name name) (ps : List Place) (entries : List Slot)
     (ended : Option Fault) (read : IsReadSoFar img ps entries ended) (s : Slot) (n : ℕ) (first : IsFirstNamed entries padded n s) where
@@ -59,13 +67,15 @@ module _ (image name cvt : List ℕ) (cut : Loss) where
   no-output (inl (is, none)) = cc
   no-output (inr (content, at, inl refused)) = refused
   no-output (inr (content, at, inr (first, was, inl is))) = cc
-  no-output (inr (content, at, inr (first, was, inr (bytes, unsound)))) = unsound
+  no-output (inr (content, at, inr (first, was, inr (inl is)))) = cc
+  no-output (inr (content, at, inr (first, was, inr (inr (bytes, unsound))))) = unsound
 
   no-device : IsGeosPutRefusal image name cvt cut faults.Device → ⊥
   no-device (inl (is, none)) = cc
   no-device (inr (content, at, inl refused)) = refused
   no-device (inr (content, at, inr (first, was, inl is))) = cc
-  no-device (inr (content, at, inr (first, was, inr (bytes, unsound)))) = unsound
+  no-device (inr (content, at, inr (first, was, inr (inl is)))) = cc
+  no-device (inr (content, at, inr (first, was, inr (inr (bytes, unsound))))) = unsound
 
   pub geos-put-in-memory : (IsGeosPutRefusal image name cvt cut faults.File → ⊥)
       × (IsGeosPutRefusal image name cvt cut faults.Device → ⊥)

@@ -68,25 +68,29 @@ pub record IsLaid (b : Image) (l : Layout) (name : List ℕ) (s : Slot) (c : Ima
 abbrev pub now_at : Image → Slot → Slot
 now_at img s = slot_in s.sector (sector img s.sector) s.number
 
--- The CVT's content was put there as a file of that name, of whose blocks and entry the file of GEOS was made; the disk is sound, and
--- the file's CVT has that content, and what the CVT's entry says but for the name, the places and the block count.
+-- Of the first file of that name, which has the content of a CVT in one chain, a file of GEOS was made. The disk is sound, and the
+-- file's CVT has that content, and what the CVT's entry says but for the name, the places and the block count.
+pub record IsGeosMade (b : Image) (l : Layout) (name cvt content : List ℕ) (c : Image) : Type 0 where
+  pub bytes : List ℕ
+  pub slot : Slot
+  pub laid : IsLaid b l name slot (sectors_in bytes)
+  pub sound : IsSoundDisk bytes
+  pub entry : HasEntryOf (now_at (sectors_in bytes) slot) name cvt
+  pub file : HasContent (sectors_in bytes) (now_at (sectors_in bytes) slot) content
+  pub after : c ≡ sectors_in bytes
+
+-- the content of the CVT was put there as a file of that name, and a file of GEOS was made of that
 pub record IsGeosPut (image name cvt : List ℕ) (cut : Loss) (made : Changed) : Type 0 where
   pub content : List ℕ
   pub is_cvt : content_of cvt ≡ Some content
   pub first : Changed
   pub put : IsPut image name Usr content cut first
-  pub bytes : List ℕ
-  pub slot : Slot
-  pub laid : IsLaid (disk_image first.disk) put.after.layout name slot (sectors_in bytes)
-  pub sound : IsSoundDisk bytes
-  pub entry : HasEntryOf (now_at (sectors_in bytes) slot) name cvt
-  pub file : HasContent (sectors_in bytes) (now_at (sectors_in bytes) slot) content
-  pub after : disk_image made.disk ≡ sectors_in bytes
+  pub laid : IsGeosMade (disk_image first.disk) put.after.layout name cvt content (disk_image made.disk)
   pub text : made.text.items ≡ codes "PUT\n"
 
--- why what was made isn't taken: it isn't such a file, or the disk isn't sound
+-- why what was made isn't taken: it isn't such a file, or the disk isn't sound, or there was no memory
 abbrev pub IsUnlaid : CommandFault → Type 0
-IsUnlaid why = (why ≡ faults.NoFile) ⊎ ((bytes : List ℕ) × IsSoundFault bytes why)
+IsUnlaid why = (why ≡ faults.NoFile) ⊎ ((why ≡ faults.NoMemory) ⊎ ((bytes : List ℕ) × IsSoundFault bytes why))
 
 -- why a file of GEOS isn't put there: the source isn't a whole CVT; or its content can't be put there; or what came of it isn't taken
 abbrev pub IsGeosPutRefusal : (image name cvt : List ℕ) → Loss → CommandFault → Type 0

@@ -1,14 +1,15 @@
 //! A file of GEOS put into an image, out of a CVT.
-ghost use Rattle.std.specs.Prelude.{◌≡◌, ◌≤◌, ◌<◌, ◌+◌, ◌++◌, IfErr, IfOk, IsTrue, drop, length};
+ghost use Rattle.std.specs.Prelude.{◌≡◌, ◌≤◌, ◌<◌, ◌+◌, ◌++◌, IfErr, IfOk, IsFalse, IsTrue, None, OnOk, drop, length};
 ghost use Rattle.d64_image.specs.Images.{put as put_at};
 ghost use Rattle.d64_image.specs.Memory.{disk_image};
 ghost use Rattle.command_faults.specs.declared.faults.CommandFault.TheVariants.{NoFile, NoMemory};
-ghost use Rattle.disk_changes.specs.GeosPuts.{HasContent, HasEntryOf, IsGeosPut, IsGeosPutRefusal, IsLaid, IsPlainNamed};
+ghost use Rattle.disk_changes.specs.GeosPuts.{HasContent, HasEntryOf, IsGeosMade, IsGeosPut, IsGeosPutRefusal, IsLaid, IsPlainNamed, IsUnlaid};
 ghost use Rattle.disk_changes.specs.GeosPuts as specs;
 ghost use Rattle.disk_layout.specs.Layout.{IsLayout, IsSound, Layout};
 ghost use Rattle.file_changes.specs.PutWrites.{SameBeside};
 
 use crate::changes::Changed;
+use crate::copying::is_relative;
 use crate::cvts::cvt_content;
 use crate::judging::sound_disk;
 use crate::outcomes::changed;
@@ -17,8 +18,8 @@ use crate::sorting::put_entry;
 use arrayvec::ArrayVec;
 use command_faults::CommandFault;
 use d64_image::{MemDisk, Place, Sectors};
-use damaged_files::{Loss, reach_file, read_so_far};
-use disk_layout::{DATA, EntryView, MOST_BLOCKS, Slot, padded_name};
+use damaged_files::{Loss, Reach, reach_file, read_so_far};
+use disk_layout::{DATA, MOST_BLOCKS, Slot, padded_name};
 use file_changes::{FileType, choose_named};
 use file_rescues::read_file;
 use geos_files::{GeosEntry, geos_entry, reach_geos};
@@ -126,10 +127,17 @@ fn plain_named(disk: &MemDisk, name: &[u8]) -> Result<Slot, CommandFault>
     let mut entries = ArrayVec::new();
     let _ = read_so_far(disk, &mut sectors, &mut entries);
     let slot = choose_named(entries.as_slice(), &padded_name(name))?;
-    if EntryView::new(&slot.bytes).is_relative() {
+    if is_relative(&slot) {
         return Err(CommandFault::NoFile);
     }
     Ok(slot)
+}
+
+/// Whether a fault is in the way of more.
+fn is_broken(reach: &Reach) -> bool
+    ensures { IsFalse result → reach.now.fault ≡ None }
+{
+    reach.fault.is_some()
 }
 
 /// Makes the blocks of a file of GEOS of these, which have its content in one chain.
@@ -151,12 +159,13 @@ fn lay(disk: &mut MemDisk, name: &[u8], cvt: &[u8]) -> Result<Slot, CommandFault
     requires size { 30 ≤ length cvt.now }
     ensures ok { IfOk result (λ s. (l : Layout) → IsLayout (disk_image disk.old) l
         → IsLaid (disk_image disk.old) l name.now s (disk_image disk.new)) }
+    ensures low { IfOk result (λ s. s.number < 8) }
     ensures err { IfErr result (λ why. why ≡ NoFile) }
 {
     let slot = plain_named(disk, name)?;
     let mut blocks: ArrayVec<Place, MOST_BLOCKS> = ArrayVec::new();
     let reach = reach_file(disk, &slot, &mut blocks);
-    if reach.fault.is_some() {
+    if is_broken(&reach) {
         return Err(CommandFault::NoFile);
     }
     if blocks.len() < 2 {
@@ -187,17 +196,35 @@ fn data_blocks<'a>(blocks: &'a [Place], entry: &GeosEntry) -> &'a [Place]
     &blocks[leading..]
 }
 
-/// Whether the content is these three parts, one after another.
-fn is_joined(content: &[u8], front: &[u8], middle: &[u8], back: &[u8]) -> bool
-    ensures { IsTrue result → content.now ≡ front.now ++ (middle.now ++ back.now) }
+/// Appends these bytes. `NoMemory` if there was none for them.
+fn append(out: &mut Vec<u8>, bytes: &[u8]) -> Result<(), CommandFault>
+    ensures ok { OnOk result (out.new.items ≡ out.old.items ++ bytes.now) }
+    ensures err { IfErr result (λ why. why ≡ NoMemory) }
 {
-    let Some(rest) = content.strip_prefix(front) else {
-        return false;
-    };
-    match rest.strip_prefix(middle) {
-        Some(rest) => rest == back,
-        None => false,
+    match out.extend_from_slice(bytes) {
+        Ok(()) => Ok(()),
+        Err(_) => Err(CommandFault::NoMemory),
     }
+}
+
+/// Three parts as one. `NoMemory` if there was none for it.
+fn joined(alloc: Global, front: &[u8], middle: &[u8], back: &[u8]) -> Result<Vec<u8>, CommandFault>
+    ensures ok { IfOk result (λ all. all.items ≡ (front.now ++ middle.now) ++ back.now) }
+    ensures err { IfErr result (λ why. why ≡ NoMemory) }
+{
+    let Ok(mut all) = Vec::from_slice(alloc, front) else {
+        return Err(CommandFault::NoMemory);
+    };
+    append(&mut all, middle)?;
+    append(&mut all, back)?;
+    Ok(all)
+}
+
+/// Whether both are the same bytes.
+fn are_same(one: &[u8], other: &[u8]) -> bool
+    ensures { IsTrue result → one.now ≡ other.now }
+{
+    one == other
 }
 
 /// Whether the CVT of the entry's file has this content from its info block on, and no fault is in the way. `NoMemory` if there was none for it.
@@ -216,7 +243,7 @@ fn has_content(
     let mut blocks: ArrayVec<Place, MOST_BLOCKS> = ArrayVec::new();
     let mut pairs: ArrayVec<u8, DATA> = ArrayVec::new();
     let reach = reach_geos(disk, &entry, &mut blocks, &mut pairs);
-    if reach.fault.is_some() {
+    if is_broken(&reach) {
         return Ok(false);
     }
     let data = read_file(
@@ -226,14 +253,8 @@ fn has_content(
         reach.last,
     )?;
     let info = &disk.sector(entry.info)[2..256];
-    Ok(is_joined(content, info, pairs.as_slice(), data.as_slice()))
-}
-
-/// Whether both are the same bytes.
-fn are_same(one: &[u8], other: &[u8]) -> bool
-    ensures { IsTrue result → one.now ≡ other.now }
-{
-    one == other
+    let all = joined(alloc, info, pairs.as_slice(), data.as_slice())?;
+    Ok(are_same(content, all.as_slice()))
 }
 
 /// Whether the entry has this name, and what a CVT says of it.
@@ -242,7 +263,10 @@ fn has_entry_of(slot: &Slot, name: &[u8], cvt: &[u8]) -> bool
     requires size { 30 ≤ length cvt.now }
     ensures { IsTrue result → HasEntryOf slot.now name.now cvt.now }
 {
-    if EntryView::new(&slot.bytes).is_relative() || slot.bytes[2] != cvt[0] {
+    if is_relative(slot) {
+        return false;
+    }
+    if slot.bytes[2] != cvt[0] {
         return false;
     }
     are_same(&slot.bytes[5..21], &padded_name(name))
@@ -270,6 +294,31 @@ fn is_made(
     has_content(alloc, disk, slot, content)
 }
 
+/// The disk with a file of GEOS made of the first file of that name, which has the content of a CVT in one chain; and judged.
+fn geos_made(
+    alloc: Global,
+    disk: MemDisk,
+    name: &[u8],
+    cvt: &[u8],
+    content: &[u8],
+) -> Result<MemDisk, CommandFault>
+    requires sound { IsSound (disk_image disk) }
+    requires name { length name.now ≤ 16 }
+    requires size { 30 ≤ length cvt.now }
+    ensures ok { IfOk result (λ judged. (l : Layout) → IsLayout (disk_image disk) l
+        → IsGeosMade (disk_image disk) l name.now cvt.now content.now (disk_image judged)) }
+    ensures err { IfErr result IsUnlaid }
+{
+    let mut disk = disk;
+    let slot = lay(&mut disk, name, cvt)?;
+    let judged = sound_disk(alloc, disk.bytes())?;
+    let now = Slot::in_sector(judged.sector(slot.sector), slot.sector, slot.number);
+    if is_made(alloc, &judged, &now, name, cvt, content)? {
+        return Ok(judged);
+    }
+    Err(CommandFault::NoFile)
+}
+
 /// The image with the file of GEOS that a CVT holds, under this name, which was judged before. The new disk is judged, too.
 pub(crate) fn geos_put(
     alloc: Global,
@@ -286,12 +335,6 @@ pub(crate) fn geos_put(
         return Err(CommandFault::NoFile);
     };
     let first = put(alloc, image, name, FileType::Usr, content, cut)?;
-    let mut disk = first.disk;
-    let slot = lay(&mut disk, name, cvt)?;
-    let judged = sound_disk(alloc, disk.bytes())?;
-    let now = Slot::in_sector(judged.sector(slot.sector), slot.sector, slot.number);
-    if !is_made(alloc, &judged, &now, name, cvt, content)? {
-        return Err(CommandFault::NoFile);
-    }
+    let judged = geos_made(alloc, first.disk, name, cvt, content)?;
     changed(alloc, judged, b"PUT\n")
 }
