@@ -507,10 +507,10 @@ geos-put-keeps : (image name cvt : List ℕ) (cut : Loss) (made : Changed) → I
 geos-put-keeps image name cvt cut made x =
     let a = sectors_in image in
     let b = disk_image x.first.disk in
-    let c = sectors_in x.bytes in
-    subst (KeepsShops a) (sym x.after) (keeps-both a b c (put-keeps image name Usr x.content cut x.first x.put)
-    (laid-keeps b x.put.after.layout name x.slot c (memory.whole x.first.disk) (sectors-full x.bytes) x.put.after.sound x.laid
-    x.entry.plain x.sound.layout x.sound.sound))
+    let c = sectors_in x.laid.bytes in
+    subst (KeepsShops a) (sym x.laid.after) (keeps-both a b c (put-keeps image name Usr x.content cut x.first x.put)
+    (laid-keeps b x.put.after.layout name x.laid.slot c (memory.whole x.first.disk) (sectors-full x.laid.bytes) x.put.after.sound
+    x.laid.laid x.laid.entry.plain x.laid.sound.layout x.laid.sound.sound))
 
 -- What comes of a change.
 done-keeps : (kind : ChangeKind) (loss : Loss) (source image : List ℕ) (made : Changed) → IsFit kind → SparesCards kind

@@ -36,8 +36,8 @@ beside-wider a b qs ps sub same q not = same q (λ on. not (sub q on))
 
 -- a test that says no
 pub says-no : (b t : Bool) → IsTrue b ↔ IsTrue t → b ≡ false → t ≡ false
-says-no b t same no = elim (cases_Bool t) [
-  | inl e ↦ absurd (false≢true (sym no ∙ same.1 e))
+says-no b t same says = elim (cases_Bool t) [
+  | inl e ↦ absurd (false≢true (sym says ∙ same.1 e))
   | inr e ↦ e
 ]
 
