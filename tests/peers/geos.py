@@ -10,12 +10,15 @@ records, some of which are empty or missing. Of each disk:
   record, and leaves out those after it. Of a file of one chain of one block it writes all 254 bytes of that;
 - cbmconvert writes the same bytes for each file, except that it puts zeros for the places in the entry, for the bytes after a
   record's end, and `PRG` in the signature;
+- `put --type cvt` puts each CVT on a new disk under another name, and `extract` takes the same CVT out again, but for the name and the places
+  in its first bytes; so does `geosread` of c1541, where it reads the file (above);
 - after up to three changes of a third of the disks, in the entries, the record blocks and the links, the files and the index are those of a
   reader in Python (tests/hostile/extract.py).
 
 Not part of the gate."""
 
 import random
+import shutil
 import subprocess
 import sys
 import tempfile
@@ -117,6 +120,33 @@ def without_places(image, slot):
     return bytes(data)
 
 
+def same_but_places(one, other):
+    """Whether two CVTs are the same but for the name and the places in the entry."""
+    return one[:1] + one[21:] == other[:1] + other[21:]
+
+
+def put_back(program, folder, data, slot, what):
+    """Puts a CVT on a new disk, and takes it out again."""
+    (folder / "one.cvt").write_bytes(data)
+    for words in (("new", "new.d64", "--name", "DISK", "--id", "AB"), ("put", "new.d64", "BACK", "one.cvt", "--type", "cvt"), ("extract", "new.d64", "back")):
+        ran = subprocess.run([program, *words], cwd=folder, capture_output=True)
+        check(ran.returncode == 0, f"{what}: {words[0]}: {ran.stderr[:80]}")
+    made = folder / "back/01-BACK.cvt"
+    again = made.read_bytes() if made.exists() else b""
+    check(same_but_places(again, data), f"{what}: the CVT that comes out of the new disk")
+    image = (folder / "new.d64").read_bytes()
+    (new,) = slots_of(image)
+    check(geos.cvt(image, new) == again, f"{what}: the reader's of the new disk")
+    if shutil.which("c1541") and slot[2] & 0xBF == 0x83 and not has_gap(image, new):
+        subprocess.run(["c1541", "-attach", "new.d64", "-geosread", "BACK", "read.cvt"], cwd=folder, capture_output=True)
+        read = (folder / "read.cvt").read_bytes()
+        check(again == read[:len(again)], f"{what}: c1541's of the new disk")
+        (folder / "read.cvt").unlink()
+    for it in (*(folder / "back").iterdir(), folder / "new.d64", folder / "one.cvt"):
+        it.unlink()
+    (folder / "back").rmdir()
+
+
 def compare(program, folder, image, number):
     """Compares the files of a disk with those of c1541 and cbmconvert."""
     path, out, theirs = folder / "geos.d64", folder / "out", folder / "theirs"
@@ -133,6 +163,7 @@ def compare(program, folder, image, number):
         data = made.read_bytes() if made.exists() else b""
         what = f"image {number}: {made.name}"
         check(data == geos.cvt(image, slot), f"{what}: the reader's")
+        put_back(program, folder, data, slot, what)
         check(without_places(image, slot) in converted, f"{what}: cbmconvert's")
         if slot[2] & 0xBF == 0x83 and not has_gap(image, slot):
             subprocess.run(["c1541", "-attach", path.name, "-geosread", name, "read.cvt"], cwd=folder, capture_output=True)

@@ -9,7 +9,7 @@ use Rattle.d64_image.specs.History.{History}
 use Rattle.d64_image.specs.Images.{Image, put, sector}
 use Rattle.d64_image.specs.Offsets.{overwritten}
 use Rattle.d64_image.specs.declared.place.Place.{Place}
-use Rattle.d64_image.specs.Memory.{disk_image, sectors_in}
+use Rattle.d64_image.specs.Memory.{disk_image, memory, sectors_in}
 use Rattle.damaged_files.specs.declared.sides.planning.Loss.{Loss}
 use Rattle.damaged_files.specs.declared.sides.planning.Loss.TheVariants.{Accepted, Refused}
 use Rattle.disk_changes.proofs.UnsoundArt.{sound-artless}
@@ -20,6 +20,7 @@ use Rattle.disk_changes.specs.declared.changes.Lock.TheVariants.{Set}
 use Rattle.changed_life.proofs.Rebuilt.{built-keeps, named-same}
 use Rattle.changed_life.proofs.Settled.{settled-keeps}
 use Rattle.disk_changes.specs.Deletes.{IsDeleted}
+use Rattle.disk_changes.specs.GeosPuts.{IsGeosPut}
 use Rattle.disk_changes.specs.Judged.{IsSoundDisk}
 use Rattle.disk_changes.specs.Makes.{IsMade}
 use Rattle.disk_changes.specs.Puts.{IsPut}
@@ -71,6 +72,8 @@ use Rattle.disk_changes.specs.Sorts.{IsSorted}
 use Rattle.disk_changes.specs.Undeletes.{IsKeptRight, IsUndeleted, entry_number, with_type}
 use Rattle.disk_changes.specs.declared.entry_types.EntryType.{EntryType}
 use Rattle.changed_life.proofs.Locked.{locked-keeps}
+use Rattle.changed_life.proofs.Laid.{laid-keeps}
+use Rattle.changed_life.proofs.OneByte.{sectors-full}
 use Rattle.changed_life.proofs.Sorted.{sorted-keeps}
 use Rattle.changed_life.proofs.Undeleted.{undeleted-keeps}
 use Rattle.disk_changes.specs.Locks.{IsLockSet, with_lock}
@@ -509,6 +512,17 @@ rebuild-keeps image free cut made (inr x) = λ s shop.
     (subst (λ (i : Image). KeepsShops i (disk_image x.second.disk)) same
     (anew-keeps x.bytes free cut x.second x.built)) s shop
 
+-- a file of GEOS is put there as one chain, and then made of that
+geos-put-keeps : (image name cvt : List ℕ) (cut : Loss) (made : Changed) → IsGeosPut image name cvt cut made
+    → KeepsShops (sectors_in image) (disk_image made.disk)
+geos-put-keeps image name cvt cut made x =
+    let a = sectors_in image in
+    let b = disk_image x.first.disk in
+    let c = sectors_in x.laid.bytes in
+    subst (KeepsShops a) (sym x.laid.after) (keeps-both a b c (put-keeps image name Usr x.content cut x.first x.put)
+    (laid-keeps b x.put.after.layout name x.laid.slot c (memory.whole x.first.disk) (sectors-full x.laid.bytes) x.put.after.sound
+    x.laid.laid x.laid.entry.plain x.laid.sound.layout x.laid.sound.sound))
+
 -- What comes of a change.
 done-keeps : (kind : ChangeKind) (loss : Loss) (source image : List ℕ) (made : Changed) → IsFit kind → SparesCards kind
     → IsDoneBy kind loss source image made → KeepsShops (sectors_in image) (disk_image made.disk)
@@ -527,6 +541,8 @@ done-keeps (kinds.Undelete kind name) loss source image made fit spares done =
 done-keeps kinds.Sort loss source image made fit spares done = sort-keeps image made done
 done-keeps (kinds.Put file kind name) loss source image made fit spares done =
     put-keeps image (name_bytes name) kind source loss made done
+done-keeps (kinds.PutGeos file name) loss source image made fit spares done =
+    geos-put-keeps image (name_bytes name) source loss made done
 done-keeps (kinds.CopyFile from name to) loss source image made fit spares done =
     copied-as done.entry done.content source (name_bytes name) (name_bytes to) image loss made done.copy
 done-keeps (kinds.Store records columns name) loss source image made fit spares done =

@@ -5,6 +5,7 @@ mod Entries
 mod OneByte
 mod Locked
 mod Undeleted
+mod Laid
 mod Sorted
 mod Settled
 mod Rebuilt

@@ -141,7 +141,7 @@ const FILE_TYPE: Value = Value {
     name: "TYPE",
     word: Some("type"),
     count: Count::One,
-    help: "The file's type: prg, seq or usr",
+    help: "The file's type: prg, seq or usr; or cvt, for a file of GEOS out of its CVT",
 };
 
 /// `put IMAGE NAME FILE --type TYPE [--accept-loss] [--dry-run]`
@@ -152,6 +152,11 @@ const PUT: Subcommand = Subcommand {
 It prints PUT. An empty FILE gives a file with one byte, a carriage return. A
 P00 is put without its header, and of a T64 its program; one that has several is
 refused (FILE): cbmconvert takes them out.
+
+With --type cvt, FILE is a CVT, as extract, c1541 or cbmconvert writes it. The
+disk gets its file of GEOS under NAME, with the type and the date that the CVT
+has. A CVT that isn't whole is refused (FILE). With another TYPE a CVT is a file
+as any other.
 
 Exit status:
   0  the file is on the disk

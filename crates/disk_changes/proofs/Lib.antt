@@ -2,6 +2,7 @@ pub mod lemmas
 pub mod BesideArt
 pub mod Copied
 pub mod Deleted
+pub mod GeosPut
 pub mod Judged
 pub mod MadeFile
 pub mod Put

@@ -4,6 +4,7 @@ use Rattle.command_faults.specs.Faults.{IsLoadFault, IsSoundFault}
 use Rattle.disk_changes.specs.Art.{HasNoArt, IsAside, IsBesideArt}
 use Rattle.disk_changes.specs.Copies.{IsCopied, IsCopyRefusal}
 use Rattle.disk_changes.specs.Deletes.{IsDeleteRefusal, IsDeleted}
+use Rattle.disk_changes.specs.GeosPuts.{IsGeosPut, IsGeosPutRefusal}
 use Rattle.disk_changes.specs.Locks.{IsLockRefusal, IsLockSet}
 use Rattle.disk_changes.specs.Makes.{IsMade, IsMakeRefusal}
 use Rattle.disk_changes.specs.Puts.{IsPut, IsPutRefusal}
@@ -30,6 +31,7 @@ IsFit (kinds.Make L name) = (length (name_bytes name) ≤ 16) × IsLength L
 IsFit (kinds.Rename from to) = length (name_bytes to) ≤ 16
 IsFit (kinds.Title id name) = length (name_bytes name) ≤ 16
 IsFit (kinds.Put file kind name) = length (name_bytes name) ≤ 16
+IsFit (kinds.PutGeos file name) = length (name_bytes name) ≤ 16
 IsFit (kinds.CopyFile from name to) = length (name_bytes to) ≤ 16
 IsFit _ = ⊤
 
@@ -45,6 +47,7 @@ IsDoneBy (kinds.Delete name) loss source image made = IsDeleted image (name_byte
 IsDoneBy (kinds.Undelete kind name) loss source image made = IsUndeleted image (name_bytes name) kind loss made
 IsDoneBy kinds.Sort loss source image made = IsSorted image made
 IsDoneBy (kinds.Put file kind name) loss source image made = IsPut image (name_bytes name) kind source loss made
+IsDoneBy (kinds.PutGeos file name) loss source image made = IsGeosPut image (name_bytes name) source loss made
 IsDoneBy (kinds.CopyFile from name to) loss source image made = IsCopied source (name_bytes name) (name_bytes to) image loss made
 IsDoneBy (kinds.Store records columns name) loss source image made = IsStoredAs columns image (name_bytes name) source loss made
 
@@ -60,6 +63,7 @@ IsBarredBy (kinds.Delete name) loss source image why = IsDeleteRefusal image (na
 IsBarredBy (kinds.Undelete kind name) loss source image why = IsUndeleteRefusal image (name_bytes name) kind loss why
 IsBarredBy kinds.Sort loss source image why = IsSortRefusal image why
 IsBarredBy (kinds.Put file kind name) loss source image why = IsPutRefusal image (name_bytes name) kind source loss why
+IsBarredBy (kinds.PutGeos file name) loss source image why = IsGeosPutRefusal image (name_bytes name) source loss why
 IsBarredBy (kinds.CopyFile from name to) loss source image why = IsCopyRefusal source (name_bytes name) (name_bytes to) image loss why
 IsBarredBy (kinds.Store records columns name) loss source image why = IsNotStoredAs columns image (name_bytes name) source loss why
 

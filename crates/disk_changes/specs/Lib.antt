@@ -3,7 +3,9 @@ pub mod mended
 pub mod Art
 pub mod Changes
 pub mod Copies
+pub mod Cvts
 pub mod Deletes
+pub mod GeosPuts
 pub mod Judged
 pub mod Locks
 pub mod Makes

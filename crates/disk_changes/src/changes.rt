@@ -74,6 +74,13 @@ pub enum ChangeKind<'a> {
         /// The name of the new file.
         name: Name,
     },
+    /// A new file of GEOS is made, out of a CVT of the host.
+    PutGeos {
+        /// The path of the CVT.
+        file: &'a str,
+        /// The name of the new file.
+        name: Name,
+    },
     /// The first closed file of a name of another image is copied, PRG, SEQ, USR or REL.
     CopyFile {
         /// The path of the other image.
@@ -104,7 +111,7 @@ impl ChangeKind<'_> {
             | ChangeKind::Delete { name }
             | ChangeKind::Store { name, .. } => Some(name),
             ChangeKind::Undelete { .. } | ChangeKind::CopyFile { .. } => None,
-            ChangeKind::Make { .. } | ChangeKind::Put { .. } => None,
+            ChangeKind::Make { .. } | ChangeKind::Put { .. } | ChangeKind::PutGeos { .. } => None,
             ChangeKind::Title { .. } | ChangeKind::Sort => None,
             ChangeKind::Repair { .. } | ChangeKind::RepairSides { .. } => None,
         }
@@ -115,6 +122,7 @@ impl ChangeKind<'_> {
         match self {
             ChangeKind::Make { name, .. }
             | ChangeKind::Put { name, .. }
+            | ChangeKind::PutGeos { name, .. }
             | ChangeKind::Rename { to: name, .. }
             | ChangeKind::CopyFile { to: name, .. } => Some(name),
             ChangeKind::Lock { .. } | ChangeKind::Delete { .. } | ChangeKind::Store { .. } => None,
@@ -175,7 +183,7 @@ pub struct Change<'a> {
     pub kind: &'a ChangeKind<'a>,
     /// Whether a loss is accepted.
     pub loss: Loss,
-    /// The bytes of the file that `Put` names, or of the image that `CopyFile` names, or the records that `Store` names, in one
+    /// The bytes of the file that `Put` or `PutGeos` names, or of the image that `CopyFile` names, or the records that `Store` names, in one
     /// column each. No other change takes any.
     pub source: &'a [u8],
 }

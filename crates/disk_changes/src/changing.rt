@@ -8,6 +8,7 @@ use crate::art::{MAP_TRACK, NO_TRACK, disk_with_art, put_tracks};
 use crate::changes::{Change, ChangeKind, Changed};
 use crate::copying::copied;
 use crate::deleting::deleted;
+use crate::geos_putting::geos_put;
 use crate::locking::relocked;
 use crate::making::made;
 use crate::putting::put;
@@ -44,6 +45,7 @@ fn change_plain(alloc: Global, what: &Change<'_>, image: &[u8]) -> Result<Change
         ChangeKind::Put { kind, name, .. } => {
             put(alloc, image, name.as_bytes(), *kind, source, loss)
         }
+        ChangeKind::PutGeos { name, .. } => geos_put(alloc, image, name.as_bytes(), source, loss),
         ChangeKind::CopyFile { name, to, .. } => {
             copied(alloc, image, source, name.as_bytes(), to.as_bytes(), loss)
         }

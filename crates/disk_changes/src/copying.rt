@@ -38,7 +38,7 @@ fn plain_type(entry: &Slot) -> Option<FileType>
 }
 
 /// Whether the entry is that of a closed relative file.
-fn is_relative(entry: &Slot) -> bool
+pub(crate) fn is_relative(entry: &Slot) -> bool
     ensures { IsTrue result ↔ IsTrue (is_rel entry.now) }
 {
     EntryView::new(&entry.bytes).is_relative()

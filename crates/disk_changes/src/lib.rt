@@ -6,8 +6,10 @@ mod art;
 mod changes;
 mod changing;
 mod copying;
+mod cvts;
 mod deleting;
 mod entry_types;
+mod geos_putting;
 mod judging;
 mod laws;
 mod lines;
@@ -28,6 +30,7 @@ mod undeleting;
 
 pub use changes::{Change, ChangeKind, Changed, Columns, Lock, Unowned};
 pub use changing::change;
+pub use cvts::cvt_content;
 pub use entry_types::EntryType;
 pub use laws::{
     columns_come_back, last_lines_count, printed_records_are_stored, records_come_back,

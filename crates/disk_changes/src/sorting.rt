@@ -85,7 +85,7 @@ fn in_order(alloc: Global, slots: &[Slot]) -> Result<Vec<Slot>, CommandFault>
 }
 
 /// Writes the entry of one slot over that of another, which is on the disk.
-fn put_entry(disk: &mut MemDisk, at: &Slot, entry: &Slot)
+pub(crate) fn put_entry(disk: &mut MemDisk, at: &Slot, entry: &Slot)
     requires { at.now.number < 8 }
     ensures { disk_image disk.new ≡ with_entry (disk_image disk.old) at.now entry.now }
 {

@@ -6,6 +6,7 @@ use Rattle.command_faults.specs.Outputs.{HandsPart}
 use Rattle.d64_image.specs.Images.{Image}
 use Rattle.d64_image.specs.Memory.{disk_image, sectors_in}
 use Rattle.disk_changes.proofs.Copied.{copied-in-memory}
+use Rattle.disk_changes.proofs.GeosPut.{geos-put-in-memory}
 use Rattle.disk_changes.proofs.Repaired.{repaired-in-memory, undeleted-in-memory}
 use Rattle.damaged_files.specs.declared.sides.planning.Loss.{Loss}
 use Rattle.disk_changes.specs.Changes.{IsBarredBy, IsChanged, IsRefused}
@@ -72,6 +73,8 @@ barred-in-memory (kinds.Delete name) loss source image =
 barred-in-memory (kinds.Undelete kind name) loss source image = undeleted-in-memory image (name_bytes name) kind loss
 barred-in-memory (kinds.CopyFile from name to) loss source image =
     copied-in-memory source (name_bytes name) (name_bytes to) image loss
+barred-in-memory (kinds.PutGeos file name) loss source image =
+    geos-put-in-memory image (name_bytes name) source loss
 barred-in-memory kinds.Sort loss source image =
     (λ why. ⊎_elim (λ w. w) (λ w. w.3) why, λ why. ⊎_elim (λ w. w) (λ w. w.3) why)
 barred-in-memory _ loss source image = (λ why. why, λ why. why)

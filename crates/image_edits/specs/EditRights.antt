@@ -16,6 +16,7 @@ module _ {H : Type 0} (rights : Rights H) (host : H) where
   -- the file whose bytes a change takes, or the image, may be read
   abbrev pub MayReadSource : ChangeKind → Type 0
   MayReadSource (kinds.Put file kind name) = MayReadText rights host file.now
+  MayReadSource (kinds.PutGeos file name) = MayReadText rights host file.now
   MayReadSource (kinds.Store records columns name) = MayReadText rights host records.now
   MayReadSource (kinds.CopyFile from name to) = MayReadImage rights host from.now
   MayReadSource _ = ⊤

@@ -14,6 +14,7 @@ ghost use Rattle.image_log.specs.life.Tags.{SaysLogAway};
 
 use crate::changing::{change_end, change_taken, image_to_change};
 use crate::containers::file_at;
+use crate::cvts::cvt_at;
 use crate::effect::Effect;
 use command_faults::CommandFault;
 use disk_changes::{Change, ChangeKind, Columns, plain_lines};
@@ -62,6 +63,7 @@ where
 {
     match *kind {
         ChangeKind::Put { file, .. } => file_at(rt, file),
+        ChangeKind::PutGeos { file, .. } => cvt_at(rt, file),
         ChangeKind::CopyFile { from, .. } => image_at(rt, from),
         ChangeKind::Store {
             records,

@@ -4,6 +4,7 @@
 mod changing;
 mod containers;
 mod copying;
+mod cvts;
 mod edits;
 mod effect;
 mod new_disks;
@@ -13,6 +14,7 @@ mod trimming;
 pub use changing::change_end;
 pub use containers::{CutFile, cut_in, has_no_file};
 pub use copying::do_copying;
+pub use cvts::is_no_cvt;
 pub use edits::do_edit;
 pub use effect::Effect;
 pub use new_disks::do_new;

@@ -45,6 +45,7 @@ is_written_dash _ = false
 -- the change with its file as it is read
 abbrev pub IsChangeRead : ChangeKind → ChangeKind → Type 0
 IsChangeRead (kinds.Put file kind name) changed = (read : Bor Text) × IsReadAs file read × (changed ≡ kinds.Put read kind name)
+IsChangeRead (kinds.PutGeos file name) changed = (read : Bor Text) × IsReadAs file read × (changed ≡ kinds.PutGeos read name)
 IsChangeRead (kinds.CopyFile from name to) changed =
     (read : Bor Text) × IsReadAs from read × (changed ≡ kinds.CopyFile read name to)
 IsChangeRead (kinds.Store records columns name) changed =

@@ -18,7 +18,7 @@ use Rattle.ledger_cli.specs.Numbers.{tills_in, length_in, place_in}
 use Rattle.ledger_cli.specs.Forms.{AreColumns, choice_in, effect_in, loss_in, unowned_in}
 use Rattle.ledger_cli.specs.Images.{AreCompared, AreImages, AreOnSheet, ArePlanned, AreShown, AreTabled, is_no_picture}
 use Rattle.ledger_cli.specs.Looks.{IsAlone, IsAskedBy, IsObjectAsked, object_word, word_of}
-use Rattle.ledger_cli.specs.Names.{IsIdOf, IsName, IsNameMissing, IsNewNameText, IsNoId, copy_name, entry_type_in, is_among, names_in, type_in}
+use Rattle.ledger_cli.specs.Names.{IsIdOf, IsName, IsNameMissing, IsNewNameText, IsNoId, copy_name, entry_type_in, is_among, is_cvt, names_in, type_in}
 use Rattle.ledger_cli.specs.Flags.{is_given}
 use Rattle.ledger_cli.specs.Positions.{HasNoColumns}
 use Rattle.ledger_jobs.specs.declared.jobs.Job.TheVariants as jobs
@@ -56,6 +56,7 @@ word_of_change (kinds.Delete name) = codes "delete"
 word_of_change (kinds.Undelete kind name) = codes "undelete"
 word_of_change kinds.Sort = codes "sort"
 word_of_change (kinds.Put file kind name) = codes "put"
+word_of_change (kinds.PutGeos file name) = codes "put"
 word_of_change (kinds.CopyFile from name to) = codes "copy-file"
 word_of_change (kinds.Store records columns name) = codes "store"
 
@@ -76,6 +77,8 @@ IsChangeIn (kinds.Undelete kind name) rows = IsNameOf (value (codes "NAME") rows
 IsChangeIn kinds.Sort rows = ⊤
 IsChangeIn (kinds.Put file kind name) rows = IsNameOf (value (codes "NAME") rows) (name_bytes name)
     × IsNewName (name_bytes name) × (file.now ≡ value (codes "FILE") rows) × (type_in rows ≡ Some kind)
+IsChangeIn (kinds.PutGeos file name) rows = IsNameOf (value (codes "NAME") rows) (name_bytes name)
+    × IsNewName (name_bytes name) × (file.now ≡ value (codes "FILE") rows) × (is_cvt rows ≡ true)
 IsChangeIn (kinds.CopyFile from name to) rows = IsNameOf (value (codes "NAME") rows) (name_bytes name)
     × IsNameOf (copy_name rows) (name_bytes to) × IsNewName (name_bytes to) × (from.now ≡ value (codes "FROM") rows)
 IsChangeIn (kinds.Store records columns name) rows = IsNameOf (value (codes "NAME") rows) (name_bytes name)
@@ -171,7 +174,7 @@ IsNoJob kinds found faults.Images = (kinds ≡ []) × Has found (codes "picture"
 IsNoJob kinds found faults.Id = (kinds ≡ []) × HasAny found (codes "new" ∷ codes "title" ∷ [])
     (λ rows. IsName (value (codes "NAME") rows) × IsNoId (value (codes "ID") rows))
 IsNoJob kinds found faults.Kind = (kinds ≡ [])
-    × (Has found (codes "put") (λ rows. IsNewNameText (value (codes "NAME") rows) × (type_in rows ≡ None))
+    × (Has found (codes "put") (λ rows. IsNewNameText (value (codes "NAME") rows) × (is_cvt rows ≡ false) × (type_in rows ≡ None))
     ⊎ Has found (codes "undelete") (λ rows. entry_type_in rows ≡ None))
 IsNoJob kinds found faults.Flags = (kinds ≡ []) × AreRefusedColumns found faults.Flags
 IsNoJob kinds found faults.Positions = (kinds ≡ []) × AreRefusedColumns found faults.Positions

@@ -91,3 +91,7 @@ entry_type_in rows = entry_type_named (value (codes "TYPE") rows)
 -- the type that the words give as TYPE
 abbrev pub type_in : List Row → Option FileType
 type_in rows = type_named (value (codes "TYPE") rows)
+
+-- the words say that the file is a CVT
+abbrev pub is_cvt : List Row → Bool
+is_cvt rows = bytes_eq (value (codes "TYPE") rows) (codes "cvt")

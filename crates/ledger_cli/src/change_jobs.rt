@@ -67,13 +67,17 @@ pub(crate) fn store_job<'a>(matches: &ArgMatches<'a>) -> Result<Job<'a>, JobFaul
     changing(matches, kind)
 }
 
-/// The job that puts a file of the host on the disk.
+/// The job that puts a file of the host on the disk, or the file of GEOS that a CVT holds.
 pub(crate) fn put_job<'a>(matches: &ArgMatches<'a>) -> Result<Job<'a>, JobFault>
     ensures { IsRead (codes "put") (rows_of (found_of matches.now)) result }
 {
     let file = value_of(matches, "FILE");
     let name = new_name_of(value_of(matches, "NAME"))?;
-    let kind = type_of(value_of(matches, "TYPE"))?;
+    let word = value_of(matches, "TYPE");
+    if word == "cvt" {
+        return changing(matches, ChangeKind::PutGeos { file, name });
+    }
+    let kind = type_of(word)?;
     changing(matches, ChangeKind::Put { file, kind, name })
 }
 

@@ -72,6 +72,10 @@ fn read_change(change: ChangeKind<'_>) -> ChangeKind<'_>
             kind,
             name,
         },
+        ChangeKind::PutGeos { file, name } => ChangeKind::PutGeos {
+            file: read_path(file),
+            name,
+        },
         ChangeKind::CopyFile { from, name, to } => ChangeKind::CopyFile {
             from: read_path(from),
             name,

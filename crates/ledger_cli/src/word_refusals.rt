@@ -48,7 +48,7 @@ fn explain_words<E: Write>(fault: &JobFault, texts: &[&str], err: &mut E) {
         JobFault::Flags => writeln!(err, "ledger: give --fields or --at, not both"),
         JobFault::Kind => writeln!(
             err,
-            "ledger: TYPE is prg, seq or usr; of a deleted file, rel too"
+            "ledger: TYPE is prg, seq or usr; of a file that is put, cvt too; of a deleted one, rel"
         ),
         JobFault::Positions => writeln!(
             err,

@@ -45,6 +45,7 @@ text_file (jobs.Play image script loss) = Some script.now
 text_file (jobs.PlayLogged image script loss) = Some script.now
 text_file (jobs.Dry script) = Some script.now
 text_file (jobs.Change image effect loss (kinds.Put file kind name)) = Some file.now
+text_file (jobs.Change image effect loss (kinds.PutGeos file name)) = Some file.now
 text_file (jobs.Change image effect loss (kinds.Store records columns name)) = Some records.now
 text_file _ = None
 

@@ -25,6 +25,9 @@ const LOGGED: &str = "; all replies are in its log, which goes with it (`ledger 
 
 const UNWAITED: &str = "; it is set not to wait (O_NONBLOCK): hand over one that waits";
 
+const CVT: &str =
+    "it is no whole CVT: it doesn't begin like one, or is shorter or longer than its own lengths say";
+
 const TAPE: &str = "it is a tape (T64) of several programs, or of none; cbmconvert takes them out";
 
 const UNMADE: &str =
@@ -132,6 +135,10 @@ fn tell_unread<R: HostFiles + AllocGlobal, E: Write>(rt: &R, job: &Job<'_>, err:
             kind: ChangeKind::Put { file, .. },
             ..
         } if takes_no_file(rt, job) => tell_of(err, file, TAPE),
+        Job::Change {
+            kind: ChangeKind::PutGeos { file, .. },
+            ..
+        } if takes_no_file(rt, job) => tell_of(err, file, CVT),
         Job::Change { image, .. } => tell_of(err, image, UNMADE),
         _ => {
             let _ = writeln!(err, "{UNREAD}");

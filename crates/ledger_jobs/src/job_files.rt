@@ -69,7 +69,7 @@ fn second_of<'a>(job: &Job<'a>) -> Option<&'a str> {
         Job::Compare { after, .. } => Some(after),
         Job::Copy { copy, .. } | Job::Salvage { copy, .. } => Some(copy),
         Job::Change {
-            kind: ChangeKind::Put { file, .. },
+            kind: ChangeKind::Put { file, .. } | ChangeKind::PutGeos { file, .. },
             ..
         } => Some(file),
         Job::Extract { folder, .. } => Some(folder),

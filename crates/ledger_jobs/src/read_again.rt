@@ -17,6 +17,7 @@ pub(crate) fn text_file<'a>(job: &Job<'a>) -> Option<&'a str>
         ),
         Job::Change { kind, .. } => match kind {
             ChangeKind::Put { file, .. } => Some(file),
+            ChangeKind::PutGeos { file, .. } => Some(file),
             ChangeKind::Store { records, .. } => Some(records),
             _ => None,
         },

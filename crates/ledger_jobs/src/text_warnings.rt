@@ -4,7 +4,7 @@ ghost use Rattle.ledger_jobs.specs.JobRights.{MayExplain, MayReadAgain};
 use crate::jobs::Job;
 use crate::read_again::{bytes_of_text, text_again};
 use disk_changes::ChangeKind;
-use image_edits::{cut_in, has_no_file};
+use image_edits::{cut_in, has_no_file, is_no_cvt};
 use image_file::{HostFiles, ShownPath};
 use opened_files::{STANDARD_INPUT, size_of};
 use std::io::Write;
@@ -24,22 +24,28 @@ fn text_bytes<R: HostFiles + AllocGlobal>(rt: &R, path: &str) -> Option<Vec<u8>>
     bytes_of_text(rt, path)
 }
 
-/// Whether a job puts a file on a disk that holds none: a tape (T64) of several programs, or of none.
+/// Whether a host's file holds no file that this change could put on a disk.
+fn lacks_file(kind: &ChangeKind<'_>, bytes: &[u8]) -> bool {
+    match kind {
+        ChangeKind::Put { .. } => has_no_file(bytes),
+        ChangeKind::PutGeos { .. } => is_no_cvt(bytes),
+        _ => false,
+    }
+}
+
+/// Whether a job puts a file on a disk that holds none: a tape (T64) of several programs, or of none; or what should be a CVT and
+/// isn't a whole one.
 pub(crate) fn takes_no_file<R: HostFiles + AllocGlobal>(rt: &R, job: &Job<'_>) -> bool
     requires { MayExplain R.rights rt.now job.now }
 {
-    let Job::Change {
-        kind: ChangeKind::Put { .. },
-        ..
-    } = job
-    else {
+    let Job::Change { kind, .. } = job else {
         return false;
     };
     let Some(path) = text_again(rt, job) else {
         return false;
     };
     match text_bytes(rt, path) {
-        Some(bytes) => has_no_file(bytes.as_slice()),
+        Some(bytes) => lacks_file(kind, bytes.as_slice()),
         None => false,
     }
 }

@@ -42,6 +42,7 @@ module _ (host : Snapshot) where
 
   source : (kind : ChangeKind) → MayReadSource snapshot_rights host kind
   source (kinds.Put file kind name) = λ other. refl
+  source (kinds.PutGeos file name) = λ other. refl
   source (kinds.Store records columns name) = λ other. refl
   source (kinds.CopyFile from name to) = read from.now
   source _ = tt

@@ -1,6 +1,6 @@
 -- What was read is of the bytes that the host says.
 use Rattle.image_edits.proofs.EditRead.{image-read, read-of, unread-unbegun}
-use Rattle.image_edits.proofs.Held.{read-held}
+use Rattle.image_edits.proofs.Held.{read-cvt, read-held}
 use Rattle.image_edits.specs.Columns.{text_in}
 use Rattle.image_edits.proofs.edits.source_for.Goals as goal
 
@@ -9,6 +9,13 @@ returns-in-Put g c = record {
   read = rw c.in-Put.is (read-held g.R.HostFiles.stands c.args.rt.now c.in-Put.file.now c.file_at.result
       c.file_at.ensures.read);
   err = unread-unbegun c.file_at.result c.file_at.ensures.err;
+}
+
+pub returns-in-PutGeos : goal.returns-in-PutGeos
+returns-in-PutGeos g c = record {
+  read = rw c.in-PutGeos.is (read-cvt g.R.HostFiles.stands c.args.rt.now c.in-PutGeos.file.now c.cvt_at.result
+      c.cvt_at.ensures.read);
+  err = unread-unbegun c.cvt_at.result c.cvt_at.ensures.err;
 }
 
 pub returns-in-CopyFile : goal.returns-in-CopyFile
