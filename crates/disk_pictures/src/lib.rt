@@ -38,6 +38,7 @@ pub use sheets::sheet_printing::{
 pub use verdicts::{Verdict, judged};
 pub use views::free_printing::free_image;
 pub use views::missing::{error_lines, missing_lines};
+pub use views::past_errors::entry_past;
 pub use views::past_tracks::{blocks_past, sides_past};
 pub use views::reading_errors::{ErrorNumber, entry_with};
 pub use views::sector_printing::sector_image;

@@ -5,6 +5,6 @@ mod chains;
 mod data;
 mod sectors;
 
-pub use chains::{MOST_SECTORS, long_chain};
+pub use chains::{MOST_SECTORS, is_on_chain, long_chain};
 pub use data::data_in;
 pub use sectors::{error_in, place_past, sector_at, sectors_in};
