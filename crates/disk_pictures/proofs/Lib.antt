@@ -14,6 +14,7 @@ pub mod Named
 pub mod Opening
 pub mod Owned
 pub mod Owning
+pub mod Past
 pub mod PlainBytes
 pub mod Printing
 pub mod Rows
@@ -21,5 +22,6 @@ pub mod Shared
 pub mod Sides
 pub mod Sound
 pub mod SoundPrinted
+pub mod Tiled
 pub mod Told
 pub mod Walked

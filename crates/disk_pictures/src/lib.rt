@@ -31,7 +31,7 @@ pub use map_printing::map_image;
 pub use owners::Owner;
 pub use pages::missing_block::print_missing_block;
 pub use pages::picture_printing::picture_image;
-pub use pages::poster_printing::poster_image;
+pub use pages::poster_printing::{poster_image, print_poster_end};
 pub use sheets::sheet_printing::{
     MOST_TILES, sheet_begin, sheet_finish, sheet_refusal, sheet_tile,
 };

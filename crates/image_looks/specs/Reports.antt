@@ -1,5 +1,5 @@
 -- What is printed of the disk in an image, and what isn't on that disk. Our own.
-use Rattle.std.specs.Prelude.{◌⊎◌, ◌≡◌, ◌≢◌, ℕ, Bool, List, [], ◌∷◌, ◌++◌, None, Option, Some, Ok, Err, false, if◌then◌else◌, length, true}
+use Rattle.std.specs.Prelude.{◌⊎◌, ◌≡◌, ◌≢◌, ℕ, List, [], ◌∷◌, ◌++◌, None, Option, Some, Ok, Err, length}
 use Rattle.std.specs.Io.KnownBytes.{Appends}
 use Rattle.command_faults.specs.declared.faults.CommandFault.{CommandFault}
 use Rattle.command_faults.specs.declared.faults.CommandFault.TheVariants as faults
@@ -8,7 +8,8 @@ use Rattle.damaged_files.specs.reached.Sizes.{disk_of}
 use Rattle.disk_layout.specs.Clean.{IsVerdict}
 use Rattle.disk_layout.specs.declared.faults.Fault.{Fault}
 use Rattle.disk_pictures.specs.Missing.{IsMissing, missing_block}
-use Rattle.disk_pictures.specs.Outcomes.{IsMapPrinted, IsPictureFault, IsPicturePrinted}
+use Rattle.disk_pictures.specs.Outcomes.{IsMapPrinted, IsPictureFault, IsPicturePrinted, IsPosterPrinted}
+use Rattle.disk_pictures.specs.Posters.{poster_end}
 use Rattle.disk_reports.specs.AllFaults.{AreListed}
 use Rattle.disk_reports.specs.Outcomes.{IsCheckedAmong, IsDescribeFault}
 use Rattle.disk_reports.specs.Texts.{verdict_text}
@@ -23,19 +24,17 @@ reported_end (Some fault) lines = Ok (Some fault)
 reported_end None [] = Ok None
 reported_end None (_ ∷ _) = Err faults.Trimmed
 
--- it is a page
-abbrev pub on_page : Report → Bool
-on_page reports.Picture = true
-on_page _ = false
-
--- the lines as they are printed: on a page as HTML, and in text with these after them
+-- the lines as they are printed: on a page as HTML, on a poster as a sentence before its end, and in text with these after them
 abbrev pub told_as : Report → (lines maps : List ℕ) → List ℕ
-told_as report lines maps = if on_page report then missing_block lines else lines ++ maps
+told_as reports.Picture lines maps = missing_block lines
+told_as reports.Poster lines maps = poster_end lines
+told_as _ lines maps = lines ++ maps
 
 -- why this isn't printed of a disk
 abbrev pub IsReportFault : Report → (disk : List ℕ) → CommandFault → Type 0
 IsReportFault reports.Map disk fault = IsPictureFault disk fault
 IsReportFault reports.Picture disk fault = IsPictureFault disk fault
+IsReportFault reports.Poster disk fault = IsPictureFault disk fault
 IsReportFault _ disk fault = IsDescribeFault disk fault
 
 module _ {W : Type 0} (contents : W → Option (List ℕ)) where
@@ -51,6 +50,7 @@ module _ {W : Type 0} (contents : W → Option (List ℕ)) where
   IsReported reports.Faults disk old new found = AreListed contents disk old new found
   IsReported reports.Map disk old new found = IsMapPrinted contents disk old new found
   IsReported reports.Picture disk old new found = IsPicturePrinted contents disk old new found
+  IsReported reports.Poster disk old new found = IsPosterPrinted contents disk old new found
 
   -- This was printed of the disk in an image, and after it the lines of what isn't on that disk, and of maps of more tracks.
   pub record IsReportedWith (report : Report) (image : List ℕ) (old new : W) (end : JobEnd) : Type 0 where

@@ -1,18 +1,20 @@
 //! What is printed of the disk in an image, and then what isn't on that disk.
-ghost use Rattle.std.specs.Prelude.{◌≡◌, ◌≢◌, IfErr, IfOk, OnOk};
+ghost use Rattle.std.specs.Prelude.{◌≡◌, ◌≢◌, ◌++◌, IfErr, IfOk, OnOk};
 ghost use Rattle.std.specs.Io.KnownBytes.{Appends};
 ghost use Rattle.command_faults.specs.declared.faults.CommandFault.TheVariants as faults;
 ghost use Rattle.disk_pictures.specs.Missing.{IsMissing};
 ghost use Rattle.disk_reports.specs.AllFaults.{AreListed};
 ghost use Rattle.disk_reports.specs.Outcomes.{IsDescribeFault};
 ghost use Rattle.image_looks.specs.WiderMaps.{maps_text};
-ghost use Rattle.image_looks.specs.Reports.{IsReportEnd, IsReportFault, IsReported, on_page, reported_end as end_of, told_as};
+ghost use Rattle.image_looks.specs.Reports.{IsReportEnd, IsReportFault, IsReported, reported_end as end_of, told_as};
 
 use crate::wider_maps::wider_maps;
 use command_faults::{CommandFault, flush};
 use damaged_files::disk_in;
 use disk_layout::Fault;
-use disk_pictures::{map_image, missing_lines, picture_image, print_missing_block};
+use disk_pictures::{
+    map_image, missing_lines, picture_image, poster_image, print_missing_block, print_poster_end,
+};
 use disk_reports::{check_among, check_image, list_faults};
 use std::alloc::Global;
 use std::io::Write;
@@ -30,6 +32,8 @@ pub(crate) enum Report {
     Map,
     /// Its picture as a page.
     Picture,
+    /// Its picture as a poster.
+    Poster,
 }
 
 /// Prints all faults of an image that hold, and hands on what the output held back.
@@ -64,14 +68,8 @@ fn report_disk<W: Write>(
         Report::Faults => faults_image(alloc, disk, out),
         Report::Map => map_image(alloc, disk, out),
         Report::Picture => picture_image(alloc, disk, out),
+        Report::Poster => poster_image(alloc, disk, out),
     }
-}
-
-/// Whether it is a page.
-fn is_page(report: Report) -> bool
-    ensures { result ≡ on_page report }
-{
-    matches!(report, Report::Picture)
 }
 
 /// Prints lines as they are.
@@ -85,7 +83,16 @@ fn print_plain<W: Write>(lines: &[u8], out: &mut W) -> Result<(), CommandFault>
     }
 }
 
-/// Prints lines for a page, or as text, in which these others follow.
+/// Prints lines as text, and then these others.
+fn print_both<W: Write>(lines: &[u8], maps: &[u8], out: &mut W) -> Result<(), CommandFault>
+    ensures ok { OnOk result (Appends (W.contents out.old) (W.contents out.new) (lines.now ++ maps.now)) }
+    ensures err { IfErr result (λ fault. fault ≡ faults.File) }
+{
+    print_plain(lines, out)?;
+    print_plain(maps, out)
+}
+
+/// Prints lines for a page or a poster, or as text, in which these others follow.
 fn print_either<W: Write>(
     report: Report,
     lines: &[u8],
@@ -95,11 +102,11 @@ fn print_either<W: Write>(
     ensures ok { OnOk result (Appends (W.contents out.old) (W.contents out.new) (told_as report lines.now maps.now)) }
     ensures err { IfErr result (λ fault. fault ≡ faults.File) }
 {
-    if is_page(report) {
-        return print_missing_block(lines, out);
+    match report {
+        Report::Picture => print_missing_block(lines, out),
+        Report::Poster => print_poster_end(lines, out),
+        _ => print_both(lines, maps, out),
     }
-    print_plain(lines, out)?;
-    print_plain(maps, out)
 }
 
 /// The same, and hands on what the output held back.

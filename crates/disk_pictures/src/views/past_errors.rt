@@ -1,9 +1,10 @@
-//! The sectors past track 35 that a drive couldn't read when an image was made.
-ghost use Rattle.std.specs.Prelude.{◌≡◌, ◌<◌, ◌+◌, IfErr, OnOk, Some, map, option_map};
+//! The sectors past track 35 that a drive couldn't read when an image was made, and those that several files have.
+ghost use Rattle.std.specs.Prelude.{◌≡◌, ◌<◌, ◌+◌, ◌++◌, IfErr, OnOk, Some, flat_map, map, option_map, slice_get, take};
 ghost use Rattle.std.specs.Io.KnownBytes.{Appends};
 ghost use Rattle.disk_pictures.specs.Drawings.{file_in};
 ghost use Rattle.disk_pictures.specs.Held.{drawn_in};
-ghost use Rattle.disk_pictures.specs.PastErrors.{entry_among, is_entrys, misread_text, past_error, past_error_line, past_errors_text};
+ghost use Rattle.disk_pictures.specs.PastErrors.{having, is_entrys, misread_text, past_error, past_error_line, past_errors_text, past_place};
+ghost use Rattle.disk_pictures.specs.PastErrors.{past_sharing, past_sharing_line, past_sharings_text};
 ghost use Rattle.disk_pictures.specs.PastErrors as specs;
 ghost use Rattle.long_chains.specs.Sectors as sectors;
 ghost use Rattle.command_faults.specs.declared.faults.CommandFault.TheVariants as faults;
@@ -13,15 +14,25 @@ use crate::drawn_file::DrawnFile;
 use crate::views::reading_errors::{EntryName, ErrorNumber, print_errors};
 use command_faults::{CommandFault, print_text};
 use disk_layout::{EntryView, Slot};
-use long_chains::{error_in, is_on_chain, place_past};
+use long_chains::{SECTORS_PAST, error_in, is_on_chain, misread_past, place_past};
 use std::fmt::{self, Display, Formatter};
 use std::io::Write;
 
-/// How many sectors the tracks 36 to 42 have.
-const SECTORS_PAST: u16 = 119;
-
-/// The number of the first of them: how many sectors the tracks 1 to 35 have.
+/// The number of the first sector past track 35: how many come before it.
 const FIRST_PAST: u16 = 683;
+
+/// A sector past track 35, by its number.
+#[derive(Clone, Copy)]
+struct PastPlace(u16);
+
+impl Display for PastPlace {
+    ghost output = { λ sector. Some (past_place sector.0) };
+
+    fn fmt<W: fmt::Write>(&self, f: &mut Formatter<W>) -> fmt::Result {
+        let (track, sector) = place_past(self.0);
+        write!(f, "{track}/{sector}")
+    }
+}
 
 /// The line of a sector that wasn't read, with the entry that has it.
 #[derive(Clone, Copy)]
@@ -36,8 +47,25 @@ impl Display for PastErrorLine<'_> {
 
     fn fmt<W: fmt::Write>(&self, f: &mut Formatter<W>) -> fmt::Result {
         let (error, name) = (ErrorNumber(self.error), EntryName(self.entry));
-        let (track, sector) = place_past(self.number);
-        writeln!(f, "ERROR {error} {track}/{sector}{name}")
+        writeln!(f, "ERROR {error} {}{name}", PastPlace(self.number))
+    }
+}
+
+/// The line of a sector that several files have, with the first two of their entries.
+#[derive(Clone, Copy)]
+struct SharingLine<'a> {
+    number: u16,
+    first: Option<&'a Slot>,
+    second: Option<&'a Slot>,
+}
+
+impl Display for SharingLine<'_> {
+    ghost output = { λ line. Some (past_sharing line.number (option_map (λ slot. slot.now) line.first)
+        (option_map (λ slot. slot.now) line.second)) };
+
+    fn fmt<W: fmt::Write>(&self, f: &mut Formatter<W>) -> fmt::Result {
+        let (first, second) = (EntryName(self.first), EntryName(self.second));
+        writeln!(f, "OWNEDTWICE {}{first}{second}", PastPlace(self.number))
     }
 }
 
@@ -49,16 +77,51 @@ fn is_of(image: &[u8], file: &DrawnFile, number: u16) -> bool
     EntryView::new(bytes).type_byte() >= 128 && is_on_chain(image, bytes[3], bytes[4], number)
 }
 
-/// The first of these entries that has the sector.
-fn first_with<'a>(image: &[u8], files: &'a [DrawnFile], number: u16) -> Option<&'a Slot>
-    ensures { option_map (λ slot. slot.now) result ≡ entry_among image.now (map file_in files.now) number }
+/// That of these entries which has the sector, and so many others that have it before it.
+fn nth_with<'a>(
+    image: &[u8],
+    files: &'a [DrawnFile],
+    number: u16,
+    nth: usize,
+) -> Option<&'a DrawnFile>
+    ensures { option_map (λ file. file_in file.now) result ≡ slice_get (having image.now number (map file_in files.now)) nth }
 {
+    let mut left = nth;
     for file in files {
         if is_of(image, file, number) {
-            return Some(&file.slot);
+            if left == 0 {
+                return Some(file);
+            }
+            left -= 1;
         }
     }
     None
+}
+
+/// The entry of a file, if there is one.
+fn entry_of(file: Option<&DrawnFile>) -> Option<&Slot>
+    ensures { option_map (λ slot. slot.now) result ≡ option_map (λ f. f.slot) (option_map (λ file. file_in file.now) file.entry) }
+{
+    match file {
+        Some(file) => Some(&file.slot),
+        None => None,
+    }
+}
+
+/// The closed entry whose file has the sector with this number, and so many others before it whose files have it, if the files are drawn.
+fn nth_past<'a>(
+    image: &[u8],
+    drawing: Option<&'a Drawing>,
+    number: u16,
+    nth: usize,
+) -> Option<&'a Slot>
+    ensures { option_map (λ slot. slot.now) result
+        ≡ specs.nth_past image.now (option_map (λ drawn. drawn_in drawn.now) drawing.entry) number nth }
+{
+    match drawing {
+        Some(drawing) => entry_of(nth_with(image, drawing.files.as_slice(), number, nth)),
+        None => None,
+    }
 }
 
 /// The first closed entry whose file has the sector past track 35 with this number, if the files are drawn: its chain over all tracks of
@@ -71,10 +134,7 @@ pub fn entry_past<'a>(
     ensures { option_map (λ slot. slot.now) result
         ≡ specs.entry_past image.now (option_map (λ drawn. drawn_in drawn.now) drawing.entry) number }
 {
-    match drawing {
-        Some(drawing) => first_with(image, drawing.files.as_slice(), number),
-        None => None,
-    }
+    nth_past(image, drawing, number, 0)
 }
 
 /// Prints the line of a sector, if it wasn't read.
@@ -114,13 +174,58 @@ fn print_past_errors<E: Write>(
         (past_errors_text image.now (option_map (λ drawn. drawn_in drawn.now) drawing.entry))) }
     ensures err { IfErr result (λ fault. fault ≡ faults.File) }
 {
-    for past in 0..SECTORS_PAST {
-        print_past_error(err, image, drawing, FIRST_PAST + past)?;
+    let misread = misread_past(image);
+    for &number in misread.as_slice() {
+        print_past_error(err, image, drawing, number)?;
     }
     Ok(())
 }
 
-/// Prints a line for each sector of the image that wasn't read when it was made, with the entry that has it if this is drawn.
+/// Prints the line of a sector, if several files have it.
+fn print_sharing<E: Write>(
+    err: &mut E,
+    image: &[u8],
+    drawing: Option<&Drawing>,
+    number: u16,
+) -> Result<(), CommandFault>
+    ensures ok { OnOk result (Appends (E.contents err.old) (E.contents err.new) (past_sharing_line number
+        (specs.nth_past image.now (option_map (λ drawn. drawn_in drawn.now) drawing.entry) number 0)
+        (specs.nth_past image.now (option_map (λ drawn. drawn_in drawn.now) drawing.entry) number 1))) }
+    ensures err { IfErr result (λ fault. fault ≡ faults.File) }
+{
+    let second = nth_past(image, drawing, number, 1);
+    if second.is_none() {
+        return Ok(());
+    }
+    let first = nth_past(image, drawing, number, 0);
+    print_text(
+        err,
+        SharingLine {
+            number,
+            first,
+            second,
+        },
+    )
+}
+
+/// Prints a line for each sector of tracks 36 to 42 that several files have, with the first two of their entries.
+fn print_sharings<E: Write>(
+    err: &mut E,
+    image: &[u8],
+    drawing: Option<&Drawing>,
+) -> Result<(), CommandFault>
+    ensures ok { OnOk result (Appends (E.contents err.old) (E.contents err.new)
+        (past_sharings_text image.now (option_map (λ drawn. drawn_in drawn.now) drawing.entry))) }
+    ensures err { IfErr result (λ fault. fault ≡ faults.File) }
+{
+    for past in 0..SECTORS_PAST as u16 {
+        print_sharing(err, image, drawing, FIRST_PAST + past)?;
+    }
+    Ok(())
+}
+
+/// Prints a line for each sector of the image that wasn't read when it was made, with the entry that has it if this is drawn. Then
+/// follows one for each sector past track 35 that several files have.
 pub(crate) fn print_misread<E: Write>(
     err: &mut E,
     image: &[u8],
@@ -131,5 +236,6 @@ pub(crate) fn print_misread<E: Write>(
     ensures err { IfErr result (λ fault. fault ≡ faults.File) }
 {
     print_errors(err, image, drawing)?;
-    print_past_errors(err, image, drawing)
+    print_past_errors(err, image, drawing)?;
+    print_sharings(err, image, drawing)
 }
