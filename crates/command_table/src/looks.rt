@@ -77,8 +77,10 @@ first the one that check prints without it; MAPWRONG only if the files are
 sound. --json goes before --csv, both before --all, and --csv before --as-is.
 With --as-is it takes an image of 40 or 42 tracks, or with error bytes, too, and
 checks its first 35 tracks. After that it prints a line for each sector that the
-drive couldn't read, ERROR 23 17/4 \"MENU\", and for each file that goes on beyond
-track 35, BEYOND 17/4 \"MENU\". With --json they stand in `errors` and `beyond`.
+drive couldn't read, ERROR 23 17/4 \"MENU\", for each sector beyond track 35 that
+two files have, OWNEDTWICE 36/4 \"A\" \"B\", and for each file that goes on beyond
+track 35, BEYOND 17/4 \"MENU\". With --json ERROR is in `errors`, and BEYOND in
+`beyond`.
 Then the status isn't 0. SPEEDDOS 36-40 says that SpeedDOS keeps a map of these
 tracks in 18/0; DOLPHINDOS and PROLOGICDOS, too. An object doesn't say so.
 
@@ -127,7 +129,8 @@ It draws a damaged disk too, as far as its links can be followed:
   a  a block of the file with letter a  !  the sector of the fault
   A  a side sector of that file
 If the image has 40 or 42 tracks, or error bytes, it draws the first 35 tracks,
-and prints ERROR, BEYOND and SPEEDDOS at the end, as check --as-is does.
+and prints ERROR, OWNEDTWICE, BEYOND and SPEEDDOS at the end, as check --as-is
+does. The line of a file of GEOS has its structure and its type.
 With several images each line begins with the image's name, also for an image
 that is refused. The exit status is then the highest of all.
 With --json each image has a line, an object of JSON. Its `sectors` are those of
@@ -179,13 +182,13 @@ is then the highest of all. With --compare the page shows the second image,
 marks the sectors that differ from the first, and lists the files and records
 that changed. The exit status is that of the second image.
 If the image has 40 or 42 tracks, or error bytes, it draws the first 35 tracks.
-The page of one image, or of two with --compare, has the lines ERROR and BEYOND
-of map below the drawing.
+The page of one image, or of two with --compare, has the lines ERROR, OWNEDTWICE
+and BEYOND of map below the drawing, a sheet below that of the image, and on the
+poster a sentence says whether there are any.
 
 Exit status:
   0  the disk is clean
-  1  a fault, ERROR or BEYOND on the page; or the image is refused (IMAGE SIZE,
-     LAYOUT, LOG)
+  1  a fault, ERROR or BEYOND; or the image is refused (IMAGE SIZE, LAYOUT, LOG)
   2  IMAGES: several without --sheet, more than 400, not two with --compare, or
      two of --svg, --sheet and --compare
   3  FILE, NOT READY, NO MEMORY, IN USE
