@@ -77,10 +77,9 @@ first the one that check prints without it; MAPWRONG only if the files are
 sound. --json goes before --csv, both before --all, and --csv before --as-is.
 With --as-is it takes an image of 40 or 42 tracks, or with error bytes, too, and
 checks its first 35 tracks. After that it prints a line for each sector that the
-drive couldn't read, ERROR 23 17/4 \"MENU\", for each sector beyond track 35 that
-two files have, OWNEDTWICE 36/4 \"A\" \"B\", and for each file that goes on beyond
-track 35, BEYOND 17/4 \"MENU\". With --json ERROR is in `errors`, and BEYOND in
-`beyond`.
+drive couldn't read, ERROR 23 17/4 \"MENU\", and for each file that goes on beyond
+track 35, BEYOND 17/4 \"MENU\". With --json they stand in `errors` and `beyond`.
+If two files have a sector beyond track 35, OWNEDTWICE 36/4 \"A\" \"B\" says so.
 Then the status isn't 0. SPEEDDOS 36-40 says that SpeedDOS keeps a map of these
 tracks in 18/0; DOLPHINDOS and PROLOGICDOS, too. An object doesn't say so.
 
@@ -182,9 +181,9 @@ is then the highest of all. With --compare the page shows the second image,
 marks the sectors that differ from the first, and lists the files and records
 that changed. The exit status is that of the second image.
 If the image has 40 or 42 tracks, or error bytes, it draws the first 35 tracks.
-The page of one image, or of two with --compare, has the lines ERROR, OWNEDTWICE
-and BEYOND of map below the drawing, a sheet below that of the image, and on the
-poster a sentence says whether there are any.
+The page of one image, or of two with --compare, has the lines ERROR and BEYOND
+of map below the drawing, and so has each tile of a sheet. A poster has a
+sentence that says whether there are any.
 
 Exit status:
   0  the disk is clean

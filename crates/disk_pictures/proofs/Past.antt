@@ -51,15 +51,18 @@ left-out-past image n fs i f all left inside there other so =
     so ∙ ap (λ gs. slice_get (having image n gs) left) (from-here fs i f inside there)
     ∙ ap (λ gs. slice_get gs left) (first-of image n (file_in f) (map file_in (drop (i + 1) fs)) false other)
 
--- the lines of one number more
-pub numbers-more : (line : ℕ → List ℕ) (a b c : Option (List ℕ)) (ns : List ℕ) (i n : ℕ) → i < length ns → get_or ns i n ≡ n
-    → Appends a b (flat_map line (take i ns)) → Appends b c (line n) → Appends a c (flat_map line (take (i + 1) ns))
-numbers-more line a b c ns i n inside here before more =
-    let taken = take_more ns i n inside ∙ ap (λ m. take i ns ++ m ∷ []) here in
+-- the lines of one number more, and of all of them
+pub numbers-more : (line : ℕ → List ℕ) (a b c : Option (List ℕ)) (ns : List ℕ) (i : ℕ) → i < length ns
+    → Appends a b (flat_map line (take i ns)) → Appends b c (line (get_or ns i 0)) → Appends a c (flat_map line (take (i + 1) ns))
+numbers-more line a b c ns i inside before more =
     subst (Appends a c)
-    (sym (ap (flat_map line) taken ∙ flat_map-append line (take i ns) (n ∷ [])
-    ∙ ap (λ t. flat_map line (take i ns) ++ t) (append-nil (line n))))
+    (sym (ap (flat_map line) (take_more ns i 0 inside) ∙ flat_map-append line (take i ns) (get_or ns i 0 ∷ [])
+    ∙ ap (λ t. flat_map line (take i ns) ++ t) (append-nil (line (get_or ns i 0)))))
     (Appends-trans a b c _ _ before more)
+
+pub numbers-all : (line : ℕ → List ℕ) (a b : Option (List ℕ)) (ns some : List ℕ) → some ≡ ns → Appends a b (flat_map line some)
+    → Appends a b (flat_map line ns)
+numbers-all line a b ns some all lines = subst (λ (ms : List ℕ). Appends a b (flat_map line ms)) all lines
 
 range-suc : (a n : ℕ) → range_with_len a (suc n) ≡ range_with_len a n ++ (a + n) ∷ []
 range-suc a zero = let at : a ≡ a + 0 = omega arith in ap (λ (k : ℕ). k ∷ []) at

@@ -130,6 +130,23 @@ fn add_past_error(
     Ok(())
 }
 
+/// Adds the objects of those of these sectors that weren't read.
+fn add_errors_at(
+    alloc: Global,
+    image: &[u8],
+    drawing: Option<&Drawing>,
+    numbers: &[u16],
+    values: &mut Vec<Value>,
+) -> Result<(), AllocError>
+    ensures { OnOk result (map view values.new.items ≡ map view values.old.items ++ flat_map (λ n. past_error_item n
+        (entry_past_of image.now (option_map (λ drawn. drawn_in drawn.now) drawing.entry) n) (error_in_of image.now n)) numbers.now) }
+{
+    for &number in numbers {
+        add_past_error(alloc, image, number, drawing, values)?;
+    }
+    Ok(())
+}
+
 /// Adds the objects of the sectors past track 35 that weren't read, each with the first entry that has it if the files are drawn.
 fn add_past_errors(
     alloc: Global,
@@ -141,10 +158,7 @@ fn add_past_errors(
         ++ past_error_items image.now (option_map (λ drawn. drawn_in drawn.now) drawing.entry)) }
 {
     let misread = misread_past(image);
-    for &number in misread.as_slice() {
-        add_past_error(alloc, image, number, drawing, values)?;
-    }
-    Ok(())
+    add_errors_at(alloc, image, drawing, misread.as_slice(), values)
 }
 
 /// The objects of the sectors that weren't read, in the order of an image, each with the first entry that has it if the files are drawn.

@@ -1,5 +1,5 @@
 //! The sectors past track 35 that a drive couldn't read when an image was made, and those that several files have.
-ghost use Rattle.std.specs.Prelude.{◌≡◌, ◌<◌, ◌+◌, ◌++◌, IfErr, OnOk, Some, flat_map, map, option_map, slice_get, take};
+ghost use Rattle.std.specs.Prelude.{◌≡◌, IfErr, OnOk, Some, flat_map, map, option_map, slice_get};
 ghost use Rattle.std.specs.Io.KnownBytes.{Appends};
 ghost use Rattle.disk_pictures.specs.Drawings.{file_in};
 ghost use Rattle.disk_pictures.specs.Held.{drawn_in};
@@ -163,6 +163,24 @@ fn print_past_error<E: Write>(
     )
 }
 
+/// Prints the lines of those of these sectors that weren't read.
+fn print_errors_at<E: Write>(
+    err: &mut E,
+    image: &[u8],
+    drawing: Option<&Drawing>,
+    numbers: &[u16],
+) -> Result<(), CommandFault>
+    ensures ok { OnOk result (Appends (E.contents err.old) (E.contents err.new) (flat_map (λ n. past_error_line n
+        (specs.entry_past image.now (option_map (λ drawn. drawn_in drawn.now) drawing.entry) n) (sectors.error_in image.now n))
+        numbers.now)) }
+    ensures err { IfErr result (λ fault. fault ≡ faults.File) }
+{
+    for &number in numbers {
+        print_past_error(err, image, drawing, number)?;
+    }
+    Ok(())
+}
+
 /// Prints a line for each sector of tracks 36 to 42 that wasn't read when the image was made, with the entry that has it if this is
 /// drawn.
 fn print_past_errors<E: Write>(
@@ -175,10 +193,7 @@ fn print_past_errors<E: Write>(
     ensures err { IfErr result (λ fault. fault ≡ faults.File) }
 {
     let misread = misread_past(image);
-    for &number in misread.as_slice() {
-        print_past_error(err, image, drawing, number)?;
-    }
-    Ok(())
+    print_errors_at(err, image, drawing, misread.as_slice())
 }
 
 /// Prints the line of a sector, if several files have it.
