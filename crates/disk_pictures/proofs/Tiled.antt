@@ -61,4 +61,4 @@ module _ {W : Type 0} (contents : W → Option (List ℕ)) (path image : List �
       → Appends (contents old) (contents new) (refused_tile html_of path (command_text fault))
       → status ≡ command_status fault → IsTilePrinted contents path image old new status
   fault-tile fault holds other printed is =
-      inr (record { fault = fault; holds = holds; other = other; printed = printed; status_is = is; })
+      inr (record { fault = fault; holds = holds; other = other; printed = printed; status_is = is })

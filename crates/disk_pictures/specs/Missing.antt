@@ -17,7 +17,7 @@ abbrev pub past_text : List ℕ → Option Layout → List ℕ
 past_text image None = []
 past_text image (Some l) = flat_map (file_text image) l.files
 
--- a line for each sector that wasn't read, and then these
+-- a line for each sector that wasn't read, and for each past track 35 that several files have, and then these
 abbrev pub missing_text : List ℕ → Option Layout → List ℕ
 missing_text image drawn = misread_text image drawn ++ past_text image drawn
 
@@ -38,7 +38,7 @@ abbrev pub IsMissing : (image lines : List ℕ) → Type 0
 IsMissing image lines = ((length image ≡ 174848) × (lines ≡ []))
     ⊎ ((length image ≢ 174848) × IsMissingBeside image lines)
 
--- these lines say which of its sectors weren't read
+-- these lines say which of its sectors weren't read, and which past track 35 several files have
 pub record IsMisreadBeside (image lines : List ℕ) : Type 0 where
   pub size : IsImageSize (length image)
   pub drawn : Option Layout

@@ -78,8 +78,9 @@ fn lines_beside(alloc: Global, image: &[u8], tracks: &[u8]) -> Result<Vec<u8>, C
 }
 
 /// The lines that say what isn't on the disk in an image of 40 or 42 tracks, or with error bytes: one for each sector that wasn't read when
-/// the image was made, with the first entry that has it, and one for each file that goes on past track 35. A file has a sector past
-/// track 35 if its chain over all tracks comes to its end, and has the sector. If the directory's sectors aren't a chain on track 18, nothing is known of the files. There is no line for an image that is a disk
+/// the image was made, with the first entry that has it, one for each sector past track 35 that several files have, and one for each
+/// file that goes on past track 35. A file has a sector past track 35 if its chain over all tracks comes to its end, and has the sector.
+/// If the directory's sectors aren't a chain on track 18, nothing is known of the files. There is no line for an image that is a disk
 /// alone. `ImageSize`, `NoMemory`.
 pub fn missing_lines(alloc: Global, image: &[u8]) -> Result<Vec<u8>, CommandFault>
     ensures ok { IfOk result (λ lines. IsMissing image.now lines.items) }
@@ -125,7 +126,7 @@ fn errors_beside(alloc: Global, image: &[u8], tracks: &[u8]) -> Result<Vec<u8>, 
     }
 }
 
-/// Those of the lines of `missing_lines` that say which sectors weren't read. `ImageSize`, `NoMemory`.
+/// Those of the lines of `missing_lines` that say which sectors weren't read, and which ones past track 35 several files have. `ImageSize`, `NoMemory`.
 pub fn error_lines(alloc: Global, image: &[u8]) -> Result<Vec<u8>, CommandFault>
     ensures ok { IfOk result (λ lines. IsMisread image.now lines.items) }
     ensures err { IfErr result (IsMissingFault image.now) }

@@ -126,11 +126,7 @@ fn nth_past<'a>(
 
 /// The first closed entry whose file has the sector past track 35 with this number, if the files are drawn: its chain over all tracks of
 /// the image comes to its end. A number says how many sectors come before one in the image.
-pub fn entry_past<'a>(
-    image: &[u8],
-    drawing: Option<&'a Drawing>,
-    number: u16,
-) -> Option<&'a Slot>
+pub fn entry_past<'a>(image: &[u8], drawing: Option<&'a Drawing>, number: u16) -> Option<&'a Slot>
     ensures { option_map (λ slot. slot.now) result
         ≡ specs.entry_past image.now (option_map (λ drawn. drawn_in drawn.now) drawing.entry) number }
 {
