@@ -2,14 +2,15 @@
 use Rattle.std.proofs.Common.{◌≡◌, ◌<◌, ◌+◌, ◌++◌, ◌∷◌, [], ℕ, suc, zero, Bool, true, false, List, get_or, length, map, take, drop, refl}
 use Rattle.std.proofs.Common.{sym, subst, ap, ◌∙◌, arith}
 use Rattle.std.specs.List.{range_with_len}
-use Rattle.std.specs.Prelude.{Option, Some, flat_map, if◌then◌else◌, slice_get}
+use Rattle.std.specs.Prelude.{None, Option, Some, flat_map, if◌then◌else◌, slice_get}
 use Rattle.std.specs.Io.KnownBytes.{Appends}
-use Rattle.std.proofs.KnownBytes.{Appends-trans}
+use Rattle.std.proofs.KnownBytes.{Appends-nil, Appends-trans}
 use Rattle.std.proofs.lemmas.Grind.{flat_map-append}
 use Rattle.std.proofs.lemmas.List.{append-nil, drop_more, take_more}
 use Rattle.disk_layout.specs.Layout.{File}
+use Rattle.disk_layout.specs.declared.slot.Slot.{Slot}
 use Rattle.disk_pictures.specs.Drawings.{file_in}
-use Rattle.disk_pictures.specs.PastErrors.{having, is_entrys, sectors_past}
+use Rattle.disk_pictures.specs.PastErrors.{having, is_entrys, past_error, past_error_line, past_sharing, past_sharing_line, sectors_past}
 use Rattle.disk_pictures.specs.declared.drawn_file.DrawnFile.{DrawnFile}
 
 -- the entries from the i-th on are it and those after it
@@ -87,3 +88,25 @@ pub past-all : (line : ℕ → List ℕ) (a b : Option (List ℕ)) (i : ℕ) →
     → Appends a b (flat_map line sectors_past)
 unfolding sectors_past
 past-all line a b i all lines = subst (λ (k : ℕ). Appends a b (flat_map line (range_with_len 683 k))) all lines
+
+-- the line of a sector that wasn't read, and of one that was
+pub error-told : (a b : Option (List ℕ)) (n : ℕ) (mine entry : Option Slot) (error : Option ℕ) (e : ℕ) → mine ≡ entry
+    → error ≡ Some e → Appends a b (past_error n mine e) → Appends a b (past_error_line n entry error)
+error-told a b n mine entry error e is wrong told =
+    subst (λ (o : Option ℕ). Appends a b (past_error_line n entry o)) (sym wrong)
+    (subst (λ (s : Option Slot). Appends a b (past_error n s e)) is told)
+
+pub error-none : (a : Option (List ℕ)) (n : ℕ) (entry : Option Slot) (error : Option ℕ) → error ≡ None
+    → Appends a a (past_error_line n entry error)
+error-none a n entry error is = subst (λ (o : Option ℕ). Appends a a (past_error_line n entry o)) (sym is) (Appends-nil a)
+
+-- the line of a sector that two files have, and of one that they haven't
+pub sharing-told : (a b : Option (List ℕ)) (n : ℕ) (mine first second : Option Slot) (s : Slot) → mine ≡ first → Some s ≡ second
+    → Appends a b (past_sharing n mine s) → Appends a b (past_sharing_line n first second)
+sharing-told a b n mine first second s is two told =
+    subst (λ (o : Option Slot). Appends a b (past_sharing_line n first o)) two
+    (subst (λ (o : Option Slot). Appends a b (past_sharing n o s)) is told)
+
+pub sharing-none : (a : Option (List ℕ)) (n : ℕ) (first second : Option Slot) → None ≡ second
+    → Appends a a (past_sharing_line n first second)
+sharing-none a n first second is = subst (λ (o : Option Slot). Appends a a (past_sharing_line n first o)) is (Appends-nil a)

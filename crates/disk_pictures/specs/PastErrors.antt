@@ -47,13 +47,13 @@ past_errors_text image drawn =
     flat_map (λ n. past_error_line n (entry_past image drawn n) (error_in image n)) (misread_past image)
 
 -- the line of a sector that two files have: OWNEDTWICE 36/4 "NAME" "OTHER"
-abbrev pub past_sharing : (number : ℕ) → (first second : Option Slot) → List ℕ
+abbrev pub past_sharing : (number : ℕ) → (first : Option Slot) → (second : Slot) → List ℕ
 past_sharing n first second =
-    codes "OWNEDTWICE " ++ (past_place n ++ (name_text first ++ (name_text second ++ codes "\n")))
+    codes "OWNEDTWICE " ++ (past_place n ++ (name_text first ++ (name_text (Some second) ++ codes "\n")))
 
 abbrev pub past_sharing_line : (number : ℕ) → (first second : Option Slot) → List ℕ
 past_sharing_line n first None = []
-past_sharing_line n first (Some s) = past_sharing n first (Some s)
+past_sharing_line n first (Some s) = past_sharing n first s
 
 -- the sectors of tracks 36 to 42
 unfoldable pub sectors_past : List ℕ

@@ -1,5 +1,5 @@
 -- What is printed of the disk in an image, and what isn't on that disk. Our own.
-use Rattle.std.specs.Prelude.{◌⊎◌, ◌≡◌, ◌≢◌, ℕ, List, [], ◌∷◌, ◌++◌, None, Option, Some, Ok, Err, length}
+use Rattle.std.specs.Prelude.{◌⊎◌, ◌≡◌, ◌≢◌, ℕ, Bool, List, [], ◌∷◌, ◌++◌, None, Option, Some, Ok, Err, false, if◌then◌else◌, length, true}
 use Rattle.std.specs.Io.KnownBytes.{Appends}
 use Rattle.command_faults.specs.declared.faults.CommandFault.{CommandFault}
 use Rattle.command_faults.specs.declared.faults.CommandFault.TheVariants as faults
@@ -24,11 +24,20 @@ reported_end (Some fault) lines = Ok (Some fault)
 reported_end None [] = Ok None
 reported_end None (_ ∷ _) = Err faults.Trimmed
 
+-- it is a page
+abbrev pub on_page : Report → Bool
+on_page reports.Picture = true
+on_page _ = false
+
+-- it is a poster
+abbrev pub on_poster : Report → Bool
+on_poster reports.Poster = true
+on_poster _ = false
+
 -- the lines as they are printed: on a page as HTML, on a poster as a sentence before its end, and in text with these after them
 abbrev pub told_as : Report → (lines maps : List ℕ) → List ℕ
-told_as reports.Picture lines maps = missing_block lines
-told_as reports.Poster lines maps = poster_end lines
-told_as _ lines maps = lines ++ maps
+told_as report lines maps =
+    if on_page report then missing_block lines else (if on_poster report then poster_end lines else lines ++ maps)
 
 -- why this isn't printed of a disk
 abbrev pub IsReportFault : Report → (disk : List ℕ) → CommandFault → Type 0

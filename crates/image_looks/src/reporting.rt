@@ -6,7 +6,7 @@ ghost use Rattle.disk_pictures.specs.Missing.{IsMissing};
 ghost use Rattle.disk_reports.specs.AllFaults.{AreListed};
 ghost use Rattle.disk_reports.specs.Outcomes.{IsDescribeFault};
 ghost use Rattle.image_looks.specs.WiderMaps.{maps_text};
-ghost use Rattle.image_looks.specs.Reports.{IsReportEnd, IsReportFault, IsReported, reported_end as end_of, told_as};
+ghost use Rattle.image_looks.specs.Reports.{IsReportEnd, IsReportFault, IsReported, on_page, on_poster, reported_end as end_of, told_as};
 
 use crate::wider_maps::wider_maps;
 use command_faults::{CommandFault, flush};
@@ -72,6 +72,20 @@ fn report_disk<W: Write>(
     }
 }
 
+/// Whether it is a page.
+fn is_page(report: Report) -> bool
+    ensures { result ≡ on_page report }
+{
+    matches!(report, Report::Picture)
+}
+
+/// Whether it is a poster.
+fn is_poster(report: Report) -> bool
+    ensures { result ≡ on_poster report }
+{
+    matches!(report, Report::Poster)
+}
+
 /// Prints lines as they are.
 fn print_plain<W: Write>(lines: &[u8], out: &mut W) -> Result<(), CommandFault>
     ensures ok { OnOk result (Appends (W.contents out.old) (W.contents out.new) lines.now) }
@@ -102,11 +116,13 @@ fn print_either<W: Write>(
     ensures ok { OnOk result (Appends (W.contents out.old) (W.contents out.new) (told_as report lines.now maps.now)) }
     ensures err { IfErr result (λ fault. fault ≡ faults.File) }
 {
-    match report {
-        Report::Picture => print_missing_block(lines, out),
-        Report::Poster => print_poster_end(lines, out),
-        _ => print_both(lines, maps, out),
+    if is_page(report) {
+        return print_missing_block(lines, out);
     }
+    if is_poster(report) {
+        return print_poster_end(lines, out);
+    }
+    print_both(lines, maps, out)
 }
 
 /// The same, and hands on what the output held back.

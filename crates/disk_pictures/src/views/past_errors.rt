@@ -56,15 +56,14 @@ impl Display for PastErrorLine<'_> {
 struct SharingLine<'a> {
     number: u16,
     first: Option<&'a Slot>,
-    second: Option<&'a Slot>,
+    second: &'a Slot,
 }
 
 impl Display for SharingLine<'_> {
-    ghost output = { λ line. Some (past_sharing line.number (option_map (λ slot. slot.now) line.first)
-        (option_map (λ slot. slot.now) line.second)) };
+    ghost output = { λ line. Some (past_sharing line.number (option_map (λ slot. slot.now) line.first) line.second.now) };
 
     fn fmt<W: fmt::Write>(&self, f: &mut Formatter<W>) -> fmt::Result {
-        let (first, second) = (EntryName(self.first), EntryName(self.second));
+        let (first, second) = (EntryName(self.first), EntryName(Some(self.second)));
         writeln!(f, "OWNEDTWICE {}{first}{second}", PastPlace(self.number))
     }
 }
@@ -204,10 +203,9 @@ fn print_sharing<E: Write>(
         (specs.nth_past image.now (option_map (λ drawn. drawn_in drawn.now) drawing.entry) number 1))) }
     ensures err { IfErr result (λ fault. fault ≡ faults.File) }
 {
-    let second = nth_past(image, drawing, number, 1);
-    if second.is_none() {
+    let Some(second) = nth_past(image, drawing, number, 1) else {
         return Ok(());
-    }
+    };
     let first = nth_past(image, drawing, number, 0);
     print_text(
         err,
