@@ -1,12 +1,12 @@
 -- Sectors past track 35, and the entries that have one, looked for one after another.
-use Rattle.std.proofs.Common.{◌≡◌, ◌<◌, ◌+◌, ◌++◌, ◌∷◌, [], ℕ, suc, zero, Bool, true, false, List, get_or, length, map, take, drop, refl}
+use Rattle.std.proofs.Common.{◌≡◌, ◌<◌, ◌≤◌, ◌+◌, ◌-◌, ◌++◌, ◌∷◌, [], ℕ, suc, zero, Bool, true, false, List, get_or, length, map, take, drop, refl}
 use Rattle.std.proofs.Common.{sym, subst, ap, ◌∙◌, arith}
 use Rattle.std.specs.List.{range_with_len}
 use Rattle.std.specs.Prelude.{None, Option, Some, flat_map, if◌then◌else◌, slice_get}
 use Rattle.std.specs.Io.KnownBytes.{Appends}
 use Rattle.std.proofs.KnownBytes.{Appends-nil, Appends-trans}
 use Rattle.std.proofs.lemmas.Grind.{flat_map-append}
-use Rattle.std.proofs.lemmas.List.{append-nil, drop_more, take_more}
+use Rattle.std.proofs.lemmas.List.{append-nil, drop_all, drop_more, take_more}
 use Rattle.disk_layout.specs.Layout.{File}
 use Rattle.disk_layout.specs.declared.slot.Slot.{Slot}
 use Rattle.disk_pictures.specs.Drawings.{file_in}
@@ -51,6 +51,18 @@ pub left-out-past : (image : List ℕ) (n : ℕ) (fs : List DrawnFile) (i : ℕ)
 left-out-past image n fs i f all left inside there other so =
     so ∙ ap (λ gs. slice_get (having image n gs) left) (from-here fs i f inside there)
     ∙ ap (λ gs. slice_get gs left) (first-of image n (file_in f) (map file_in (drop (i + 1) fs)) false other)
+
+-- none is left
+pub none-past : (image : List ℕ) (n : ℕ) (fs : List DrawnFile) (i : ℕ) (all : Option File) (left : ℕ) → length fs ≤ i
+    → all ≡ slice_get (having image n (map file_in (drop i fs))) left → None ≡ all
+unfolding having
+none-past image n fs i all left end so =
+    sym (so ∙ ap (λ (gs : List DrawnFile). slice_get (having image n (map file_in gs)) left) (drop_all i fs end))
+
+-- a number that isn't 0 is the next one of the number before it
+pub one-less : (n m : ℕ) → (n ≡ 0 → ⊥) → m ≡ n - 1 → n ≡ suc m
+one-less zero m more is = absurd (more refl)
+one-less (suc k) m more is = omega (arith, is)
 
 -- the lines of one number more, and of all of them
 pub numbers-more : (line : ℕ → List ℕ) (a b c : Option (List ℕ)) (ns : List ℕ) (i : ℕ) → i < length ns
