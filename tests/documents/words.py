@@ -46,7 +46,7 @@ OTHERS = {
     "shop_commands/FreshShops.antt": "the name of a disk",
     "shop_commands/Images.antt": "the same",
     "image_looks/Plans.antt": "what stands for standard input in a command",
-    "json_looks/GeosTypes.antt": "what GEOS calls its files",
+    "geos_files/Types.antt": "what GEOS calls its files",
 }
 # names of files
 NAMES = {"STOCK", "REQUESTS"}

@@ -28,6 +28,7 @@ sys.dont_write_bytecode = True
 sys.path.insert(0, str(Path(__file__).resolve().parents[1] / "lib"))
 from disks import shop_after_a_day
 from drawn import MAP, PLACES, SIZE, name_text, start
+from missing import PAST as FURTHER, whole_chain
 from trial import conduct
 
 COLUMNS = ["name", "size", "verdict", "track", "sector", "free", "disk", "id", "short", "fewer", "sha1", "sha256"]
@@ -202,18 +203,24 @@ def damage(draw, image):
 
 
 def with_errors(draw, image):
-    """An image of 40 tracks with error bytes, some of which aren't 1; and what is told of those of tracks 1 to 35."""
+    """An image of 40 tracks with error bytes, some of which aren't 1; and what is told of those."""
     wrong = {draw.randrange(768): draw.choice([2, 5, 11, 15, 200]) for _ in range(draw.randint(0, 4))}
     codes = bytes(wrong.get(number, 1) for number in range(768))
     reader, told = Reader(image), []
     sectors, _ = reader.follow((18, 1))
     system = {MAP, *sectors} if reader.slots() is not None else set()
-    for number in sorted(it for it in wrong if it < len(PLACES)):
-        place, code = PLACES[number], wrong[number]
+    tracks = image + bytes(256 * 85)
+    for number in sorted(wrong):
+        place, code = (PLACES + FURTHER)[number], wrong[number]
         error = str(code + 18) if 2 <= code <= 11 else "74" if code == 15 else f"BYTE {code}"
-        name = None if place in system else reader.owner(place)
+        if number < len(PLACES):
+            name = None if place in system else reader.owner(place)
+        else:
+            slots = [slot for _, slot in reader.slots() or [] if slot[2] >= 0x80]
+            names = [slot[5:21].rstrip(b"\xa0") for slot in slots if number in whole_chain(tracks, tuple(slot[3:5]))]
+            name = name_text(names[0]) if names else None
         told.append({"error": error, "name": name, "sector": place[1], "track": place[0]})
-    return image + bytes(256 * 85) + codes, told
+    return tracks + codes, told
 
 
 def judge_longer(program, draw, path, image, line):

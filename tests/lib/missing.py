@@ -1,10 +1,14 @@
 """What an image says of itself besides its disk of 35 tracks, in the lines of `trim`, `check --as-is`, `map` and `picture`: by the D64
 layout and docs/KEEPERS.md."""
 
-from drawn import PLACES, Disk
+from drawn import PLACES, SIZE, Disk
 
 # what the drive reports for an error byte (the D64 layout)
 ERRORS = {2: "20", 3: "21", 4: "22", 5: "23", 6: "24", 7: "25", 8: "26", 9: "27", 10: "28", 11: "29", 15: "74"}
+
+
+# the sectors of tracks 36 to 42
+PAST = [(track, sector) for track in range(36, 43) for sector in range(17)]
 
 
 def beyond(disk, entry, place, raw, at, places):
@@ -24,13 +28,43 @@ def owner_name(disk, place):
     return f' "{disk.entries[owner[0]].name}"'
 
 
-def missing_lines(image, errors):
-    """The lines of an image whose first 35 tracks are these, and which has these error bytes."""
+def whole_chain(tracks, link):
+    """The sectors of a chain over all tracks of an image, by how many come before each; none if it doesn't come to its end."""
+    numbers, chain = {place: number for number, place in enumerate(PLACES + PAST)}, []
+    while link[0]:
+        number = numbers.get(link, len(tracks))
+        if 256 * number >= len(tracks) or number in chain:
+            return []
+        chain.append(number)
+        link = tuple(tracks[256 * number:256 * number + 2])
+    return chain
+
+
+def past_lines(tracks, errors, disk):
+    """The lines of the sectors past track 35 that weren't read, and of those that several files have."""
+    slots = [disk.sector(place)[at:at + 32] for place in disk.directory for at in range(0, 256, 32)] if disk.has_directory else []
+    chains = [whole_chain(tracks, (slot[3], slot[4])) if slot[2] >= 128 else [] for slot in slots if slot[2]]
+    unread, shared = "", ""
+    for number, (track, sector) in enumerate(PAST, SIZE // 256):
+        names = [f' "{entry.name}"' for entry, chain in zip(disk.entries, chains) if number in chain] if chains else []
+        error = errors[number] if number < len(errors) else 1
+        if error != 1:
+            unread += f"ERROR {ERRORS.get(error, f'BYTE {error}')} {track}/{sector}{''.join(names[:1])}\n"
+        if len(names) > 1:
+            shared += f"OWNEDTWICE {track}/{sector}{''.join(names[:2])}\n"
+    return unread + shared
+
+
+def missing_lines(image, errors, tracks=None):
+    """The lines of an image whose first 35 tracks are these, and which has these error bytes; if all its tracks are given, with the lines
+    of sectors past track 35."""
     disk = Disk(image)
     lines = []
     for place, error in zip(PLACES, errors):
         if error != 1:
             lines.append(f"ERROR {ERRORS.get(error, f'BYTE {error}')} {place[0]}/{place[1]}{owner_name(disk, place)}\n")
+    if tracks:
+        lines.append(past_lines(tracks, errors, disk))
     if not disk.has_directory:
         return "".join(lines)
     slots = [(place, disk.sector(place)[at:at + 32]) for place in disk.directory for at in range(0, 256, 32)]

@@ -10,7 +10,7 @@ changed link, also one that leads on or back past track 35, or it is cut. Of eac
 - `list --as-is` has the names, types and block counts that c1541 (of VICE) has in its directory;
 - `check --as-is`, with --all and among several images, prints what `check` prints of the first 35 tracks alone, and then the lines that a
   reader of images in Python finds (tests/lib/missing.py), and which systems have a map of tracks 36 to 40 in 18/0; so do `map` and,
-  without the last, `picture`;
+  without the last, `picture` and `picture --sheet`, and `picture --svg` says whether there are any;
 - `extract` makes the files and the index of the reader of tests/hostile/extract.py, with each file's blocks that weren't read. A file
   that goes on past track 35 is whole if the image has all of its chain. It ends with the first fault of a file, or as of the first 35
   tracks alone, with the lines of sectors that weren't read after what it prints;
@@ -194,8 +194,8 @@ def look_at(program, folder, draw, number):
         return
     front = whole[:SIZE]
     alone.write_bytes(front)
-    lines, maps = "" if len(whole) == SIZE else missing_lines(front, errors), maps_of(whole)
     tracks = whole[:max(it for it in BYTES.values() if it <= len(whole))]
+    lines, maps = "" if len(whole) == SIZE else missing_lines(front, errors, tracks), maps_of(whole)
     if len(whole) != SIZE:
         for word in ("check", "list", "show"):
             check(run(program, word, path, folder=folder) == (1, "", "IMAGE SIZE\n"), f"{what}: {word}")
@@ -216,9 +216,14 @@ def look_at(program, folder, draw, number):
         status, out, _ = run(program, "picture", path, folder=folder)
         block = re.search(r"<pre>(.*)</pre>\n\Z", out, re.DOTALL)
         check((unescape(block[1]) if block else "") == lines, f"{what}: picture")
+        done, out, _ = run(program, "picture", "--sheet", path, folder=folder)
+        block = re.search(r"<pre>(.*)</pre>", out, re.DOTALL)
+        check(done == status and (unescape(block[1]) if block else "") == lines, f"{what}: a sheet")
+        done, out, _ = run(program, "picture", "--svg", path, folder=folder)
+        check(done == status and (">Not on the disk of 35 tracks" in out) == bool(lines), f"{what}: a poster")
     else:
         check(run(program, "map", path, folder=folder) == (status, out, err), f"{what}: map")
-    misread = "".join(line for line in lines.splitlines(True) if line.startswith("ERROR "))
+    misread = "".join(line for line in lines.splitlines(True) if not line.startswith("BEYOND "))
     take_out(program, folder, path, alone, tracks, errors if len(whole) != SIZE else b"", misread, what)
     read_each(program, folder, path, tracks, what)
     read_by_c1541(folder, read_each(program, folder, folder / "made.d64", image, f"{what}, as it was made"), what)

@@ -8,7 +8,8 @@ and the same with faults. More images are made of them by random bytes in the ma
 some are cut, or get more tracks. Of each image:
 
 - a line is one object with just its keys, and reads as the same text as the command prints without --json: each byte of it can be
-  made of the object; of a map all but the numbers of records, and the names of systems that keep a map of tracks 36 to 40;
+  made of the object; of a map all but the numbers of records, the structures and types of GEOS, the lines of sectors past track 35, and
+  the names of systems that keep a map of tracks 36 to 40;
 - for a file of GEOS there are the structure and the type that a reader in Python finds in the entry (tests/lib/geos.py); other entries
   have none;
 - a refused image has its name and the word, and the exit statuses are the same;
@@ -132,6 +133,8 @@ def map_text(told, is_longer):
 def bare_map(text):
     """The text of a map without what its object doesn't tell."""
     text = re.sub(r" LENGTH \d+ RECORDS \d+$", "", text, flags=re.M)
+    text = re.sub(r" GEOS (VLIR|sequential) [A-Z][A-Za-z ]+\w$", "", text, flags=re.M)
+    text = re.sub(r"^(ERROR (BYTE )?\d+|OWNEDTWICE) (3[6-9]|4[0-2])/.*\n", "", text, flags=re.M)
     return re.sub(r"^(SPEEDDOS|DOLPHINDOS|PROLOGICDOS) 36-40\n", "", text, flags=re.M)
 
 

@@ -80,6 +80,7 @@ checks its first 35 tracks. After that it prints a line for each sector that the
 drive couldn't read, ERROR 23 17/4 \"MENU\", and for each file that goes on beyond
 track 35, BEYOND 17/4 \"MENU\". With --json they stand in `errors` and `beyond`,
 and with --csv two columns more of these names say how many there are.
+If two files have a sector beyond track 35, OWNEDTWICE 36/4 \"A\" \"B\" says so.
 Then the status isn't 0. SPEEDDOS 36-40 says that SpeedDOS keeps a map of these
 tracks in 18/0; DOLPHINDOS and PROLOGICDOS, too. An object doesn't say so.
 
@@ -128,7 +129,8 @@ It draws a damaged disk too, as far as its links can be followed:
   a  a block of the file with letter a  !  the sector of the fault
   A  a side sector of that file
 If the image has 40 or 42 tracks, or error bytes, it draws the first 35 tracks,
-and prints ERROR, BEYOND and SPEEDDOS at the end, as check --as-is does.
+and prints ERROR, OWNEDTWICE, BEYOND and SPEEDDOS at the end, as check --as-is
+does. The line of a file of GEOS has its structure and its type.
 With several images each line begins with the image's name, also for an image
 that is refused. The exit status is then the highest of all.
 With --json each image has a line, an object of JSON. Its `sectors` are those of
@@ -181,12 +183,12 @@ marks the sectors that differ from the first, and lists the files and records
 that changed. The exit status is that of the second image.
 If the image has 40 or 42 tracks, or error bytes, it draws the first 35 tracks.
 The page of one image, or of two with --compare, has the lines ERROR and BEYOND
-of map below the drawing.
+of map below the drawing, and so has each tile of a sheet. A poster has a
+sentence that says whether there are any.
 
 Exit status:
   0  the disk is clean
-  1  a fault, ERROR or BEYOND on the page; or the image is refused (IMAGE SIZE,
-     LAYOUT, LOG)
+  1  a fault, ERROR or BEYOND; or the image is refused (IMAGE SIZE, LAYOUT, LOG)
   2  IMAGES: several without --sheet, more than 400, not two with --compare, or
      two of --svg, --sheet and --compare
   3  FILE, NOT READY, NO MEMORY, IN USE

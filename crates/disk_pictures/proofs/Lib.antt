@@ -14,10 +14,12 @@ pub mod Named
 pub mod Opening
 pub mod Owned
 pub mod Owning
+pub mod Past
 pub mod PlainBytes
 pub mod Printing
 pub mod Shared
 pub mod Sides
 pub mod Sound
 pub mod SoundPrinted
+pub mod Tiled
 pub mod Walked

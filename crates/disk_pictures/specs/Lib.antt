@@ -11,6 +11,7 @@ pub mod Markup
 pub mod Missing
 pub mod Outcomes
 pub mod Owners
+pub mod PastErrors
 pub mod Petscii
 pub mod Pictures
 pub mod Posters

@@ -1,12 +1,16 @@
 -- The map of a disk as it is printed for a terminal. Our own.
 use Rattle.std.specs.Prelude.{ℕ, ◌+◌, ◌%◌, ◌/◌, Bool, List, [], ◌∷◌, ◌++◌, Option, if◌then◌else◌, codes, decimal, length}
-use Rattle.std.specs.Prelude.{nat_lt}
+use Rattle.std.specs.Prelude.{None, Some, nat_lt, slice_index}
 use Rattle.d64_image.specs.Images.{Sector}
 use Rattle.d64_image.specs.Places.{place_at}
 use Rattle.d64_image.specs.declared.place.Place.{Place}
 use Rattle.disk_layout.specs.Directory.{type_byte}
 use Rattle.disk_layout.specs.Layout.{File, Layout, count_field, record_length}
 use Rattle.disk_layout.specs.declared.faults.Fault.{Fault}
+use Rattle.disk_layout.specs.declared.slot.Slot.{Slot}
+use Rattle.geos_files.specs.Entries.{geos_entry}
+use Rattle.geos_files.specs.Types.{geos_type_name, structure_name}
+use Rattle.geos_files.specs.declared.entries.GeosEntry.{GeosEntry}
 use Rattle.line_text.specs.bytes.Texts.{text_of}
 use Rattle.disk_pictures.specs.Drawings.{owner_of}
 use Rattle.damaged_files.specs.reached.Names.{name_of}
@@ -95,11 +99,20 @@ wide_line v map l t =
 abbrev pub entry_mark : Bool → ℕ → List ℕ
 entry_mark wide k = letter 97 k ∷ (if wide then digit k ∷ [] else [])
 
--- the line of entry k: its mark, its block count as stored, its name, its type
+-- what GEOS calls the structure and the type of its file, such as GEOS VLIR Application; nothing of an entry that isn't of GEOS
+abbrev pub geos_named : Slot → Option GeosEntry → List ℕ
+geos_named s None = []
+geos_named s (Some entry) =
+    codes " GEOS " ++ (structure_name entry.has_records ++ (codes " " ++ geos_type_name (slice_index s.bytes 24)))
+
+abbrev pub geos_text : Slot → List ℕ
+geos_text s = geos_named s (geos_entry s)
+
+-- the line of entry k: its mark, its block count as stored, its name, its type, its records, and what it is to GEOS
 unfoldable pub entry_line : Bool → ℕ → File → List ℕ
 entry_line wide k f =
     entry_mark wide k ++ (codes " " ++ (decimal (count_field f.slot) ++ (codes " \"" ++ (text_of (name_of f.slot)
-    ++ (codes "\" " ++ (type_text (codes "<") (type_byte f.slot) ++ (records_text f ++ codes "\n")))))))
+    ++ (codes "\" " ++ (type_text (codes "<") (type_byte f.slot) ++ (records_text f ++ (geos_text f.slot ++ codes "\n"))))))))
 
 -- the numbers of the sectors above the tracks
 abbrev pub map_head : List ℕ

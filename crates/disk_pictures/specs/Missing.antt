@@ -7,7 +7,8 @@ use Rattle.disk_layout.specs.declared.faults.Fault.{Fault}
 use Rattle.damaged_files.specs.reached.Sizes.{IsImageSize}
 use Rattle.disk_pictures.specs.Drawings.{IsDrawn}
 use Rattle.disk_pictures.specs.Html.{escaped}
-use Rattle.disk_pictures.specs.Trims.{errors_text, file_text}
+use Rattle.disk_pictures.specs.PastErrors.{misread_text}
+use Rattle.disk_pictures.specs.Trims.{file_text}
 use Rattle.command_faults.specs.declared.faults.CommandFault.{CommandFault}
 use Rattle.command_faults.specs.declared.faults.CommandFault.TheVariants as faults
 
@@ -16,9 +17,9 @@ abbrev pub past_text : List ℕ → Option Layout → List ℕ
 past_text image None = []
 past_text image (Some l) = flat_map (file_text image) l.files
 
--- a line for each sector that wasn't read, and then these
+-- a line for each sector that wasn't read, and for each past track 35 that several files have, and then these
 abbrev pub missing_text : List ℕ → Option Layout → List ℕ
-missing_text image drawn = errors_text image drawn ++ past_text image drawn
+missing_text image drawn = misread_text image drawn ++ past_text image drawn
 
 -- this is drawn of the image's first 35 tracks; nothing, if a fault holds of their directory
 abbrev pub IsDrawnOf : List ℕ → Option Layout → Type 0
@@ -37,12 +38,12 @@ abbrev pub IsMissing : (image lines : List ℕ) → Type 0
 IsMissing image lines = ((length image ≡ 174848) × (lines ≡ []))
     ⊎ ((length image ≢ 174848) × IsMissingBeside image lines)
 
--- these lines say which of its sectors weren't read
+-- these lines say which of its sectors weren't read, and which past track 35 several files have
 pub record IsMisreadBeside (image lines : List ℕ) : Type 0 where
   pub size : IsImageSize (length image)
   pub drawn : Option Layout
   pub is_drawn : IsDrawnOf image drawn
-  pub is : lines ≡ errors_text image drawn
+  pub is : lines ≡ misread_text image drawn
 
 abbrev pub IsMisread : (image lines : List ℕ) → Type 0
 IsMisread image lines = ((length image ≡ 174848) × (lines ≡ []))

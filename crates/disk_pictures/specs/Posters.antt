@@ -1,7 +1,7 @@
 -- The poster of a disk: an SVG file of its own, 297 by 420 units. All of it is our own. Bytes of the disk stand in it as `show`
 -- shows them, and names also as `signs` does, and in no other way. The poster that is printed shows them by `html_of` and
 -- `petscii_of`.
-use Rattle.std.specs.Prelude.{ℕ, ◌+◌, ◌*◌, ◌/◌, ◌%◌, List, ◌++◌, codes, decimal, if◌then◌else◌, length, nat_le, slice_range}
+use Rattle.std.specs.Prelude.{ℕ, ◌+◌, ◌*◌, ◌/◌, ◌%◌, List, [], ◌∷◌, ◌++◌, codes, decimal, if◌then◌else◌, length, nat_le, slice_range}
 use Rattle.d64_image.specs.Images.{Sector}
 use Rattle.disk_layout.specs.Directory.{type_byte}
 use Rattle.disk_layout.specs.Layout.{File, Layout, count_field}
@@ -83,13 +83,18 @@ poster_line show signs n k f =
     ++ (codes "</text><g transform=\"translate(19)\" clip-path=\"url(#n)\"><text y=\"2.3\">" ++ (show (name_of f.slot)
     ++ (codes "</text></g><text x=\"41.5\" y=\"2.3\">" ++ (signs (name_of f.slot) ++ codes "</text></svg>\n"))))))))
 
--- the poster, by how bytes of the disk are shown
+-- the poster up to its end, by how bytes of the disk are shown
 unfoldable pub poster_text : Show → Show → Verdict → Sector → Layout → List ℕ
 poster_text show signs v map l =
     poster_head show signs map ++ (poster_told show v map l ++ (drawing_text show v.found map l
-    ++ (poster_legend (legend_of v.found map l)
-    ++ (numbered (poster_line show signs (length l.files)) 0 l.files ++ codes "</svg>\n"))))
+    ++ (poster_legend (legend_of v.found map l) ++ numbered (poster_line show signs (length l.files)) 0 l.files)))
 
--- the poster of a disk
+-- its end, if these lines say what isn't on the disk: with a sentence between the drawing and the directory, if there are any
+abbrev pub poster_end : (lines : List ℕ) → List ℕ
+poster_end [] = codes "</svg>\n"
+poster_end (_ ∷ _) = codes
+    "<text class=\"told\" x=\"148.5\" y=\"300\">Not on the disk of 35 tracks: what `ledger check --as-is` lists</text>\n</svg>\n"
+
+-- the poster of a disk, up to its end
 abbrev pub poster_of : Verdict → Sector → Layout → List ℕ
 poster_of v map l = poster_text html_of petscii_of v map l

@@ -1,13 +1,13 @@
 -- A contact sheet: an HTML page with a small drawing of each disk. All of it is our own. Bytes of a disk and of a path
 -- stand in it as `show` shows them, and names also as `signs` does, and in no other way.
-use Rattle.std.specs.Prelude.{ℕ, ◌+◌, ◌%◌, List, [], ◌++◌, Option, if◌then◌else◌, codes, decimal, nat_eq}
+use Rattle.std.specs.Prelude.{ℕ, ◌+◌, ◌%◌, List, [], ◌++◌, Option, if◌then◌else◌, codes, decimal, flat_map, nat_eq}
 use Rattle.d64_image.specs.Images.{Sector}
 use Rattle.d64_image.specs.declared.place.Place.{Place}
 use Rattle.disk_layout.specs.Layout.{Layout}
 use Rattle.disk_layout.specs.View.{blocks_free}
 use Rattle.disk_layout.specs.declared.faults.Fault.{Fault}
 use Rattle.disk_pictures.specs.Drawings.{owner_of}
-use Rattle.disk_pictures.specs.Html.{Show}
+use Rattle.disk_pictures.specs.Html.{Show, escaped}
 use Rattle.damaged_files.specs.reached.Names.{disk_name}
 use Rattle.disk_pictures.specs.Pictures.{each_place, page_head, verdict_class}
 use Rattle.disk_pictures.specs.Texts.{each_below, is_fault_at, is_free, verdict_text}
@@ -59,9 +59,16 @@ unfoldable pub caption : Show → Show → List ℕ → Verdict → Sector → L
 caption show signs path v map =
     codes "</svg><figcaption><code>" ++ (show path ++ (codes "</code> <span>" ++ (show (disk_name map)
     ++ (codes "<bdi>" ++ (signs (disk_name map) ++ (codes "</bdi></span> <b>" ++ (verdict_text v
-    ++ (codes "</b> <span>" ++ (decimal (blocks_free map) ++ codes " blocks free</span></figcaption></figure>\n")))))))))
+    ++ (codes "</b> <span>" ++ (decimal (blocks_free map) ++ codes " blocks free</span></figcaption>")))))))))
 
--- the tile of a disk that is drawn
+-- the end of a tile, where these lines say what isn't on the disk: below a heading to click, if there are any
+abbrev pub tile_end : (lines : List ℕ) → List ℕ
+tile_end [] = codes "</figure>\n"
+tile_end lines =
+    codes "<details><summary>Not on the disk of 35 tracks</summary><pre>"
+    ++ (flat_map escaped lines ++ codes "</pre></details></figure>\n")
+
+-- the tile of a disk that is drawn, up to its end
 unfoldable pub tile_text : Show → Show → List ℕ → Verdict → Sector → Layout → List ℕ
 tile_text show signs path v map l = tile_head v ++ (small_drawing v.found map l ++ caption show signs path v map)
 

@@ -31,13 +31,14 @@ pub use map_printing::map_image;
 pub use owners::Owner;
 pub use pages::missing_block::print_missing_block;
 pub use pages::picture_printing::picture_image;
-pub use pages::poster_printing::poster_image;
+pub use pages::poster_printing::{poster_image, print_poster_end};
 pub use sheets::sheet_printing::{
     MOST_TILES, sheet_begin, sheet_finish, sheet_refusal, sheet_tile,
 };
 pub use verdicts::{Verdict, judged};
 pub use views::free_printing::free_image;
 pub use views::missing::{error_lines, missing_lines};
+pub use views::past_errors::entry_past;
 pub use views::past_tracks::{blocks_past, sides_past};
 pub use views::reading_errors::{ErrorNumber, entry_with};
 pub use views::sector_printing::sector_image;

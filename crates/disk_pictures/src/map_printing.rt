@@ -5,7 +5,7 @@ ghost use Rattle.d64_image.specs.Memory.{sectors_in};
 ghost use Rattle.disk_layout.specs.Layout.{IsLayout, Layout};
 ghost use Rattle.disk_pictures.specs.Drawings.{file_in};
 ghost use Rattle.disk_pictures.specs.Held.{drawn_in};
-ghost use Rattle.disk_pictures.specs.Maps.{entry_line, is_wide as wide_of, map_text, records_text};
+ghost use Rattle.disk_pictures.specs.Maps.{entry_line, geos_text, is_wide as wide_of, map_text, records_text};
 ghost use Rattle.disk_pictures.specs.Outcomes.{IsDrawnAs, IsMapPrinted, IsPictureFault};
 ghost use Rattle.disk_pictures.specs.Texts.{numbered};
 ghost use Rattle.command_faults.specs.declared.faults.CommandFault.TheVariants as faults;
@@ -17,7 +17,8 @@ use crate::signs::EntryMark;
 use crate::verdicts::{Verdict, judged};
 use command_faults::{CommandFault, flush, print_text};
 use damaged_files::{TypeText, entry_name};
-use disk_layout::{EntryView, Fault};
+use disk_layout::{EntryView, Fault, Slot};
+use geos_files::{geos_entry, geos_type_name, structure_name};
 use line_text::Text;
 use std::alloc::Global;
 use std::fmt::{self, Display, Formatter};
@@ -48,6 +49,22 @@ impl Display for RecordsText<'_> {
     }
 }
 
+/// What GEOS calls the structure and the type of its file, if the entry is one of GEOS.
+#[derive(Clone, Copy)]
+struct GeosText<'a>(&'a Slot);
+
+impl Display for GeosText<'_> {
+    ghost output = { λ text. Some (geos_text text.0.now) };
+
+    fn fmt<W: fmt::Write>(&self, f: &mut Formatter<W>) -> fmt::Result {
+        let Some(entry) = geos_entry(self.0) else {
+            return Ok(());
+        };
+        let structure = structure_name(entry.has_records);
+        write!(f, " GEOS {structure} {}", geos_type_name(self.0.bytes[24]))
+    }
+}
+
 /// The line of an entry.
 #[derive(Clone, Copy)]
 pub(crate) struct EntryLine<'a> {
@@ -70,14 +87,15 @@ impl Display for EntryLine<'_> {
         };
         writeln!(
             f,
-            "{} {} \"{}\" {kind}{}",
+            "{} {} \"{}\" {kind}{}{}",
             EntryMark {
                 wide: self.wide,
                 number: self.number
             },
             entry.block_count(),
             Text(entry_name(&self.file.slot)),
-            RecordsText(self.file)
+            RecordsText(self.file),
+            GeosText(&self.file.slot)
         )
     }
 }

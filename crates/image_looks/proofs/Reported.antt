@@ -30,11 +30,13 @@ missing-why reports.Among image faults.ImageSize why = other-size image _ refl w
 missing-why reports.Faults image faults.ImageSize why = other-size image _ refl why
 missing-why reports.Map image faults.ImageSize why = other-size image _ refl why
 missing-why reports.Picture image faults.ImageSize why = other-size image _ refl why
+missing-why reports.Poster image faults.ImageSize why = other-size image _ refl why
 missing-why reports.Verdict image faults.NoMemory why = disk-size image why
 missing-why reports.Among image faults.NoMemory why = disk-size image why
 missing-why reports.Faults image faults.NoMemory why = disk-size image why
 missing-why reports.Map image faults.NoMemory why = disk-size image why
 missing-why reports.Picture image faults.NoMemory why = disk-size image why
+missing-why reports.Poster image faults.NoMemory why = disk-size image why
 missing-why report image _ why = absurd why
 
 -- nor is it printed if there is no memory for the lines
@@ -45,6 +47,7 @@ memory-why reports.Among image size = disk-size image size
 memory-why reports.Faults image size = disk-size image size
 memory-why reports.Map image size = disk-size image size
 memory-why reports.Picture image size = disk-size image size
+memory-why reports.Poster image size = disk-size image size
 
 -- an image of which that is known has one of the six sizes
 pub missing-size : (image lines : List ℕ) → IsMissing image lines → IsImageSize (length image)
@@ -66,3 +69,4 @@ output-why contents reports.Among disk old new found is = is.size
 output-why contents reports.Faults disk old new found is = is.size
 output-why contents reports.Map disk old new found (l, is) = (l, is.verdict, is.judged)
 output-why contents reports.Picture disk old new found (l, is) = (l, is.verdict, is.judged)
+output-why contents reports.Poster disk old new found (l, is) = (l, is.verdict, is.judged)

@@ -54,7 +54,7 @@ abbrev pub IsUnseen : (image : List ℕ) → CommandFault → Type 0
 IsUnseen image fault = (fault ≡ faults.NoMemory) ⊎ ((fault ≡ faults.ImageSize) × ¬ (IsImageSize (length image)))
 
 -- The chosen files of the disk in the image were gathered, or not all for a fault. If they were, the folder was made with them
--- (`Made`), whatever is reported of them: what is seen of files that lack something, and which sectors of that disk weren't read. Or it couldn't be
+-- (`Made`), whatever is reported of them: what is seen of files that lack something, and which sectors of the image weren't read. Or it couldn't be
 -- made, and nothing was printed. Or that couldn't be seen, and nothing was done.
 abbrev pub IsExtractRun : {W : Type 0} → (Made : List MemFile → Type 0) → (Failed : Type 0) → (W → Option (List ℕ)) → Choice
     → (image : List ℕ) → W → W → JobEnd → Type 0

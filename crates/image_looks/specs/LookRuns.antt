@@ -15,7 +15,7 @@ use Rattle.image_looks.specs.Extents.{extent_of, form_extent}
 use Rattle.image_looks.specs.Extracts.{IsExtractedTo}
 use Rattle.opened_files.specs.Extents.{taken_as}
 use Rattle.opened_files.specs.HostFiles.{OfImage, RunEnds}
-use Rattle.opened_files.specs.declared.extents.Extent.TheVariants.{FirstTracks, Whole}
+use Rattle.opened_files.specs.declared.extents.Extent.TheVariants.{Whole}
 use Rattle.image_looks.specs.Looks.{IsLook}
 use Rattle.image_looks.specs.Overviews.{IsOverviewOf}
 use Rattle.image_looks.specs.SheetPages.{IsSheetPrinted}
@@ -36,7 +36,7 @@ module _ {H W : Type 0} (rights : Rights H) (stands : H → List ℕ → Stands)
   -- the images at these paths were drawn on a sheet
   abbrev pub AreDrawnOnSheet : List (List ℕ) → W → W → JobEnd → Type 0
   AreDrawnOnSheet paths old new end =
-      IsSeveralEnd (IsSheetPrinted (IsReadAt rights stands host FirstTracks) contents paths old new) end
+      IsSeveralEnd (IsSheetPrinted (IsReadAt rights stands host Whole) contents paths old new) end
 
   -- each of them was described in this form, after its heading
   abbrev pub AreDescribed : ImageForm → List (List ℕ) → W → W → JobEnd → Type 0

@@ -2,7 +2,6 @@
 use Rattle.std.specs.Prelude.{◌⊎◌, ◌≡◌, ℕ, List, None, Option, Some, Result, Ok, Err}
 use Rattle.d64_image.specs.declared.place.Place.{Place}
 use Rattle.disk_layout.specs.declared.faults.Fault.{Fault}
-use Rattle.disk_pictures.specs.Outcomes.{IsPictureFault, IsPosterPrinted}
 use Rattle.disk_pictures.specs.Views.{AreFreePrinted, IsSectorPrinted, IsViewFault}
 use Rattle.disk_reports.specs.AllFaults.{AreListed}
 use Rattle.disk_reports.specs.Listings.{IsCheckFault, IsListFault, IsListed}
@@ -83,7 +82,7 @@ module _ {W : Type 0} (contents : W → Option (List ℕ)) where
   IsLook (looks.AsIs what) image old new end = IsAsIs what image old new end
   IsLook looks.Map image old new end = IsReportEnd contents reports.Map image old new end
   IsLook looks.Picture image old new end = IsReportEnd contents reports.Picture image old new end
-  IsLook looks.Poster image old new end = IsPrintEnd (IsPosterPrinted contents image) (IsPictureFault image) old new end
+  IsLook looks.Poster image old new end = IsReportEnd contents reports.Poster image old new end
   IsLook looks.Free image old new end = IsQuietPrint (AreFreePrinted contents image) (IsViewFault image) old new end
   IsLook (looks.Sector p) image old new end =
       IsQuietPrint (IsSectorPrinted contents image p) (IsViewFault image) old new end

@@ -8,7 +8,8 @@ use Rattle.damaged_files.specs.reached.Sizes.{disk_of}
 use Rattle.disk_layout.specs.Clean.{IsVerdict}
 use Rattle.disk_layout.specs.declared.faults.Fault.{Fault}
 use Rattle.disk_pictures.specs.Missing.{IsMissing, missing_block}
-use Rattle.disk_pictures.specs.Outcomes.{IsMapPrinted, IsPictureFault, IsPicturePrinted}
+use Rattle.disk_pictures.specs.Outcomes.{IsMapPrinted, IsPictureFault, IsPicturePrinted, IsPosterPrinted}
+use Rattle.disk_pictures.specs.Posters.{poster_end}
 use Rattle.disk_reports.specs.AllFaults.{AreListed}
 use Rattle.disk_reports.specs.Outcomes.{IsCheckedAmong, IsDescribeFault}
 use Rattle.disk_reports.specs.Texts.{verdict_text}
@@ -28,14 +29,21 @@ abbrev pub on_page : Report → Bool
 on_page reports.Picture = true
 on_page _ = false
 
--- the lines as they are printed: on a page as HTML, and in text with these after them
+-- it is a poster
+abbrev pub on_poster : Report → Bool
+on_poster reports.Poster = true
+on_poster _ = false
+
+-- the lines as they are printed: on a page as HTML, on a poster as a sentence before its end, and in text with these after them
 abbrev pub told_as : Report → (lines maps : List ℕ) → List ℕ
-told_as report lines maps = if on_page report then missing_block lines else lines ++ maps
+told_as report lines maps =
+    if on_page report then missing_block lines else (if on_poster report then poster_end lines else lines ++ maps)
 
 -- why this isn't printed of a disk
 abbrev pub IsReportFault : Report → (disk : List ℕ) → CommandFault → Type 0
 IsReportFault reports.Map disk fault = IsPictureFault disk fault
 IsReportFault reports.Picture disk fault = IsPictureFault disk fault
+IsReportFault reports.Poster disk fault = IsPictureFault disk fault
 IsReportFault _ disk fault = IsDescribeFault disk fault
 
 module _ {W : Type 0} (contents : W → Option (List ℕ)) where
@@ -51,6 +59,7 @@ module _ {W : Type 0} (contents : W → Option (List ℕ)) where
   IsReported reports.Faults disk old new found = AreListed contents disk old new found
   IsReported reports.Map disk old new found = IsMapPrinted contents disk old new found
   IsReported reports.Picture disk old new found = IsPicturePrinted contents disk old new found
+  IsReported reports.Poster disk old new found = IsPosterPrinted contents disk old new found
 
   -- This was printed of the disk in an image, and after it the lines of what isn't on that disk, and of maps of more tracks.
   pub record IsReportedWith (report : Report) (image : List ℕ) (old new : W) (end : JobEnd) : Type 0 where

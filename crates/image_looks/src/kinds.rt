@@ -41,7 +41,8 @@ pub enum Look {
     Map,
     /// The same as an HTML page with a drawing of the disk.
     Picture,
-    /// The same as a poster: an SVG file of its own with the same drawing, title, legend and directory.
+    /// The same as a poster: an SVG file of its own with the same drawing, title, legend and directory. A sentence says whether anything
+    /// isn't on the disk.
     Poster,
     /// How many sectors of each track its map calls free. Nothing is checked.
     Free,
@@ -75,7 +76,8 @@ impl Look {
     {
         match self {
             Look::List(_) | Look::Check | Look::Faults | Look::Show(_) => Extent::Disk,
-            Look::AsIs(_) | Look::Map | Look::Picture | Look::Bytes { .. } => Extent::Whole,
+            Look::AsIs(_) | Look::Map | Look::Picture | Look::Poster => Extent::Whole,
+            Look::Bytes { .. } => Extent::Whole,
             _ => Extent::FirstTracks,
         }
     }

@@ -10,7 +10,7 @@ use command_faults::CommandFault;
 use d64_image::Place;
 use damaged_files::disk_in;
 use disk_layout::Fault;
-use disk_pictures::{free_image, poster_image, sector_image};
+use disk_pictures::{free_image, sector_image};
 use disk_reports::{check_image, list_image};
 use file_rescues::{Candidates, RecordForm, bytes_image, records_image, unclosed_records_image};
 use image_file::{HostFiles, Locks};
@@ -103,7 +103,7 @@ pub fn look<W: Write>(
         Look::AsIs(disk) => look_as_is(alloc, disk, image, out),
         Look::Map => report_image(alloc, Report::Map, image, out),
         Look::Picture => report_image(alloc, Report::Picture, image, out),
-        Look::Poster => poster_image(alloc, image, out),
+        Look::Poster => report_image(alloc, Report::Poster, image, out),
         Look::Free => run_end(free_image(alloc, image, out)),
         Look::Sector(place) => run_end(sector_image(alloc, image, place, out)),
         Look::Records {

@@ -1,18 +1,20 @@
 //! What is printed of the disk in an image, and then what isn't on that disk.
-ghost use Rattle.std.specs.Prelude.{◌≡◌, ◌≢◌, IfErr, IfOk, OnOk};
+ghost use Rattle.std.specs.Prelude.{◌≡◌, ◌≢◌, ◌++◌, IfErr, IfOk, OnOk};
 ghost use Rattle.std.specs.Io.KnownBytes.{Appends};
 ghost use Rattle.command_faults.specs.declared.faults.CommandFault.TheVariants as faults;
 ghost use Rattle.disk_pictures.specs.Missing.{IsMissing};
 ghost use Rattle.disk_reports.specs.AllFaults.{AreListed};
 ghost use Rattle.disk_reports.specs.Outcomes.{IsDescribeFault};
 ghost use Rattle.image_looks.specs.WiderMaps.{maps_text};
-ghost use Rattle.image_looks.specs.Reports.{IsReportEnd, IsReportFault, IsReported, on_page, reported_end as end_of, told_as};
+ghost use Rattle.image_looks.specs.Reports.{IsReportEnd, IsReportFault, IsReported, on_page, on_poster, reported_end as end_of, told_as};
 
 use crate::wider_maps::wider_maps;
 use command_faults::{CommandFault, flush};
 use damaged_files::disk_in;
 use disk_layout::Fault;
-use disk_pictures::{map_image, missing_lines, picture_image, print_missing_block};
+use disk_pictures::{
+    map_image, missing_lines, picture_image, poster_image, print_missing_block, print_poster_end,
+};
 use disk_reports::{check_among, check_image, list_faults};
 use std::alloc::Global;
 use std::io::Write;
@@ -30,6 +32,8 @@ pub(crate) enum Report {
     Map,
     /// Its picture as a page.
     Picture,
+    /// Its picture as a poster.
+    Poster,
 }
 
 /// Prints all faults of an image that hold, and hands on what the output held back.
@@ -64,6 +68,7 @@ fn report_disk<W: Write>(
         Report::Faults => faults_image(alloc, disk, out),
         Report::Map => map_image(alloc, disk, out),
         Report::Picture => picture_image(alloc, disk, out),
+        Report::Poster => poster_image(alloc, disk, out),
     }
 }
 
@@ -72,6 +77,13 @@ fn is_page(report: Report) -> bool
     ensures { result ≡ on_page report }
 {
     matches!(report, Report::Picture)
+}
+
+/// Whether it is a poster.
+fn is_poster(report: Report) -> bool
+    ensures { result ≡ on_poster report }
+{
+    matches!(report, Report::Poster)
 }
 
 /// Prints lines as they are.
@@ -85,7 +97,16 @@ fn print_plain<W: Write>(lines: &[u8], out: &mut W) -> Result<(), CommandFault>
     }
 }
 
-/// Prints lines for a page, or as text, in which these others follow.
+/// Prints lines as text, and then these others.
+fn print_both<W: Write>(lines: &[u8], maps: &[u8], out: &mut W) -> Result<(), CommandFault>
+    ensures ok { OnOk result (Appends (W.contents out.old) (W.contents out.new) (lines.now ++ maps.now)) }
+    ensures err { IfErr result (λ fault. fault ≡ faults.File) }
+{
+    print_plain(lines, out)?;
+    print_plain(maps, out)
+}
+
+/// Prints lines for a page or a poster, or as text, in which these others follow.
 fn print_either<W: Write>(
     report: Report,
     lines: &[u8],
@@ -98,8 +119,10 @@ fn print_either<W: Write>(
     if is_page(report) {
         return print_missing_block(lines, out);
     }
-    print_plain(lines, out)?;
-    print_plain(maps, out)
+    if is_poster(report) {
+        return print_poster_end(lines, out);
+    }
+    print_both(lines, maps, out)
 }
 
 /// The same, and hands on what the output held back.

@@ -78,12 +78,12 @@ where
     R: HostFiles<File = F> + Input + AllocGlobal,
     W: Write,
     requires { All (λ path. MayReadImage R.rights rt.now path.now) paths.now }
-    ensures ok { IfOk result (IsSheetPrinted (IsReadAt R.rights R.stands rt.now extents.FirstTracks) W.contents
+    ensures ok { IfOk result (IsSheetPrinted (IsReadAt R.rights R.stands rt.now extents.Whole) W.contents
         (map (λ path. path.now) paths.now) out.old out.new) }
     ensures err { IfErr result IsCutOff }
 {
     sheet_begin(out, paths.len())?;
-    let greatest = print_each(rt, &Tiled, Extent::FirstTracks, paths, out)?;
+    let greatest = print_each(rt, &Tiled, Extent::Whole, paths, out)?;
     sheet_finish(out)?;
     Ok(greatest)
 }

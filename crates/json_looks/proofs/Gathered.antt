@@ -1,8 +1,8 @@
 -- Objects that are gathered one by one.
-use Rattle.std.proofs.Common.{◌≡◌, ◌<◌, ◌≤◌, ◌+◌, ◌++◌, ◌∷◌, [], ℕ, suc, List, arith, get_or, length, map, refl, take, ap, ap₂, subst, sym, ◌∙◌}
+use Rattle.std.proofs.Common.{◌≡◌, ◌<◌, ◌≤◌, ◌+◌, ◌++◌, ◌∷◌, [], ℕ, suc, List, arith, get_or, length, map, refl, take, ap, ap₂, append_assoc, subst, sym, ◌∙◌}
 use Rattle.std.specs.Prelude.{flat_map}
 use Rattle.std.proofs.lemmas.Grind.{flat_map-append}
-use Rattle.std.proofs.lemmas.List.{append-nil, map-append, map_more}
+use Rattle.std.proofs.lemmas.List.{append-nil, map-append, map_more, take_more}
 use Rattle.d64_image.proofs.Order.{all-taken, place-taken, text-more}
 use Rattle.d64_image.specs.Places.{index_of, places}
 use Rattle.d64_image.specs.declared.place.Place.{Place}
@@ -88,3 +88,11 @@ next-part part form xs i d old new inside more before =
 pub map-twice : {A B C : Type 0} (f : B → C) (g : A → B) (xs : List A) → map f (map g xs) ≡ map (λ x. f (g x)) xs
 map-twice f g [] = refl
 map-twice f g (x ∷ xs) = ap (λ rest. f (g x) ∷ rest) (map-twice f g xs)
+
+-- the objects of one number more, after others
+pub numbers-next : (item : ℕ → List Data) (ns : List ℕ) (i : ℕ) (first old new : List Data) → i < length ns
+    → new ≡ old ++ item (get_or ns i 0) → old ≡ first ++ flat_map item (take i ns) → new ≡ first ++ flat_map item (take (i + 1) ns)
+numbers-next item ns i first old new inside more before =
+    more ∙ ap (λ t. t ++ item (get_or ns i 0)) before ∙ append_assoc first (flat_map item (take i ns)) (item (get_or ns i 0))
+    ∙ ap (λ t. first ++ t) (sym (ap (flat_map item) (take_more ns i 0 inside)
+    ∙ flat_map-append item (take i ns) (get_or ns i 0 ∷ []) ∙ ap (λ t. flat_map item (take i ns) ++ t) (append-nil (item (get_or ns i 0)))))

@@ -17,7 +17,6 @@ use Rattle.disk_layout.specs.declared.slot.Slot.{Slot}
 use Rattle.disk_pictures.specs.Held.{drawn_in}
 use Rattle.disk_pictures.specs.Missing.{IsDrawnOf}
 use Rattle.disk_pictures.specs.Outcomes.{map_in}
-use Rattle.disk_pictures.specs.Trims.{IsAllThere}
 use Rattle.disk_pictures.specs.declared.drawing.Drawing.{Drawing}
 use Rattle.disk_reports.specs.Outcomes.{AreFound}
 use Rattle.disk_reports.specs.Rows.{row_as_is}
@@ -26,9 +25,9 @@ use Rattle.command_faults.specs.declared.faults.CommandFault.{CommandFault}
 use Rattle.command_faults.specs.declared.faults.CommandFault.TheVariants as faults
 use Rattle.hex.specs.Hex.{encode_lower}
 use Rattle.json_looks.specs.Entries.{count_if, typed}
-use Rattle.json_looks.specs.Missing.{beyond_items, error_items, string_if}
+use Rattle.json_looks.specs.Missing.{beyond_items, misread_items, string_if}
 use Rattle.json_looks.specs.Objects.{IsObjectPrinted, count}
-use Rattle.json_looks.specs.Verdicts.{found_place, found_text}
+use Rattle.json_looks.specs.Verdicts.{IsImageThere, found_place, found_text}
 use Rattle.line_text.specs.bytes.Texts.{text_of}
 use Rattle.serde_json.specs.Data.{Data, Members, array, member, no_members, null, object, string}
 use Rattle.serde_json.specs.View.{items_of}
@@ -73,7 +72,7 @@ early_with disk id free beyond errors names fewer late =
 abbrev pub check_data : (name image : List ℕ) → Option Fault → List Slot → Sector → Option Shortfall → Option Layout → Data
 check_data name image found files bytes lack drawn =
     early_with (text_of (disk_name bytes)) (text_of (slice_range bytes 162 164)) (blocks_free bytes) (beyond_items image drawn)
-    (error_items image drawn) (map (λ s. typed (name_of s)) files) (string_if (option_map place_text (fewer_end lack)))
+    (misread_items image drawn) (map (λ s. typed (name_of s)) files) (string_if (option_map place_text (fewer_end lack)))
     (late_with name (encode_lower (sha1 image)) (encode_lower (sha256 image)) (found_text found) (length image) (found_place found)
     (string_if (option_map place_text (short_end lack))))
 
@@ -104,7 +103,7 @@ drawn_if (Err fault) = None
 -- all is there that the image says of itself; which isn't known where nothing is drawn
 abbrev pub IsAllDrawn : (image : List ℕ) → Option Layout → Type 0
 IsAllDrawn image None = ⊥
-IsAllDrawn image (Some l) = IsAllThere image l
+IsAllDrawn image (Some l) = IsImageThere image l
 
 -- an image was checked and printed as such an object, and this says whether the check finds no fault, and all is there
 pub record IsCheckShown {W : Type 0} (contents : W → Option (List ℕ)) (name image : List ℕ) (old new : W) (whole : Bool) : Type 0 where

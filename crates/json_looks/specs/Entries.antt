@@ -8,7 +8,7 @@ use Rattle.damaged_files.specs.reached.Names.{name_of}
 use Rattle.damaged_files.specs.reached.Types.{type_name}
 use Rattle.geos_files.specs.Entries.{geos_entry}
 use Rattle.geos_files.specs.declared.entries.GeosEntry.{GeosEntry}
-use Rattle.json_looks.specs.GeosTypes.{geos_type_name, structure_name}
+use Rattle.geos_files.specs.Types.{geos_type_name, structure_name}
 use Rattle.json_looks.specs.Objects.{count}
 use Rattle.line_text.specs.bytes.Texts.{text_of}
 use Rattle.serde_json.specs.Data.{Data, boolean, member, no_members, null, object, string}

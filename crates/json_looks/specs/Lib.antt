@@ -1,7 +1,6 @@
 pub mod Checks
 pub mod Entries
 pub mod FreeCounts
-pub mod GeosTypes
 pub mod Listings
 pub mod Missing
 pub mod Objects

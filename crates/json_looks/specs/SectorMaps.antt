@@ -10,14 +10,14 @@ use Rattle.disk_layout.specs.declared.faults.Fault.{Fault}
 use Rattle.disk_pictures.specs.Drawings.{owner_of}
 use Rattle.disk_pictures.specs.Outcomes.{IsDrawnAndJudged, map_in}
 use Rattle.disk_pictures.specs.Texts.{is_free}
-use Rattle.disk_pictures.specs.Trims.{IsAllThere, error_number}
+use Rattle.disk_pictures.specs.Trims.{error_number}
 use Rattle.disk_pictures.specs.declared.owners.Owner.{Owner}
 use Rattle.disk_pictures.specs.declared.owners.Owner.TheVariants as owners
 use Rattle.disk_pictures.specs.declared.verdicts.Verdict.{Verdict}
 use Rattle.json_looks.specs.Entries.{count_if, entry_data}
 use Rattle.json_looks.specs.Missing.{past_items, string_if}
 use Rattle.json_looks.specs.Objects.{IsObjectPrinted, count}
-use Rattle.json_looks.specs.Verdicts.{found_place, found_text}
+use Rattle.json_looks.specs.Verdicts.{IsImageThere, found_place, found_text}
 use Rattle.serde_json.specs.Data.{Data, array, member, no_members, null, object, string}
 use Rattle.serde_json.specs.View.{items_of}
 
@@ -71,4 +71,4 @@ pub record IsMapShown {W : Type 0} (contents : W → Option (List ℕ)) (name im
   pub drawn : Layout
   pub judged : IsDrawnAndJudged (disk_of image) drawn verdict
   pub printed : IsObjectPrinted contents (map_data name image verdict (map_in (disk_of image)) drawn) old new
-  pub told : IsTrue whole ↔ (verdict.found ≡ None) × IsAllThere image drawn
+  pub told : IsTrue whole ↔ (verdict.found ≡ None) × IsImageThere image drawn

@@ -16,7 +16,7 @@ ghost use Rattle.sha1.specs.Sha1.{sha1};
 ghost use Rattle.sha2.specs.Sha256.{sha256};
 
 use crate::entries::typed_name;
-use crate::missing::{error_values, past_values};
+use crate::missing::{misread_values, past_values};
 use crate::printing::print_object;
 use crate::verdicts::{is_whole, place_found, place_value, sector_if, track_if, verdict_text};
 use arrayvec::ArrayVec;
@@ -212,7 +212,7 @@ fn check_value(
         finding.entry.map.now finding.entry.lack (option_map (λ drawn. drawn_in drawn.now) finding.entry.drawing)) }
 {
     let beyond = beyond_values(alloc, image, finding.drawing)?;
-    let errors = error_values(alloc, image, finding.drawing)?;
+    let errors = misread_values(alloc, image, finding.drawing)?;
     let files = name_values(alloc, finding.files)?;
     let fewer = place_value(alloc, fewer_place(finding.lack))?;
     let short = place_value(alloc, short_place(finding.lack))?;

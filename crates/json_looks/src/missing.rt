@@ -5,7 +5,9 @@ ghost use Rattle.damaged_files.specs.reached.Names.{name_of};
 ghost use Rattle.disk_pictures.specs.Drawings.{file_in};
 ghost use Rattle.disk_pictures.specs.Held.{drawn_in};
 ghost use Rattle.disk_pictures.specs.Trims.{entry_at, error_number};
-ghost use Rattle.json_looks.specs.Missing.{error_item, error_items, past_item, past_items, string_if};
+ghost use Rattle.disk_pictures.specs.PastErrors.{entry_past as entry_past_of};
+ghost use Rattle.json_looks.specs.Missing.{error_item, error_items, misread_items, past_error_item, past_error_items, past_item, past_items, string_if};
+ghost use Rattle.long_chains.specs.Sectors.{error_in as error_in_of};
 ghost use Rattle.line_text.specs.bytes.Texts.{text_of};
 ghost use Rattle.serde_json.specs.View.{view};
 
@@ -13,7 +15,10 @@ use crate::entries::typed_name;
 use d64_image::{Place, SECTORS};
 use damaged_files::error_at;
 use disk_layout::Slot;
-use disk_pictures::{Drawing, DrawnFile, ErrorNumber, blocks_past, entry_with, sides_past};
+use disk_pictures::{
+    Drawing, DrawnFile, ErrorNumber, blocks_past, entry_past, entry_with, sides_past,
+};
+use long_chains::{error_in, misread_past, place_past};
 use serde_json::{Value, json};
 use std::alloc::{AllocError, Global};
 
@@ -67,6 +72,27 @@ fn error_object(
     })
 }
 
+/// The object of a sector past track 35 that wasn't read, the same as of others.
+fn past_error_object(
+    alloc: Global,
+    number: u16,
+    entry: Option<&Slot>,
+    error: u8,
+) -> Result<Value, AllocError>
+    ensures { IfOk result (λ value. view value ∷ []
+        ≡ past_error_item number (option_map (λ slot. slot.now) entry.entry) (Some error)) }
+{
+    let name = name_value(alloc, entry)?;
+    let told = error_text(alloc, error)?;
+    let (track, sector) = place_past(number);
+    json!(in alloc; {
+        "track": track,
+        "sector": sector,
+        "name": name,
+        "error": told
+    })
+}
+
 /// Adds the object of a sector, if it wasn't read.
 fn add_error(
     alloc: Global,
@@ -84,9 +110,74 @@ fn add_error(
     Ok(())
 }
 
+/// Adds the object of a sector past track 35, if it wasn't read.
+fn add_past_error(
+    alloc: Global,
+    image: &[u8],
+    number: u16,
+    drawing: Option<&Drawing>,
+    values: &mut Vec<Value>,
+) -> Result<(), AllocError>
+    ensures { OnOk result (map view values.new.items ≡ map view values.old.items ++ past_error_item number
+        (entry_past_of image.now (option_map (λ drawn. drawn_in drawn.now) drawing.entry) number)
+        (error_in_of image.now number)) }
+{
+    let Some(error) = error_in(image, number) else {
+        return Ok(());
+    };
+    let entry = entry_past(image, drawing, number);
+    values.push(past_error_object(alloc, number, entry, error)?)?;
+    Ok(())
+}
+
+/// Adds the objects of those of these sectors that weren't read.
+fn add_errors_at(
+    alloc: Global,
+    image: &[u8],
+    drawing: Option<&Drawing>,
+    numbers: &[u16],
+    values: &mut Vec<Value>,
+) -> Result<(), AllocError>
+    ensures { OnOk result (map view values.new.items ≡ map view values.old.items ++ flat_map (λ n. past_error_item n
+        (entry_past_of image.now (option_map (λ drawn. drawn_in drawn.now) drawing.entry) n) (error_in_of image.now n)) numbers.now) }
+{
+    for &number in numbers {
+        add_past_error(alloc, image, number, drawing, values)?;
+    }
+    Ok(())
+}
+
+/// Adds the objects of the sectors past track 35 that weren't read, each with the first entry that has it if the files are drawn.
+fn add_past_errors(
+    alloc: Global,
+    image: &[u8],
+    drawing: Option<&Drawing>,
+    values: &mut Vec<Value>,
+) -> Result<(), AllocError>
+    ensures { OnOk result (map view values.new.items ≡ map view values.old.items
+        ++ past_error_items image.now (option_map (λ drawn. drawn_in drawn.now) drawing.entry)) }
+{
+    let misread = misread_past(image);
+    add_errors_at(alloc, image, drawing, misread.as_slice(), values)
+}
+
+/// The objects of the sectors that weren't read, in the order of an image, each with the first entry that has it if the files are drawn.
+pub(crate) fn misread_values(
+    alloc: Global,
+    image: &[u8],
+    drawing: Option<&Drawing>,
+) -> Result<Vec<Value>, AllocError>
+    ensures { IfOk result (λ values. map view values.items
+        ≡ misread_items image.now (option_map (λ drawn. drawn_in drawn.now) drawing.entry)) }
+{
+    let mut values = error_values(alloc, image, drawing)?;
+    add_past_errors(alloc, image, drawing, &mut values)?;
+    Ok(values)
+}
+
 /// The objects of the sectors of tracks 1 to 35 that weren't read, in the order of an image, each with the first entry that has it if
 /// the files are drawn.
-pub(crate) fn error_values(
+fn error_values(
     alloc: Global,
     image: &[u8],
     drawing: Option<&Drawing>,

@@ -1,15 +1,16 @@
 //! What a check finds, as members of an object.
-ghost use Rattle.std.specs.Prelude.{◌≡◌, ◌↔◌, ◌≤◌, IfOk, IsTrue, None, length, option_map, string_bytes};
+ghost use Rattle.std.specs.Prelude.{◌≡◌, ◌↔◌, ◌≤◌, [], IfOk, IsTrue, None, length, option_map, string_bytes};
 ghost use Rattle.disk_layout.specs.Texts.{place_text};
 ghost use Rattle.disk_pictures.specs.Held.{drawn_in};
-ghost use Rattle.disk_pictures.specs.Trims.{IsAllThere};
 ghost use Rattle.json_looks.specs.Missing.{string_if};
-ghost use Rattle.json_looks.specs.Verdicts.{found_place, found_text};
+ghost use Rattle.json_looks.specs.Verdicts.{IsImageThere, found_place, found_text};
+ghost use Rattle.long_chains.specs.Sectors.{misread_past as misread_past_of};
 ghost use Rattle.serde_json.specs.View.{view};
 
 use d64_image::Place;
 use disk_layout::Fault;
 use disk_pictures::{Drawing, is_all_there};
+use long_chains::misread_past;
 use serde_json::Value;
 use std::alloc::{AllocError, Global};
 
@@ -69,11 +70,28 @@ pub(crate) fn sector_if(place: Option<Place>) -> Option<u8>
     place.map(Place::sector)
 }
 
+/// Whether each sector of tracks 36 to 42 was read.
+fn is_read_past(image: &[u8]) -> bool
+    ensures { IsTrue result ↔ (misread_past_of image.now ≡ []) }
+{
+    misread_past(image).is_empty()
+}
+
+/// Whether the image has all that it says of itself: each sector was read, and no file that is drawn goes on past track 35.
+fn is_image_there(image: &[u8], drawing: &Drawing) -> bool
+    requires { 174848 ≤ length image.now }
+    ensures { IsTrue result ↔ IsImageThere image.now (drawn_in drawing.now) }
+{
+    let there = is_all_there(image, drawing);
+    let read = is_read_past(image);
+    there && read
+}
+
 /// Whether a check found nothing, and the image has all that it says of itself: each sector was read, and no file goes on past track 35.
 pub(crate) fn is_whole(image: &[u8], found: Option<Fault>, drawing: &Drawing) -> bool
     requires { 174848 ≤ length image.now }
-    ensures { IsTrue result ↔ (found ≡ None) × IsAllThere image.now (drawn_in drawing.now) }
+    ensures { IsTrue result ↔ (found ≡ None) × IsImageThere image.now (drawn_in drawing.now) }
 {
-    let there = is_all_there(image, drawing);
+    let there = is_image_there(image, drawing);
     found.is_none() && there
 }

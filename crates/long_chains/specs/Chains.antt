@@ -1,6 +1,7 @@
 -- Chains over all tracks of an image (1541 User's Guide, how files are stored; the D64 layout).
 use Rattle.std.specs.Prelude.{ℕ, zero, suc, ◌+◌, ◌*◌, Bool, List, [], ◌∷◌, None, Option, Some, false, true}
 use Rattle.std.specs.Prelude.{flat_map, if◌then◌else◌, max, nat_eq, slice_index, slice_range}
+use Rattle.std.specs.List.{list_any}
 use Rattle.long_chains.specs.Sectors.{sector_at}
 
 -- a byte of a sector
@@ -32,6 +33,15 @@ chain_of image track sector = chain_within image 802 track sector
 abbrev pub if_ended : Bool → List ℕ → Option (List ℕ)
 if_ended true ns = Some ns
 if_ended false ns = None
+
+-- the sector is one of these
+abbrev pub has_number : (number : ℕ) → Option (List ℕ) → Bool
+has_number n None = false
+has_number n (Some ns) = list_any (λ m. nat_eq m n) ns
+
+-- the chain that begins at this track and sector comes to its end, and has this sector
+abbrev pub is_on_chain : (image : List ℕ) → (track sector number : ℕ) → Bool
+is_on_chain image track sector n = has_number n (chain_of image track sector)
 
 -- what a sector has of its file: 254 bytes, or of the last one those up to its last index
 abbrev pub data_in : (image : List ℕ) → (number : ℕ) → List ℕ

@@ -1,6 +1,8 @@
 -- The sectors of an image of 35, 40 or 42 tracks, each named by how many come before it (the D64 layout).
-use Rattle.std.specs.Prelude.{◌<◌, ℕ, ◌+◌, ◌*◌, ◌-◌, ◌/◌, ◌%◌, ◌&&◌, ◌||◌, List, None, Option, Some}
-use Rattle.std.specs.Prelude.{if◌then◌else◌, length, nat_eq, nat_le, nat_lt, slice_get}
+use Rattle.std.specs.Prelude.{◌<◌, ℕ, ◌+◌, ◌*◌, ◌-◌, ◌/◌, ◌%◌, ◌&&◌, ◌||◌, Bool, List, None, Option, Some}
+use Rattle.std.specs.List.{range_with_len}
+use Rattle.std.specs.Option.{is_some}
+use Rattle.std.specs.Prelude.{filter, if◌then◌else◌, length, nat_eq, nat_le, nat_lt, slice_get}
 use Rattle.d64_image.specs.Places.{index_of, place_at}
 use Rattle.d64_image.specs.declared.place.Place.{Place}
 
@@ -46,6 +48,14 @@ error_in image n =
     if nat_eq (length image) 175531 then reading_error (slice_get image (174848 + n))
     else (if nat_eq (length image) 197376 then reading_error (slice_get image (196608 + n))
     else (if nat_eq (length image) 206114 then reading_error (slice_get image (205312 + n)) else None))
+
+-- the sector wasn't read
+abbrev pub is_misread : (image : List ℕ) → (number : ℕ) → Bool
+is_misread image n = is_some (error_in image n)
+
+-- the sectors of tracks 36 to 42 that weren't read: of 119 sectors after 683 others
+unfoldable pub misread_past : (image : List ℕ) → List ℕ
+misread_past image = filter (is_misread image) (range_with_len 683 119)
 
 -- the track of a sector past track 35, and its number there
 abbrev pub track_past : (number : ℕ) → ℕ

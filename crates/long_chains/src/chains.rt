@@ -1,6 +1,7 @@
 //! The sectors of a chain over all tracks of an image.
 ghost use Rattle.std.specs.Prelude.{◌≡◌};
 ghost use Rattle.std.specs.List.{AllByRecursion};
+ghost use Rattle.long_chains.specs.Chains as specs;
 ghost use Rattle.long_chains.specs.Chains.{chain_of, if_ended};
 ghost use Rattle.long_chains.specs.Sectors.{HasSector};
 
@@ -35,4 +36,15 @@ pub fn long_chain(
         link = (image[start], image[start + 1]);
     }
     false
+}
+
+/// Whether the chain that begins at this track and sector comes to its end, and has the sector with this number.
+pub fn is_on_chain(image: &[u8], track: u8, sector: u8, number: u16) -> bool
+    ensures { result ≡ specs.is_on_chain image.now track sector number }
+{
+    let mut chain = ArrayVec::new();
+    if !long_chain(image, track, sector, &mut chain) {
+        return false;
+    }
+    chain.as_slice().contains(&number)
 }

@@ -53,6 +53,10 @@ const DRAWING: &str =
 /// The end of the poster.
 pub(crate) const END: &str = "</svg>\n";
 
+/// The end of the poster of an image that has more than its disk.
+pub(crate) const MISSING_END: &str = "<text class=\"told\" x=\"148.5\" y=\"300\">\
+    Not on the disk of 35 tracks: what `ledger check --as-is` lists</text>\n</svg>\n";
+
 /// The head of the poster, from 18/0: the disk's name, as it is typed and as a C64 shows it, and the style.
 #[derive(Clone, Copy)]
 pub(crate) struct Head<'a>(pub &'a [u8; 256]);

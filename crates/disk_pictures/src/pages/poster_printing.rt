@@ -8,7 +8,7 @@ ghost use Rattle.disk_pictures.specs.Held.{drawn_in};
 ghost use Rattle.disk_pictures.specs.Html.{html_of};
 ghost use Rattle.disk_pictures.specs.Petscii.{petscii_of};
 ghost use Rattle.disk_pictures.specs.Outcomes.{IsDrawnAs, IsPictureFault, IsPosterPrinted};
-ghost use Rattle.disk_pictures.specs.Posters.{poster_line, poster_of};
+ghost use Rattle.disk_pictures.specs.Posters.{poster_end, poster_line, poster_of};
 ghost use Rattle.disk_pictures.specs.Texts.{numbered};
 ghost use Rattle.command_faults.specs.declared.faults.CommandFault.TheVariants as faults;
 
@@ -16,7 +16,7 @@ use crate::drawing::Drawing;
 use crate::drawn_file::DrawnFile;
 use crate::pages::legend::Legend;
 use crate::pages::picture_printing::print_drawing;
-use crate::pages::poster::{END, Head, Heading, Line};
+use crate::pages::poster::{END, Head, Heading, Line, MISSING_END};
 use crate::verdicts::{Verdict, judged};
 use command_faults::{CommandFault, flush, print_text};
 use disk_layout::Fault;
@@ -43,7 +43,7 @@ fn print_lines<W: Write>(out: &mut W, files: &[DrawnFile]) -> Result<(), Command
     Ok(())
 }
 
-/// Prints the poster.
+/// Prints the poster up to its end.
 fn print_poster<W: Write>(
     out: &mut W,
     verdict: Verdict,
@@ -58,11 +58,10 @@ fn print_poster<W: Write>(
     print_drawing(out, verdict.found, drawing)?;
     print_text(out, Legend::of(verdict.found, drawing))?;
     print_lines(out, drawing.files.as_slice())?;
-    print_text(out, END)?;
     flush(out)
 }
 
-/// Prints the disk as a poster: an SVG file of its own, 297 by 420 units. It has the drawing of `picture_image`, the
+/// Prints the disk as a poster up to its end, which `print_poster_end` prints: an SVG file of its own, 297 by 420 units. It has the drawing of `picture_image`, the
 /// disk's name, what a check reports as a sentence, the meaning of the colours that it shows, and the directory in up to four
 /// columns: the fewer entries, the larger are their lines. It has no script and loads nothing, and names of the disk stand in it only
 /// as text. A name longer than its column is cut by the column's edge. What a check of the disk reports is also the result. A damaged disk is drawn as far as its links
@@ -84,4 +83,16 @@ pub fn poster_image<W: Write>(
     let (drawing, verdict) = judged(alloc, image)?;
     print_poster(out, verdict, &drawing)?;
     Ok(verdict.found)
+}
+
+/// Prints the end of a poster after `poster_image`, where these are the lines of `missing_lines`. If there are any, a sentence between the
+/// drawing and the directory says so. `File` if the output failed.
+pub fn print_poster_end<W: Write>(lines: &[u8], out: &mut W) -> Result<(), CommandFault>
+    ensures ok { OnOk result (Appends (W.contents out.old) (W.contents out.new) (poster_end lines.now)) }
+    ensures err { IfErr result (λ fault. fault ≡ faults.File) }
+{
+    if lines.is_empty() {
+        return print_text(out, END);
+    }
+    print_text(out, MISSING_END)
 }

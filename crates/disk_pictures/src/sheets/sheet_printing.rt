@@ -1,17 +1,26 @@
 //! A contact sheet of disks, as an HTML page: its beginning, a tile for each image, and its end.
-ghost use Rattle.std.specs.Prelude.{◌≡◌, IfErr, IfOk, OnOk, Some};
+ghost use Rattle.std.specs.Prelude.{◌≡◌, ◌≢◌, ◌++◌, IfErr, IfOk, OnOk, Some};
 ghost use Rattle.std.specs.Io.KnownBytes.{Appends};
-ghost use Rattle.command_faults.specs.Faults.{command_text};
+ghost use Rattle.command_faults.specs.Faults.{command_status, command_text};
+ghost use Rattle.damaged_files.specs.reached.Sizes.{disk_of};
+ghost use Rattle.disk_pictures.specs.Held.{drawn_in};
 ghost use Rattle.disk_pictures.specs.Html.{html_of};
-ghost use Rattle.disk_pictures.specs.Sheets.{refused_head, refused_tile, sheet_end, sheet_head};
+ghost use Rattle.disk_pictures.specs.Missing.{IsMissing};
+ghost use Rattle.disk_pictures.specs.Outcomes.{IsJudged, IsPictureFault};
+ghost use Rattle.disk_pictures.specs.Petscii.{petscii_of};
+ghost use Rattle.disk_pictures.specs.Sheets.{refused_head, refused_tile, sheet_end, sheet_head, tile_end, tile_text};
 ghost use Rattle.disk_pictures.specs.Tiles.{IsTilePrinted, found_status as status_of};
 ghost use Rattle.command_faults.specs.declared.faults.CommandFault.TheVariants as faults;
 
+use crate::drawing::Drawing;
 use crate::html::Html;
+use crate::pages::missing_block::print_tile_end;
 use crate::pages::page::HEAD;
 use crate::sheets::tiles::print_tile;
-use crate::verdicts::judged;
+use crate::verdicts::{Verdict, judged};
+use crate::views::missing::missing_lines;
 use command_faults::{CommandFault, flush, print_text};
+use damaged_files::disk_in;
 use disk_layout::Fault;
 use std::alloc::Global;
 use std::fmt::{self, Display, Formatter};
@@ -104,13 +113,78 @@ fn print_refused<W: Write>(out: &mut W, path: &str, fault: CommandFault) -> Resu
     print_text(out, REFUSED_END)
 }
 
-/// The exit status for this result of a check.
-fn found_status(found: Option<Fault>) -> u8
-    ensures { result ≡ status_of found }
+/// The exit status for this result of a check, where these lines say what isn't on the disk.
+fn found_status(found: Option<Fault>, lines: &[u8]) -> u8
+    ensures { result ≡ status_of found lines.now }
 {
     match found {
-        None => 0,
         Some(_) => 1,
+        None if lines.is_empty() => 0,
+        None => 1,
+    }
+}
+
+/// What is drawn of the disk in an image, and reported of it. `NoMemory`; `Layout` if the directory's sectors aren't a chain on track 18.
+fn judged_disk(alloc: Global, image: &[u8]) -> Result<(Drawing, Verdict), CommandFault>
+    ensures ok { IfOk result (λ (drawing, verdict). IsJudged (disk_of image.now) drawing verdict) }
+    ensures err { IfErr result (IsPictureFault (disk_of image.now)) }
+    ensures not_file { IfErr result (λ fault. fault ≢ faults.File) }
+{
+    judged(alloc, disk_in(image))
+}
+
+/// The lines that say what isn't on the disk in an image, if that can be drawn.
+fn lines_beside(alloc: Global, image: &[u8]) -> Result<Vec<u8>, CommandFault>
+    ensures ok { IfOk result (λ lines. IsMissing image.now lines.items) }
+    ensures err { IfErr result (IsPictureFault (disk_of image.now)) }
+    ensures not_file { IfErr result (λ fault. fault ≢ faults.File) }
+{
+    missing_lines(alloc, image)
+}
+
+/// Prints the tile of a disk in an image of which this is drawn and reported, with these lines, and returns its exit status.
+fn print_drawn<W: Write>(
+    out: &mut W,
+    path: &str,
+    verdict: Verdict,
+    drawing: &Drawing,
+    lines: &[u8],
+) -> Result<u8, CommandFault>
+    ensures ok { IfOk result (λ status. Appends (W.contents out.old) (W.contents out.new)
+        (tile_text html_of petscii_of path.now verdict drawing.now.map (drawn_in drawing.now) ++ tile_end lines.now)
+        × (status ≡ status_of verdict.found lines.now)) }
+    ensures err { IfErr result (λ fault. fault ≡ faults.File) }
+{
+    print_tile(out, path, verdict, drawing)?;
+    print_tile_end(lines, out)?;
+    Ok(found_status(verdict.found, lines))
+}
+
+/// Prints the tile of an image that isn't drawn, and returns its exit status.
+fn print_undrawn<W: Write>(out: &mut W, path: &str, fault: CommandFault) -> Result<u8, CommandFault>
+    ensures ok { IfOk result (λ status. Appends (W.contents out.old) (W.contents out.new)
+        (refused_tile html_of path.now (command_text fault)) × (status ≡ command_status fault)) }
+    ensures err { IfErr result (λ fault. fault ≡ faults.File) }
+{
+    print_refused(out, path, fault)?;
+    Ok(fault.status())
+}
+
+/// Prints the tile of an image with these lines, as `sheet_tile` does.
+fn print_tile_with<W: Write>(
+    alloc: Global,
+    path: &str,
+    image: &[u8],
+    lines: &[u8],
+    out: &mut W,
+) -> Result<u8, CommandFault>
+    requires { IsMissing image.now lines.now }
+    ensures ok { IfOk result (IsTilePrinted W.contents path.now image.now out.old out.new) }
+    ensures err { IfErr result (λ fault. fault ≡ faults.File) }
+{
+    match judged_disk(alloc, image) {
+        Ok((drawing, verdict)) => print_drawn(out, path, verdict, &drawing, lines),
+        Err(fault) => print_undrawn(out, path, fault),
     }
 }
 
@@ -123,11 +197,12 @@ pub fn sheet_begin<W: Write>(out: &mut W, count: usize) -> Result<(), CommandFau
 }
 
 /// Prints the next tile of a contact sheet, that of an image, and returns the exit status that `picture` has for this
-/// image. It is 0 if the disk is clean, 1 if it is damaged, and that of the fault if it can't be drawn.
+/// image, of 35, 40 or 42 tracks, with error bytes or without. It is 0 if the disk is clean and nothing of the image is missing on it, 1 if
+/// the disk is damaged or something is, and that of the fault if the disk can't be drawn.
 ///
 /// It has a small drawing: tracks from left to right, each sector once in the shade of its owner, the fault in red.
 /// Below stand the path, the disk's name as it is typed and as a C64 shows it, what a check reports (or where the
-/// first file is cut short), and how many blocks the map calls free. A damaged disk is drawn as far as its links go.
+/// first file is cut short), how many blocks the map calls free, and the lines of `missing_lines`, if there are any. A damaged disk is drawn as far as its links go.
 /// An image that can't be drawn (`ImageSize`, `Layout`, `NoMemory`) has a tile with its path and the reason. Paths and
 /// names stand there only as text. A path's bytes are shown as those of names: $20 to $7E except `"` and `\` as they
 /// are, every other one as `\` and two digits.
@@ -142,15 +217,9 @@ pub fn sheet_tile<W: Write>(
     ensures ok { IfOk result (IsTilePrinted W.contents path.now image.now out.old out.new) }
     ensures err { IfErr result (λ fault. fault ≡ faults.File) }
 {
-    match judged(alloc, image) {
-        Ok((drawing, verdict)) => {
-            print_tile(out, path, verdict, &drawing)?;
-            Ok(found_status(verdict.found))
-        }
-        Err(fault) => {
-            print_refused(out, path, fault)?;
-            Ok(fault.status())
-        }
+    match lines_beside(alloc, image) {
+        Ok(lines) => print_tile_with(alloc, path, image, lines.as_slice(), out),
+        Err(fault) => print_undrawn(out, path, fault),
     }
 }
 

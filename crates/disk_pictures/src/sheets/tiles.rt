@@ -178,10 +178,10 @@ impl Display for Caption<'_> {
     fn fmt<W: fmt::Write>(&self, f: &mut Formatter<W>) -> fmt::Result {
         let name = disk_name(self.map);
         let free = BamView::new(self.map).blocks_free();
-        writeln!(
+        write!(
             f,
             "</svg><figcaption><code>{}</code> <span>{}<bdi>{}</bdi></span> <b>{}</b> \
-            <span>{free} blocks free</span></figcaption></figure>",
+            <span>{free} blocks free</span></figcaption>",
             Html(self.path.as_bytes()),
             Html(name),
             Petscii(name),
@@ -190,7 +190,7 @@ impl Display for Caption<'_> {
     }
 }
 
-/// Prints the tile of a disk.
+/// Prints the tile of a disk up to its end.
 pub(crate) fn print_tile<W: Write>(
     out: &mut W,
     path: &str,

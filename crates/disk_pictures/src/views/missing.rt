@@ -3,13 +3,13 @@ ghost use Rattle.std.specs.Prelude.{◌≡◌, ◌≤◌, IfErr, IfOk, OnOk, len
 ghost use Rattle.std.specs.Io.KnownBytes.{Appends};
 ghost use Rattle.disk_pictures.specs.Held.{drawn_in};
 ghost use Rattle.disk_pictures.specs.Missing.{IsMisread, IsMisreadBeside, IsMissing, IsMissingBeside, IsMissingFault, missing_text, past_text};
-ghost use Rattle.disk_pictures.specs.Trims.{errors_text};
+ghost use Rattle.disk_pictures.specs.PastErrors.{misread_text};
 ghost use Rattle.damaged_files.specs.reached.Sizes.{IsImageSize};
 ghost use Rattle.command_faults.specs.declared.faults.CommandFault.TheVariants as faults;
 
 use crate::drawing::Drawing;
+use crate::views::past_errors::print_misread;
 use crate::views::past_tracks::print_files;
-use crate::views::reading_errors::print_errors;
 use crate::views::trimming::drawn_of;
 use command_faults::CommandFault;
 use d64_image::IMAGE_BYTES;
@@ -45,7 +45,7 @@ fn print_missing<E: Write>(
         (missing_text image.now (option_map (λ drawn. drawn_in drawn.now) drawing.entry))) }
     ensures err { IfErr result (λ fault. fault ≡ faults.File) }
 {
-    print_errors(err, image, drawing)?;
+    print_misread(err, image, drawing)?;
     print_past(err, image, drawing)
 }
 
@@ -77,9 +77,10 @@ fn lines_beside(alloc: Global, image: &[u8], tracks: &[u8]) -> Result<Vec<u8>, C
     }
 }
 
-/// The lines that `trim_image` reports of an image of 40 or 42 tracks, or with error bytes: one for each sector of tracks 1 to 35 that
-/// wasn't read when the image was made, with the first entry that has it, and one for each file that goes on past track 35. If the
-/// directory's sectors aren't a chain on track 18, nothing is known of the files. There is no line for an image that is a disk
+/// The lines that say what isn't on the disk in an image of 40 or 42 tracks, or with error bytes: one for each sector that wasn't read when
+/// the image was made, with the first entry that has it, one for each sector past track 35 that several files have, and one for each
+/// file that goes on past track 35. A file has a sector past track 35 if its chain over all tracks comes to its end, and has the sector.
+/// If the directory's sectors aren't a chain on track 18, nothing is known of the files. There is no line for an image that is a disk
 /// alone. `ImageSize`, `NoMemory`.
 pub fn missing_lines(alloc: Global, image: &[u8]) -> Result<Vec<u8>, CommandFault>
     ensures ok { IfOk result (λ lines. IsMissing image.now lines.items) }
@@ -101,11 +102,11 @@ fn errors_of(
     drawing: Option<&Drawing>,
 ) -> Result<Vec<u8>, CommandFault>
     ensures ok { IfOk result
-        (λ lines. lines.items ≡ errors_text image.now (option_map (λ drawn. drawn_in drawn.now) drawing.entry)) }
+        (λ lines. lines.items ≡ misread_text image.now (option_map (λ drawn. drawn_in drawn.now) drawing.entry)) }
     ensures err { IfErr result (λ fault. fault ≡ faults.NoMemory) }
 {
     let mut lines = Vec::new(alloc);
-    match print_errors(&mut lines, image, drawing) {
+    match print_misread(&mut lines, image, drawing) {
         Ok(()) => Ok(lines),
         Err(_) => Err(CommandFault::NoMemory),
     }
@@ -125,7 +126,7 @@ fn errors_beside(alloc: Global, image: &[u8], tracks: &[u8]) -> Result<Vec<u8>, 
     }
 }
 
-/// Those of the lines of `missing_lines` that say which sectors of tracks 1 to 35 weren't read. `ImageSize`, `NoMemory`.
+/// Those of the lines of `missing_lines` that say which sectors weren't read, and which ones past track 35 several files have. `ImageSize`, `NoMemory`.
 pub fn error_lines(alloc: Global, image: &[u8]) -> Result<Vec<u8>, CommandFault>
     ensures ok { IfOk result (λ lines. IsMisread image.now lines.items) }
     ensures err { IfErr result (IsMissingFault image.now) }

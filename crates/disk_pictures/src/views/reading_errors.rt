@@ -34,7 +34,7 @@ impl Display for ErrorNumber {
 
 /// The name of an entry, in quotation marks after a space.
 #[derive(Clone, Copy)]
-struct EntryName<'a>(Option<&'a Slot>);
+pub(crate) struct EntryName<'a>(pub(crate) Option<&'a Slot>);
 
 impl Display for EntryName<'_> {
     ghost output = { λ name. Some (name_text (option_map (λ slot. slot.now) name.0)) };

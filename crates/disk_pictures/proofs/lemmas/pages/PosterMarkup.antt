@@ -56,5 +56,5 @@ module _ (f g : Show) (same : (bytes : List ℕ) → IsSameMarkup (f bytes) (g b
   unfolding poster_text
   on-poster v map l = both _ _ _ _ (on-head map) (both _ _ _ _ (on-told v map l)
       (both _ _ _ _ (on-drawing f g same v.found map l)
-      (behind (poster_legend (legend_of v.found map l)) _ _ (before _ _ _
-      (each (poster_line f s (length l.files)) (poster_line g u (length l.files)) (on-line (length l.files)) 0 l.files)))))
+      (behind (poster_legend (legend_of v.found map l)) _ _
+      (each (poster_line f s (length l.files)) (poster_line g u (length l.files)) (on-line (length l.files)) 0 l.files))))

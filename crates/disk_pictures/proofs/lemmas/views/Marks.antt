@@ -9,7 +9,7 @@ use Rattle.disk_layout.specs.Directory.{type_byte}
 use Rattle.disk_layout.specs.Layout.{File, Layout, count_field}
 use Rattle.disk_layout.specs.declared.faults.Fault.{Fault}
 use Rattle.disk_pictures.specs.Drawings.{owner_of}
-use Rattle.disk_pictures.specs.Maps.{cell_text, digit, entry_line, entry_mark, letter, mark_of, owner_mark}
+use Rattle.disk_pictures.specs.Maps.{cell_text, digit, entry_line, entry_mark, geos_text, letter, mark_of, owner_mark}
 use Rattle.disk_pictures.specs.Maps.{owner_second, records_text, second_of}
 use Rattle.damaged_files.specs.reached.Types.{type_text}
 use Rattle.disk_pictures.specs.Texts.{is_fault_at, is_free}
@@ -78,6 +78,6 @@ pub entry-written : (wide : Bool) (k : ℕ) (f : File) (count byte : ℕ) (name 
     → name ≡ name_of f.slot → byte ≡ type_byte f.slot
     → entry_mark wide k
     ++ (codes " " ++ (decimal count ++ (codes " \"" ++ (text_of name ++ (codes "\" " ++ (type_text (codes "<") byte
-    ++ (records_text f ++ codes "\n"))))))) ≡ entry_line wide k f
+    ++ (records_text f ++ (geos_text f.slot ++ codes "\n")))))))) ≡ entry_line wide k f
 unfolding entry_line
 entry-written wide k f count byte name a b c = rw (a, b, c) refl

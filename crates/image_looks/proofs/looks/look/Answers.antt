@@ -1,6 +1,5 @@
 -- How a look ended is how its command did.
 use Rattle.std.proofs.Common.{List, subst, ℕ}
-use Rattle.disk_pictures.specs.Outcomes.{IsPictureFault, IsPosterPrinted}
 use Rattle.disk_pictures.specs.Views.{AreFreePrinted, IsSectorPrinted, IsViewFault}
 use Rattle.disk_reports.specs.AllFaults.{AreListed}
 use Rattle.disk_reports.specs.Listings.{IsCheckFault, IsListFault, IsListed}
@@ -42,10 +41,7 @@ pub returns-in-Picture : goal.returns-in-Picture
 returns-in-Picture g c = rw c.in-Picture.is c.report_image-in-Picture.ensures
 
 pub returns-in-Poster : goal.returns-in-Poster
-returns-in-Poster g c =
-    let done = c.poster_image in
-    rw c.in-Poster.is (printed c.args.out.now done.new.out (IsPosterPrinted g.W.Write.contents c.args.image.now) (IsPictureFault c.args.image.now) done.result
-    done.ensures.ok done.ensures.err done.ensures.untouched)
+returns-in-Poster g c = rw c.in-Poster.is c.report_image-in-Poster.ensures
 
 pub returns-in-Free : goal.returns-in-Free
 returns-in-Free g c =

@@ -43,3 +43,11 @@ returns-in-Picture g c =
       err = rw c.in-Picture.is done.ensures.err;
       untouched = done.ensures.untouched;
     }
+
+pub returns-in-Poster : goal.returns-in-Poster
+returns-in-Poster g c =
+    let done = c.poster_image in record {
+      ok = rw c.in-Poster.is done.ensures.ok;
+      err = rw c.in-Poster.is done.ensures.err;
+      untouched = done.ensures.untouched;
+    }

@@ -4,7 +4,7 @@ use Rattle.std.proofs.lemmas.Result.{err_from_is_err_and}
 use Rattle.image_looks.specs.EachImage.{IsReadAt}
 use Rattle.image_looks.specs.SheetPages.{IsSheetPrinted}
 use Rattle.image_looks.proofs.EachTold.{cut-off, several-done}
-use Rattle.opened_files.specs.declared.extents.Extent.TheVariants.{FirstTracks}
+use Rattle.opened_files.specs.declared.extents.Extent.TheVariants.{Whole}
 use Rattle.image_looks.proofs.sheets.do_sheet.Goals as goal
 
 pub returns-in_err-greatest : goal.returns-in_err-greatest
@@ -14,6 +14,6 @@ returns-in_err-greatest g c =
 
 pub returns : goal.returns
 returns g c =
-    several-done (IsSheetPrinted (IsReadAt g.R.HostFiles.rights g.R.HostFiles.stands c.args.rt.now FirstTracks)
+    several-done (IsSheetPrinted (IsReadAt g.R.HostFiles.rights g.R.HostFiles.stands c.args.rt.now Whole)
     g.W.Write.contents (map (λ path. path.now) c.args.paths.now) c.args.out.now c.print_sheet.new.out)
     c.in_ok-greatest.greatest c.status_end.result c.in_ok-greatest.ensures.ok c.status_end.ensures

@@ -1,13 +1,13 @@
--- The head, the drawing, the legend, the lines and the end are the poster.
+-- The head, the drawing, the legend and the lines are the poster.
 use Rattle.std.proofs.Common.{List, ℕ, length, map, subst, sym}
 use Rattle.std.proofs.lemmas.List.{length-map}
-use Rattle.std.specs.Prelude.{Option, codes}
+use Rattle.std.specs.Prelude.{Option}
 use Rattle.std.specs.Io.KnownBytes.{Appends, Keeps}
 use Rattle.std.proofs.KnownBytes.{Appends-kept, Appends-trans}
 use Rattle.d64_image.specs.Images.{Sector}
 use Rattle.disk_layout.specs.Layout.{Layout}
 use Rattle.d64_image.proofs.Told.{at-ok}
-use Rattle.disk_pictures.proofs.Printing.{four}
+use Rattle.disk_pictures.proofs.Printing.{three}
 use Rattle.disk_pictures.specs.Drawings.{file_in}
 use Rattle.disk_pictures.specs.Held.{drawn_in}
 use Rattle.disk_pictures.specs.Html.{html_of}
@@ -19,16 +19,16 @@ use Rattle.disk_pictures.specs.Texts.{numbered}
 use Rattle.disk_pictures.specs.declared.verdicts.Verdict.{Verdict}
 use Rattle.disk_pictures.proofs.pages.poster_printing.print_poster.Goals as goal
 
-all-printed : (a b c d e f h i : Option (List ℕ)) (v : Verdict) (bytes : Sector) (l : Layout)
+all-printed : (a b c d e f i : Option (List ℕ)) (v : Verdict) (bytes : Sector) (l : Layout)
     → Appends a b (poster_head html_of petscii_of bytes)
     → Appends b c (poster_told html_of v bytes l) → Appends c d (drawing_text html_of v.found bytes l)
     → Appends d e (poster_legend (legend_of v.found bytes l))
-    → Appends e f (numbered (poster_line html_of petscii_of (length l.files)) 0 l.files) → Appends f h (codes "</svg>\n") → Keeps h i
+    → Appends e f (numbered (poster_line html_of petscii_of (length l.files)) 0 l.files) → Keeps f i
     → Appends a i (poster_of v bytes l)
 unfolding poster_text
-all-printed a b c d e f h i v bytes l head told drawing legend lines end kept =
-    Appends-kept a h i _
-    (Appends-trans a b h _ _ head (Appends-trans b c h _ _ told (four c d e f h _ _ _ _ drawing legend lines end)))
+all-printed a b c d e f i v bytes l head told drawing legend lines kept =
+    Appends-kept a f i _
+    (Appends-trans a b f _ _ head (Appends-trans b c f _ _ told (three c d e f _ _ _ drawing legend lines)))
     kept
 
 pub returns-clause-ok : goal.returns-clause-ok
@@ -40,7 +40,7 @@ returns-clause-ok g c =
     (poster_legend k)) c.of.ensures c.in_ok-print_text-3.ensures.ok in
     let all = subst (λ (n : ℕ). Appends (g.W.Write.contents c.print_text-3.new.out) (g.W.Write.contents c.print_lines.new.out)
     (numbered (poster_line html_of petscii_of n) 0 (map file_in d.files.items))) (sym (length-map d.files.items file_in)) lines in
-    at-ok c.flush.result (all-printed _ _ _ _ _ _ _ _ c.args.verdict d.map (drawn_in d)
+    at-ok c.flush.result (all-printed _ _ _ _ _ _ _ c.args.verdict d.map (drawn_in d)
     c.in_ok-print_text.ensures.ok
     c.in_ok-print_text-2.ensures.ok
-    c.in_ok-print_drawing.ensures.ok legend all c.in_ok-print_text-4.ensures.ok c.flush.ensures.kept)
+    c.in_ok-print_drawing.ensures.ok legend all c.flush.ensures.kept)

@@ -1,23 +1,15 @@
--- The tile of what is drawn.
-use Rattle.std.proofs.Common.{inl, subst}
-use Rattle.std.specs.Io.KnownBytes.{Appends}
-use Rattle.d64_image.specs.Images.{Sector}
-use Rattle.disk_pictures.specs.Held.{drawn_in}
-use Rattle.disk_pictures.specs.Html.{html_of}
-use Rattle.disk_pictures.specs.Petscii.{petscii_of}
-use Rattle.disk_pictures.specs.Sheets.{tile_text}
+-- The lines are those of the image, or its tile says why there are none.
+use Rattle.std.proofs.Common.{subst, sym}
+use Rattle.std.proofs.lemmas.Result.{IfOk-weaker}
+use Rattle.disk_pictures.specs.Missing.{IsMissing}
+use Rattle.disk_pictures.proofs.Tiled.{fault-tile}
 use Rattle.disk_pictures.proofs.sheets.sheet_printing.sheet_tile.Goals as goal
 
-pub returns-in_ok-print_tile-in-Ok-clause-ok : goal.returns-in_ok-print_tile-in-Ok-clause-ok
-returns-in_ok-print_tile-in-Ok-clause-ok g c =
-    let d = c.in-Ok.drawing in
-    let told = g.W.Write.contents in
-    inl (record {
-      layout = drawn_in d;
-      verdict = c.in-Ok.verdict;
-      judged = c.in-Ok.ensures.ok.judged;
-      printed = subst (λ (map : Sector). Appends (told c.args.out.now) (told c.print_tile.new.out)
-          (tile_text html_of petscii_of c.args.path.now c.in-Ok.verdict map (drawn_in d))) c.in-Ok.ensures.ok.map
-          c.in_ok-print_tile-in-Ok.ensures.ok;
-      status_is = c.found_status.ensures;
-    })
+pub print_tile_with-requires : goal.print_tile_with-requires
+print_tile_with-requires g c = subst (IsMissing c.args.image.now) (sym c.as_slice.ensures.value) c.in-Ok.ensures.ok
+
+pub returns-clause-ok : goal.returns-clause-ok
+returns-clause-ok g c =
+    IfOk-weaker c.print_undrawn.result _ _ (λ status told. fault-tile g.W.Write.contents c.args.path.now c.args.image.now c.args.out.now
+    c.print_undrawn.new.out status c.in-Err.fault c.in-Err.ensures.err c.in-Err.ensures.not_file told.0 told.1)
+    c.print_undrawn.ensures.ok

@@ -7,4 +7,4 @@ use Rattle.disk_pictures.proofs.sheets.tiles.CaptionDisplay.fmt.Goals as goal
 pub returns-clause-writes : goal.returns-clause-writes
 unfolding caption
 returns-clause-writes g c = λ plain done. has_written_of_eq _ _ _ _ _
-    (rw (c.disk_name-name.ensures, c.as_bytes.ensures.value, rw c.new.ensures at c.blocks_free-free.ensures) refl) (c.writeln.ensures.writes plain done)
+    (rw (c.disk_name-name.ensures, c.as_bytes.ensures.value, rw c.new.ensures at c.blocks_free-free.ensures) refl) (c.write.ensures.writes plain done)
