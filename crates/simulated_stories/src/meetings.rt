@@ -23,8 +23,8 @@ const UNTAGGINGS: usize = 2;
 /// How many steps a service has after it has synced that the tag was taken away: it removes the log, and syncs the folder.
 const UNTAGGED: u64 = 2;
 
-/// How many it has after it has synced the mark of its log: it syncs the image twice before these.
-const MARKED: u64 = 4;
+/// How many it has after it has synced the mark of its log: it also syncs the image three times.
+const MARKED: u64 = 5;
 
 /// The step of a `play` that syncs the image.
 const PLAYED: u64 = 2;

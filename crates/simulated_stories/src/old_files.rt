@@ -1,11 +1,12 @@
 //! A file that is no image, over which `format` makes a shop.
 use crate::counts::Event;
-use crate::judging::see_failure;
-use crate::runs::{Program, draw_plan, run, stop_at};
+use crate::judging::{see_failure, shop_shown};
+use crate::runs::{Ended, Program, draw_plan, run, stop_at};
 use crate::stops::{Stop, see};
 use crate::stories::Story;
 use crate::words::{FORMAT_OLD, IMAGE, OLD, SHOW_OLD};
 use simulated_machine::{Counted, Plan};
+use simulated_shop::Shop;
 
 /// How many bytes more than an image a file has that is too long.
 const MORE: usize = 683;
@@ -78,10 +79,17 @@ impl<P: Program> Story<'_, P> {
             return Ok(());
         }
         let ended = self.look(&SHOW_OLD)?;
+        let is_new = ended.status == 0 && self.is_empty_shop(&ended)?;
         see(
-            ended.status == 1,
+            is_new || ended.status == 1,
             "of a file that format wrote over a third shop is left",
         )
+    }
+
+    /// Whether a command showed the shop that `format` makes. Its directory may be torn where no file has an entry.
+    fn is_empty_shop(&self, ended: &Ended) -> Result<bool, Stop> {
+        let found = shop_shown(self.alloc, &Shop::new(4), &[], ended.out.as_slice())?;
+        Ok(found.is_some())
     }
 
     /// `format` makes a shop over such a file.
