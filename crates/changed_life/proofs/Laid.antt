@@ -1,5 +1,5 @@
 -- A file of GEOS that was made of a file with one chain: the shop's files are as they were.
-use Rattle.std.proofs.Common.{◌≡◌, ◌≢◌, ◌<◌, ◌≤◌, ◌+◌, ◌*◌, ◌∙◌, ◌⊎◌, ℕ, Bool, true, false, List, [], ◌∷◌, None, Some, ap, arith, drop, inl, inr, length, length-take, map, refl, slice_index, subst, sym}
+use Rattle.std.proofs.Common.{◌≡◌, ◌≢◌, ◌<◌, ◌≤◌, ◌+◌, ◌*◌, ◌∙◌, ℕ, false, List, None, ap, arith, drop, inl, inr, length, length-take, map, refl, slice_index, subst, sym}
 use Rattle.std.specs.Prelude.{Contains, IsTrue, codes, slice_range}
 use Rattle.std.proofs.lemmas.Bool.{and_parts, cases_Bool, false≢true}
 use Rattle.d64_image.proofs.Images.{length-put, sector-put_same}
@@ -19,10 +19,9 @@ use Rattle.disk_layout.proofs.lemmas.layouts.Twice.{files-apart}
 use Rattle.disk_layout.proofs.lemmas.layouts.Unsound.{has-chain}
 use Rattle.disk_layout.proofs.lemmas.lists.Once.{Contains-nil, EachOnce-right, all-in, map-in}
 use Rattle.std.proofs.lemmas.List.Elements.{Contains-append_left}
-use Rattle.disk_layout.specs.Chain.{EachOnce, IsChain, Names}
-use Rattle.disk_layout.specs.Directory.{is_used, slot_in, slots_in, type_byte, used_slots}
-use Rattle.disk_layout.specs.Layout.{File, IsFile, IsLayout, Layout, file_owns, is_rel, is_rel_type, owners}
-use Rattle.disk_layout.specs.Rest.{IsFirst}
+use Rattle.disk_layout.specs.Chain.{IsChain, Names}
+use Rattle.disk_layout.specs.Directory.{is_used, slot_in, slots_in, used_slots}
+use Rattle.disk_layout.specs.Layout.{File, IsFile, IsLayout, Layout, is_rel, is_rel_type, owners}
 use Rattle.disk_layout.specs.declared.slot.Slot.{Slot}
 use Rattle.file_changes.proofs.Overwritten.{over-before, over-slots}
 use Rattle.changed_life.proofs.Blocks.{AreSameBlocks, same-block}

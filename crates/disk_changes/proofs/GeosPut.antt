@@ -1,9 +1,9 @@
 -- A file of GEOS that is made of a file with one chain.
 use Rattle.std.proofs.Common.{◌≡◌, ◌<◌, ◌∙◌, ◌↔◌, ℕ, Bool, List, false, inl, inr, subst, sym}
-use Rattle.std.specs.Prelude.{Contains, IsTrue, Option, slice_get}
+use Rattle.std.specs.Prelude.{Contains, IsTrue, Option}
 use Rattle.std.proofs.lemmas.Bool.{cases_Bool, false≢true}
 use Rattle.command_faults.specs.declared.faults.CommandFault.TheVariants as faults
-use Rattle.d64_image.specs.Images.{Image, Sector, put, sector}
+use Rattle.d64_image.specs.Images.{Image, Sector, put}
 use Rattle.d64_image.specs.declared.place.Place.{Place}
 use Rattle.damaged_files.specs.declared.sides.planning.Loss.{Loss}
 use Rattle.damaged_files.specs.reached.Directories.{IsReadSoFar}

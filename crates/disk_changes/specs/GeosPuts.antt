@@ -1,6 +1,6 @@
 -- What comes of putting the file of GEOS that a CVT holds into an image. The content of the CVT is put there as one chain, which then
 -- becomes the info block, the record block and the records; what came of it is judged. Our own.
-use Rattle.std.specs.Prelude.{◌≡◌, ◌⊎◌, ◌++◌, ◌∷◌, [], List, None, Option, Some, codes, drop, false, if◌then◌else◌, slice_index, slice_range, ℕ}
+use Rattle.std.specs.Prelude.{◌≡◌, ◌⊎◌, ◌++◌, List, None, Some, codes, drop, false, if◌then◌else◌, slice_index, slice_range, ℕ}
 use Rattle.command_faults.specs.Faults.{IsSoundFault}
 use Rattle.command_faults.specs.declared.faults.CommandFault.{CommandFault}
 use Rattle.command_faults.specs.declared.faults.CommandFault.TheVariants as faults
@@ -14,7 +14,7 @@ use Rattle.disk_changes.specs.Puts.{IsPut, IsPutRefusal}
 use Rattle.disk_changes.specs.Sorts.{with_entry}
 use Rattle.disk_changes.specs.declared.changes.Changed.{Changed}
 use Rattle.disk_layout.specs.Directory.{slot_in, type_byte}
-use Rattle.disk_layout.specs.Layout.{IsLayout, Layout, is_rel}
+use Rattle.disk_layout.specs.Layout.{Layout, is_rel}
 use Rattle.disk_layout.specs.Rest.{slot_name}
 use Rattle.disk_layout.specs.declared.slot.Slot.{Slot}
 use Rattle.file_changes.specs.Entries.{IsFirstNamed, entries_of}
@@ -68,7 +68,7 @@ pub record IsLaid (b : Image) (l : Layout) (name : List ℕ) (s : Slot) (c : Ima
 abbrev pub now_at : Image → Slot → Slot
 now_at img s = slot_in s.sector (sector img s.sector) s.number
 
--- Of the first file of that name, which has the content of a CVT in one chain, a file of GEOS was made. The disk is sound, and the
+-- A file of GEOS was made of the first file of that name, which has the content of a CVT in one chain. The disk is sound, and the
 -- file's CVT has that content, and what the CVT's entry says but for the name, the places and the block count.
 pub record IsGeosMade (b : Image) (l : Layout) (name cvt content : List ℕ) (c : Image) : Type 0 where
   pub bytes : List ℕ

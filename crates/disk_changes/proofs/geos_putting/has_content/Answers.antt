@@ -1,7 +1,6 @@
 -- The parts of the CVT, one after another.
-use Rattle.std.proofs.Common.{List, None, ap, ap₂, append_assoc, drop, subst, sym, ◌++◌, ◌∙◌, ◌≡◌, ℕ}
+use Rattle.std.proofs.Common.{List, ap, ap₂, append_assoc, drop, subst, sym, ◌++◌, ◌∙◌, ℕ}
 use Rattle.std.specs.Prelude.{Option, slice_range}
-use Rattle.d64_image.specs.Images.{sector}
 use Rattle.d64_image.specs.Memory.{disk_image}
 use Rattle.d64_image.specs.declared.place.Place.{Place}
 use Rattle.disk_changes.specs.GeosPuts.{leading}

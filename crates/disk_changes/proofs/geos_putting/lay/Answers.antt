@@ -1,5 +1,5 @@
 -- The blocks are laid, and then the entry is written.
-use Rattle.std.proofs.Common.{List, None, subst, sym}
+use Rattle.std.proofs.Common.{List, subst}
 use Rattle.std.specs.Prelude.{Option}
 use Rattle.d64_image.specs.Memory.{disk_image}
 use Rattle.d64_image.specs.declared.place.Place.{Place}

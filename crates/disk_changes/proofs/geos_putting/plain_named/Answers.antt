@@ -1,7 +1,6 @@
 -- The entries that were read are those of the layout.
-use Rattle.std.proofs.Common.{List, subst, ◌≡◌}
+use Rattle.std.proofs.Common.{List, subst}
 use Rattle.d64_image.specs.Memory.{disk_image}
-use Rattle.damaged_files.specs.reached.Directories.{IsReadSoFar}
 use Rattle.disk_changes.proofs.GeosPut.{named-is, named-low, says-no}
 use Rattle.disk_layout.specs.declared.slot.Slot.{Slot}
 use Rattle.disk_layout.specs.Layout.{is_rel}
