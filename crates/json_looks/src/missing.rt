@@ -113,20 +113,17 @@ fn add_error(
 /// Adds the object of a sector past track 35, if it wasn't read.
 fn add_past_error(
     alloc: Global,
-    image: &[u8],
     number: u16,
-    drawing: Option<&Drawing>,
+    entry: Option<&Slot>,
+    error: Option<u8>,
     values: &mut Vec<Value>,
 ) -> Result<(), AllocError>
-    ensures { OnOk result (map view values.new.items ≡ map view values.old.items ++ past_error_item number
-        (entry_past_of image.now (option_map (λ drawn. drawn_in drawn.now) drawing.entry) number)
-        (error_in_of image.now number)) }
+    ensures { OnOk result (map view values.new.items
+        ≡ map view values.old.items ++ past_error_item number (option_map (λ slot. slot.now) entry.entry) error) }
 {
-    let Some(error) = error_in(image, number) else {
-        return Ok(());
-    };
-    let entry = entry_past(image, drawing, number);
-    values.push(past_error_object(alloc, number, entry, error)?)?;
+    if let Some(error) = error {
+        values.push(past_error_object(alloc, number, entry, error)?)?;
+    }
     Ok(())
 }
 
@@ -142,7 +139,8 @@ fn add_errors_at(
         (entry_past_of image.now (option_map (λ drawn. drawn_in drawn.now) drawing.entry) n) (error_in_of image.now n)) numbers.now) }
 {
     for &number in numbers {
-        add_past_error(alloc, image, number, drawing, values)?;
+        let (entry, error) = (entry_past(image, drawing, number), error_in(image, number));
+        add_past_error(alloc, number, entry, error, values)?;
     }
     Ok(())
 }

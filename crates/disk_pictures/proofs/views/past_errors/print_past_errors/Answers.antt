@@ -1,7 +1,6 @@
 -- The lines of all sectors that weren't read.
-use Rattle.std.proofs.Common.{List, subst, ℕ, ◌∙◌}
+use Rattle.std.proofs.Common.{◌∙◌}
 use Rattle.std.proofs.lemmas.Result.{on_ok_weaker}
-use Rattle.std.specs.Prelude.{flat_map, option_map}
 use Rattle.disk_pictures.proofs.Past.{numbers-all}
 use Rattle.disk_pictures.proofs.views.past_errors.print_past_errors.Goals as goal
 
