@@ -137,5 +137,5 @@ pub record IsRowShown {W : Type 0} (contents : W → Option (List ℕ)) (name im
   pub drawn : Option Layout
   pub is_drawn : IsDrawnOf image drawn
   pub printed : Appends (contents old) (contents new) (row_as_is name found (map_in (disk_of image)) lack image
-      (length (error_items image drawn)) (length (beyond_items image drawn)))
+      (length (misread_items image drawn)) (length (beyond_items image drawn)))
   pub told : IsTrue whole ↔ (found ≡ None) × IsAllDrawn image drawn

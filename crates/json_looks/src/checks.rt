@@ -7,7 +7,7 @@ ghost use Rattle.json_looks.specs.Checks.{IsAllDrawn, IsCheckFault, IsCheckShown
 ghost use Rattle.disk_layout.specs.View.{blocks_free};
 ghost use Rattle.hex.specs.Hex.{encode_lower};
 ghost use Rattle.json_looks.specs.Entries.{count_if, typed};
-ghost use Rattle.json_looks.specs.Missing.{beyond_items, error_items};
+ghost use Rattle.json_looks.specs.Missing.{beyond_items, misread_items};
 ghost use Rattle.json_looks.specs.Objects.{IsObjectFault, IsObjectPrinted};
 ghost use Rattle.line_text.specs.bytes.Texts.{text_of};
 ghost use Rattle.json_looks.specs.Verdicts.{found_place, found_text};
@@ -281,10 +281,10 @@ fn count_missing(
 ) -> Result<Missing, AllocError>
     requires { 174848 ≤ length image.now }
     ensures { IfOk result (λ missing.
-        (missing.errors ≡ length (error_items image.now (option_map (λ drawn. drawn_in drawn.now) drawing.entry)))
+        (missing.errors ≡ length (misread_items image.now (option_map (λ drawn. drawn_in drawn.now) drawing.entry)))
         × (missing.beyond ≡ length (beyond_items image.now (option_map (λ drawn. drawn_in drawn.now) drawing.entry)))) }
 {
-    let errors = error_values(alloc, image, drawing)?.len();
+    let errors = misread_values(alloc, image, drawing)?.len();
     let beyond = beyond_values(alloc, image, drawing)?.len();
     Ok(Missing { errors, beyond })
 }
