@@ -35,7 +35,7 @@ module _ (image name : List ℕ) (cut : Loss) (a b : MemDisk) (whole : IsUsableD
     pub of-file : IsOf (disk_image b) v
     of-file =
         let x = found.ok whole.layout sound in
-        (whole.layout, entry_of v, x.0, at x.0 x.1.1)
+        (whole.layout, entry_of v, x.0, at x.0 x.2)
 
     -- what is made of the lines over its records
     pub typed-text : (set : CharacterSet) (given plain : List ℕ)
@@ -49,10 +49,10 @@ module _ (image name : List ℕ) (cut : Loss) (a b : MemDisk) (whole : IsUsableD
             layout = whole.layout;
             is_layout = whole.usable.clean.layout;
             number = entry_of v;
-            first = x.1.0;
+            first = x.1;
           },
           subst (λ (i : Image). AreMadeOf set (records i x.0) (lines given) plain) (found.reads.image ∙ is)
-              (made whole.layout (entry_of v) x.0 (at x.0 x.1.1)),
+              (made whole.layout (entry_of v) x.0 (at x.0 x.2)),
         )
 
   no-other : (e : RelFault) → e ≢ rel.NotFound → e ≢ rel.Device → (e ≡ rel.NotFound) ⊎ (e ≡ rel.Device) → ⊥

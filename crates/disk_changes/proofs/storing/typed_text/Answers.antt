@@ -5,8 +5,10 @@ use Rattle.disk_changes.proofs.TypedRecords.{find-refused, of-file, sound-disk, 
 use Rattle.disk_changes.proofs.storing.typed_text.Goals as goal
 
 pub find-requires : goal.find-requires
-find-requires c = sound-disk c.args.image.now c.args.name.now c.args.cut c.in_ok-disk.disk c.find.new.disk
-    c.in_ok-disk.ensures.ok.0 c.in_ok-disk.ensures.ok.1
+find-requires c = record {
+  sound = sound-disk c.args.image.now c.args.name.now c.args.cut c.in_ok-disk.disk c.in_ok-disk.disk c.in_ok-disk.ensures.ok.0
+      c.in_ok-disk.ensures.ok.1;
+}
 
 pub returns-in_err-file-clause-err : goal.returns-in_err-file-clause-err
 returns-in_err-file-clause-err c =
@@ -24,6 +26,3 @@ pub returns-in-Ok-clause-ok : goal.returns-in-Ok-clause-ok
 returns-in-Ok-clause-ok c =
     typed-text c.args.image.now c.args.name.now c.args.cut c.in_ok-disk.disk c.find.new.disk c.in_ok-disk.ensures.ok.0
     c.in_ok-disk.ensures.ok.1 c.in_ok-file.file c.in_ok-file.ensures c.args.set c.args.text.now _ c.in-Ok.ensures
-
-pub returns-in-Err-clause-err : goal.returns-in-Err-clause-err
-returns-in-Err-clause-err c = c.in_ok-disk.ensures.ok.0.taken.0
