@@ -9,8 +9,8 @@ returns-in-Ok-clause-ok g c =
     c.print_drawn.new.out status c.args.lines.now c.in-Ok.drawing c.in-Ok.verdict c.in-Ok.ensures.ok c.requires told.0 told.1)
     c.print_drawn.ensures.ok
 
-pub returns-clause-ok : goal.returns-clause-ok
-returns-clause-ok g c =
+pub returns-in-Err-clause-ok : goal.returns-in-Err-clause-ok
+returns-in-Err-clause-ok g c =
     IfOk-weaker c.print_undrawn.result _ _ (λ status told. fault-tile g.W.Write.contents c.args.path.now c.args.image.now c.args.out.now
     c.print_undrawn.new.out status c.in-Err.fault c.in-Err.ensures.err c.in-Err.ensures.not_file told.0 told.1)
     c.print_undrawn.ensures.ok
