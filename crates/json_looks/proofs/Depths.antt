@@ -20,7 +20,10 @@ use Rattle.json_looks.specs.Checks.{check_data, fewer_end, short_end, unchecked_
 use Rattle.json_looks.specs.Entries.{count_if, entry_data, geos_members, record_length_of, typed}
 use Rattle.json_looks.specs.FreeCounts.{free_data, track_data}
 use Rattle.json_looks.specs.Listings.{list_data}
-use Rattle.json_looks.specs.Missing.{beyond_items, error_item, error_items, past_item, past_items, string_if}
+use Rattle.json_looks.specs.Missing.{beyond_items, error_item, error_items, misread_items, past_error_item, past_error_items}
+use Rattle.json_looks.specs.Missing.{past_item, past_items, string_if}
+use Rattle.disk_pictures.specs.PastErrors.{entry_past}
+use Rattle.long_chains.specs.Sectors.{error_in, misread_past}
 use Rattle.json_looks.specs.Objects.{up_to}
 use Rattle.json_looks.specs.SectorMaps.{file_number, map_data, sector_data}
 use Rattle.json_looks.specs.Verdicts.{found_place}
@@ -138,12 +141,24 @@ errors-flat image drawn =
     gathered-flat 1 (λ p. error_item p (entry_at drawn p) (error_of image p))
     (λ p. error-flat p (entry_at drawn p) (error_of image p)) places
 
+past-error-flat : (n : ℕ) (entry : Option Slot) (error : Option ℕ) → AreFlat 1 (past_error_item n entry error)
+past-error-flat n entry None = tt
+past-error-flat n entry (Some e) =
+    let name = text-flat (option_map (λ s. text_of (name_of s)) entry) in
+    (omega arith, tt)
+
+misread-flat : (image : List ℕ) (drawn : Option Layout) → AreFlat 1 (misread_items image drawn)
+misread-flat image drawn =
+    both-flat 1 (error_items image drawn) (past_error_items image drawn) (errors-flat image drawn)
+    (gathered-flat 1 (λ n. past_error_item n (entry_past image drawn n) (error_in image n))
+    (λ n. past-error-flat n (entry_past image drawn n) (error_in image n)) (misread_past image))
+
 -- a check
 pub check-flat : (name image : List ℕ) (found : Option Fault) (files : List Slot) (bytes : Sector) (lack : Option Shortfall)
     (drawn : Option Layout) → depth (check_data name image found files bytes lack drawn) ≤ 127
 check-flat name image found files bytes lack drawn =
     let beyond = items-flat 1 (beyond_items image drawn) (beyond-flat image drawn) in
-    let errors = items-flat 1 (error_items image drawn) (errors-flat image drawn) in
+    let errors = items-flat 1 (misread_items image drawn) (misread-flat image drawn) in
     let fewer = text-flat (option_map place_text (fewer_end lack)) in
     let name_data : Slot → Data = λ s. typed (name_of s) in
     let names = items-flat 0 (map name_data files) (mapped-flat 0 name_data (λ s. omega arith) files) in
