@@ -14,6 +14,7 @@ use Rattle.disk_changes.specs.Repairs.{frees}
 use Rattle.disk_changes.specs.declared.changes.Change.{Change}
 use Rattle.disk_changes.specs.declared.changes.ChangeKind.{ChangeKind}
 use Rattle.disk_changes.specs.declared.changes.ChangeKind.TheVariants as kinds
+use Rattle.disk_changes.specs.declared.changes.Columns.TheVariants as columns
 use Rattle.disk_changes.specs.declared.changes.Changed.{Changed}
 use Rattle.command_faults.specs.declared.faults.CommandFault.{CommandFault}
 use Rattle.file_changes.specs.Names.{name_bytes}
@@ -75,6 +76,10 @@ barred-in-memory (kinds.CopyFile from name to) loss source image =
     copied-in-memory source (name_bytes name) (name_bytes to) image loss
 barred-in-memory (kinds.PutGeos file name) loss source image =
     geos-put-in-memory image (name_bytes name) source loss
+barred-in-memory (kinds.Store records columns.One name) loss source image = (λ why. why, λ why. why)
+barred-in-memory (kinds.Store records (columns.Several form) name) loss source image = (λ why. why, λ why. why)
+barred-in-memory (kinds.Store records (columns.Text set) name) loss source image =
+    (λ why. ⊎_elim (λ w. w) (λ w. w.2) why, λ why. ⊎_elim (λ w. w) (λ w. w.2) why)
 barred-in-memory kinds.Sort loss source image =
     (λ why. ⊎_elim (λ w. w) (λ w. w.3) why, λ why. ⊎_elim (λ w. w) (λ w. w.3) why)
 barred-in-memory _ loss source image = (λ why. why, λ why. why)
