@@ -216,7 +216,11 @@ fn typed_pieces(set: CharacterSet, text: &[u8]) -> Option<usize> {
     let mut bytes = ArrayVec::new();
     let mut count = 0usize;
     let mut rest = text;
-    while let [first, ..] = rest {
+    // Each piece has a byte at least.
+    for _ in 0..text.len() {
+        let Some(first) = rest.first() else {
+            return Some(count);
+        };
         let length = piece_of(*first);
         if rest.len() < length {
             return None;
