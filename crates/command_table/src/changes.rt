@@ -141,7 +141,7 @@ const FILE_TYPE: Value = Value {
     name: "TYPE",
     word: Some("type"),
     count: Count::One,
-    help: "The file's type: prg, seq or usr; cvt for the GEOS file of a CVT",
+    help: "prg, seq or usr; cvt makes the GEOS file of a CVT",
 };
 
 /// `put IMAGE NAME FILE --type TYPE [--accept-loss] [--dry-run]`
