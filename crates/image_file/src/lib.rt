@@ -29,6 +29,7 @@ pub use noted::subjects::Subject;
 pub use paths::host::{HostFiles, PlainFiles};
 pub use paths::names::{FileName, Identity, NameStays, leads_to};
 pub use paths::opening::{opened_to_change, opened_to_read, regular, regular_at};
+pub use paths::system::SystemFiles;
 pub use reading::{MOST_SCRIPT, read_image, read_script};
 pub use remaining::{EndedFile, private_mode};
 pub use replacing::{DIRECTORY_END, DIRECTORY_START, SPOILED_DIRECTORY, replace_image};

@@ -9,7 +9,7 @@ use crate::noted::noted_file::NotedFile;
 use crate::noted::noted_reader::NotedReader;
 use crate::noted::subjects::Subject;
 use crate::paths::host::{HostFiles, PlainFiles};
-use crate::paths::system::folder_of;
+use crate::paths::system::{SystemFiles, folder_of};
 use std::alloc::{Allocator, Global};
 use std::fmt::Display;
 use std::fs::Metadata;
@@ -88,7 +88,7 @@ impl<R: Alloc> Alloc for NotedRuntime<'_, '_, R> {
     }
 }
 
-impl<'n, 'a, R: HostFiles> HostFiles for NotedRuntime<'n, 'a, R> {
+impl<'n, 'a, R: SystemFiles> HostFiles for NotedRuntime<'n, 'a, R> {
     type File = NotedFile<'n, 'a, R::File>;
 
     // what its system says
@@ -124,10 +124,6 @@ impl<'n, 'a, R: HostFiles> HostFiles for NotedRuntime<'n, 'a, R> {
         Ok(file)
     }
 
-    fn see_writable(&self, path: &str) -> io::Result<()> {
-        self.noted(path, self.rt.see_writable(path))
-    }
-
     fn open_to_write(&self, path: &str) -> io::Result<NotedFile<'n, 'a, R::File>> {
         self.opened(path, self.rt.open_to_write(path))
     }
@@ -161,7 +157,7 @@ impl<'n, 'a, R: HostFiles> HostFiles for NotedRuntime<'n, 'a, R> {
     }
 }
 
-impl<R: HostFiles> PlainFiles for NotedRuntime<'_, '_, R> {}
+impl<R: SystemFiles> PlainFiles for NotedRuntime<'_, '_, R> {}
 
 impl<'n, 'a, R: HostInput> HostInput for NotedRuntime<'n, 'a, R> {
     type Given = NotedReader<'n, 'a, R::Given>;
