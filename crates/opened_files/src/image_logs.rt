@@ -13,7 +13,7 @@ use crate::locks::{lock_exclusive, lock_shared};
 use crate::losses::Loss;
 use command_faults::CommandFault;
 use d64_image::IMAGE_BYTES;
-use image_file::{EndedFile, HostFiles, Locks, opened_to_change, opened_to_read};
+use image_file::{EndedFile, HostFiles, Locks, opened_to_change, opened_to_read, regular_at};
 use image_log::{
     HostLogs, ImageFolder, ImageView, LogFault, LogNames, land_in, sync_names, untag_file, view_in,
 };
@@ -141,8 +141,18 @@ where
     Ok(file)
 }
 
-/// Refuses the image at a path as a change of it would: `TwoNames` if it has a second name, or is mounted by itself. Standard
-/// input, which no change takes, isn't refused.
+/// Refuses the file at a path if a change couldn't open it to write it: `File`. Nothing is written. A pipe, a device and a
+/// folder are refused without being opened.
+fn see_writable<R: HostFiles>(rt: &R, path: &str) -> Result<(), CommandFault>
+    requires { May R.rights rt.now Look path.now }
+    ensures { IfErr result IsUnread }
+{
+    regular_at(rt, path)?;
+    Ok(rt.see_writable(path)?)
+}
+
+/// Refuses the image at a path as a change of it would: `File` if it can't be written; `TwoNames` if it has a second name, or is
+/// mounted by itself. Standard input, which no change takes, isn't refused. Nothing is written.
 pub fn see_changeable<F, R>(rt: &R, path: &str) -> Result<(), CommandFault>
 where
     F: Locks + OpenFile + Drop,
@@ -153,6 +163,7 @@ where
     if path == STANDARD_INPUT {
         return Ok(());
     }
+    see_writable(rt, path)?;
     let file = opened_shared(rt, path)?;
     see_one_place(rt, path, &file)
 }

@@ -3,7 +3,8 @@ use Rattle.std.specs.Prelude.{◌≡◌, ℕ, Bool, List, true}
 
 -- what is done with the file at a path
 pub data Use : Type 0 where
-  -- the system is asked what stands there, where the path leads, or to sync the folder's names
+  -- the system is asked what stands there, where the path leads, whether the file there may be changed, or to sync the
+  -- folder's names
   Look : Use
   -- it is opened to be read
   Read : Use

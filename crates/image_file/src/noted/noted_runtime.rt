@@ -124,6 +124,10 @@ impl<'n, 'a, R: SystemFiles> HostFiles for NotedRuntime<'n, 'a, R> {
         Ok(file)
     }
 
+    fn see_writable(&self, path: &str) -> io::Result<()> {
+        self.noted(path, self.rt.see_writable(path))
+    }
+
     fn open_to_write(&self, path: &str) -> io::Result<NotedFile<'n, 'a, R::File>> {
         self.opened(path, self.rt.open_to_write(path))
     }

@@ -58,6 +58,12 @@ pub trait HostFiles {
         ensures bytes { IfOk result (λ file. AreOf stands self.now path.now (Self.File.Read.remaining file)) }
         ensures opened { IfOk result (λ file. traces.opened self.now ToWrite path.now file) };
 
+    /// Refuses the file at a path if it can't be opened as `open_to_change` opens it, with the error of that call. The file is
+    /// closed again, and nothing of it is read or written.
+    fn see_writable(&self, path: &str) -> io::Result<()>
+        requires { May rights self.now Look path.now }
+        ensures { IsMissing stands self.now path.now → IsErr result };
+
     /// Opens the file at a path to write it; it needn't be readable. It is neither made nor cut.
     fn open_to_write(&self, path: &str) -> io::Result<Self::File>
         requires { May rights self.now ToWrite path.now }

@@ -83,6 +83,11 @@ pub trait SystemFiles {
         ensures bytes { IfOk result (λ file. AreOf stands self.now path.now (Self.File.Read.remaining file)) }
         ensures opened { IfOk result (λ file. traces.opened self.now ToWrite path.now file) };
 
+    /// `HostFiles::see_writable`.
+    fn see_writable(&self, path: &str) -> io::Result<()>
+        requires { May rights self.now Look path.now }
+        ensures { IsMissing stands self.now path.now → IsErr result };
+
     /// `HostFiles::open_to_write`.
     fn open_to_write(&self, path: &str) -> io::Result<Self::File>
         requires { May rights self.now ToWrite path.now }
@@ -164,6 +169,11 @@ impl<R: Files> SystemFiles for R {
 
     fn open_to_change(&self, path: &str) -> io::Result<R::File> {
         OpenOptions::new().read(true).write(true).open(self, path)
+    }
+
+    fn see_writable(&self, path: &str) -> io::Result<()> {
+        OpenOptions::new().read(true).write(true).open(self, path)?;
+        Ok(())
     }
 
     fn open_to_write(&self, path: &str) -> io::Result<R::File> {

@@ -179,6 +179,11 @@ impl<'a> HostFiles for Snapshot<'a> {
         self.opened_to_write(path)
     }
 
+    fn see_writable(&self, path: &str) -> io::Result<()> {
+        self.found(path)?;
+        Ok(())
+    }
+
     fn open_to_write(&self, path: &str) -> io::Result<SnapshotFile<'a>> {
         self.opened_to_write(path)
     }
