@@ -6,7 +6,7 @@ use Rattle.std.proofs.lemmas.List.{drop_at, length-drop, length-replicate, lengt
 use Rattle.std.proofs.lemmas.Option.{same_Some, slice_get-map}
 use Rattle.std.proofs.lemmas.List.Elements.{Contains-append_left, Contains-append_right}
 use Rattle.d64_image.specs.History.{History}
-use Rattle.d64_image.specs.Images.{Image, put, sector}
+use Rattle.d64_image.specs.Images.{Image, IsImage, put, sector}
 use Rattle.d64_image.specs.Offsets.{overwritten}
 use Rattle.d64_image.specs.declared.place.Place.{Place}
 use Rattle.d64_image.specs.Memory.{disk_image, memory, sectors_in}
@@ -14,7 +14,8 @@ use Rattle.damaged_files.specs.declared.sides.planning.Loss.{Loss}
 use Rattle.damaged_files.specs.declared.sides.planning.Loss.TheVariants.{Accepted, Refused}
 use Rattle.disk_changes.proofs.UnsoundArt.{sound-artless}
 use Rattle.disk_changes.specs.Changes.{IsChanged, IsDoneBy, IsFit}
-use Rattle.disk_changes.specs.Copies.{HasLockOf, IsCopyAs, IsRecordCopyOf}
+use Rattle.disk_changes.specs.Copies.{HasLockOf, IsCopyAs, IsEmptyCopyOf, IsRecordCopyOf}
+use Rattle.disk_changes.specs.Empties.{IsEmptied}
 use Rattle.disk_changes.specs.Rebuilds.{IsBuiltAnew, IsRebuilt}
 use Rattle.disk_changes.specs.declared.changes.Lock.TheVariants.{Set}
 use Rattle.changed_life.proofs.Rebuilt.{built-keeps, named-same}
@@ -465,9 +466,35 @@ records-copied entry given to image cut made x s shop =
     (other (codes "REQUESTS") h.requests_place h.requests_file h.requests_first)) in
     lock-after a entry to x.second made.disk filled x.lock s shop
 
+-- a file that gives its block back
+emptied-keeps : (b : Image) (l : Layout) (name : List ℕ) (made : Changed) → IsImage b → IsLayout b l
+    → IsEmptied b l name (disk_image made.disk) → KeepsShops b (disk_image made.disk)
+emptied-keeps b l name made whole sound x = keeps-both b (sectors_in x.bytes) (disk_image made.disk)
+    (laid-keeps b l name x.slot (sectors_in x.bytes) whole (sectors-full x.bytes) sound (record {
+      named = x.named;
+      blocks = x.block ∷ [];
+      last = x.last;
+      reached = x.one;
+      middle = b;
+      beside = λ q not. refl;
+      entry = x.entry;
+      is = x.is;
+    }) x.empty.plain x.sound.layout x.sound.sound)
+    (map-keeps x.bytes x.given.0 made x.sound x.given.2)
+
+empty-copied : (entry : Slot) (to image : List ℕ) (cut : Loss) (made : Changed)
+    → IsEmptyCopyOf entry to image cut made → KeepsShops (sectors_in image) (disk_image made.disk)
+empty-copied entry to image cut made x =
+    let a = sectors_in image in
+    let b = disk_image x.first.disk in
+    lock-after a entry to x.second made.disk (keeps-both a b (disk_image x.second.disk)
+    (put-keeps image to x.kind [] cut x.first x.put)
+    (emptied-keeps b x.put.after.layout to x.second (memory.whole x.first.disk) x.put.after.sound x.empty)) x.lock
+
 copied-as : (entry : Slot) (content source name to image : List ℕ) (cut : Loss) (made : Changed)
     → IsCopyAs entry content source name to image cut made → KeepsShops (sectors_in image) (disk_image made.disk)
-copied-as entry content source name to image cut made (inl (plain, x)) =
+copied-as entry content source name to image cut made (inl (plain, inl (none, x))) = empty-copied entry to image cut made x
+copied-as entry content source name to image cut made (inl (plain, inr (some, x))) =
     lock-after (sectors_in image) entry to x.first made.disk (put-keeps image to x.kind content cut x.first x.put) x.lock
 copied-as entry content source name to image cut made (inr (relative, given, text, x)) =
     records-copied entry given to image cut made x

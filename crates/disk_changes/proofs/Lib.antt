@@ -10,6 +10,7 @@ pub mod Remedied
 pub mod Renamed
 pub mod RecordCopies
 pub mod Repaired
+pub mod Rewritten
 pub mod ShopFiles
 pub mod SidesBuilt
 pub mod Slots

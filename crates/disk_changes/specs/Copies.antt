@@ -1,14 +1,16 @@
 -- What comes of copying a file of another image into an image (1541 User's Guide, directory format). Our own.
-use Rattle.std.specs.Prelude.{◌≡◌, ◌≢◌, ◌⊎◌, ◌%◌, IsTrue, List, None, Option, Some, codes, if◌then◌else◌, length, nat_eq, ℕ}
+use Rattle.std.specs.Prelude.{◌≡◌, ◌≢◌, ◌⊎◌, ◌%◌, [], IsTrue, List, None, Option, Some, codes, if◌then◌else◌, length, nat_eq, slice_index, ℕ}
 use Rattle.command_faults.specs.declared.faults.CommandFault.{CommandFault}
 use Rattle.command_faults.specs.declared.faults.CommandFault.TheVariants as faults
 use Rattle.d64_image.specs.Memory.{disk_image, sectors_in}
 use Rattle.d64_image.specs.declared.mem_disk.MemDisk.{MemDisk}
 use Rattle.damaged_files.specs.cut.Told.{IsToldOfImage}
 use Rattle.damaged_files.specs.declared.sides.planning.Loss.{Loss}
+use Rattle.disk_changes.specs.Empties.{IsEmptied}
 use Rattle.disk_changes.specs.Locks.{IsLockRefusal, IsLockSet}
 use Rattle.disk_changes.specs.Makes.{IsMade, IsMakeRefusal}
 use Rattle.disk_changes.specs.Puts.{IsPut, IsPutRefusal}
+use Rattle.disk_changes.specs.Rewrites.{IsUnlaid}
 use Rattle.disk_changes.specs.Stores.{IsStored, IsStoreRefusal}
 use Rattle.disk_changes.specs.declared.changes.Changed.{Changed}
 use Rattle.disk_changes.specs.declared.changes.Lock.TheVariants.{Set}
@@ -49,6 +51,27 @@ pub record IsCopyOf (entry : Slot) (content to image : List ℕ) (cut : Loss) (m
   pub lock : HasLockOf entry to first made.disk
   pub text : made.text.items ≡ codes "COPIED\n"
 
+-- the entry names no first block
+abbrev pub NamesNoBlock : Slot → Type 0
+NamesNoBlock s = slice_index s.bytes 3 ≡ 0
+
+-- A file with one block and the entry's type is put on the disk that comes of it, and gives this block back; and it is locked if the
+-- entry is; and what is printed.
+pub record IsEmptyCopyOf (entry : Slot) (to image : List ℕ) (cut : Loss) (made : Changed) : Type 0 where
+  pub kind : FileType
+  pub kind_is : plain_type entry ≡ Some kind
+  pub first : Changed
+  pub put : IsPut image to kind [] cut first
+  pub second : Changed
+  pub empty : IsEmptied (disk_image first.disk) put.after.layout to (disk_image second.disk)
+  pub lock : HasLockOf entry to second made.disk
+  pub text : made.text.items ≡ codes "COPIED\n"
+
+-- the file with this entry, which isn't relative, is copied with its bytes, or without a block if it has none
+abbrev pub IsPlainCopyOf : Slot → (content to image : List ℕ) → Loss → Changed → Type 0
+IsPlainCopyOf entry content to image cut made = (NamesNoBlock entry × IsEmptyCopyOf entry to image cut made)
+    ⊎ (¬ (NamesNoBlock entry) × IsCopyOf entry content to image cut made)
+
 -- the text is the lines of the records of the first closed relative file of that name, and that isn't cut short
 abbrev pub IsTextOf : (source name text : List ℕ) → Type 0
 IsTextOf source name text = (file : File) × (is : IsRecordFile source name file) × IsToldOfImage source (Some is.number) None
@@ -67,9 +90,9 @@ pub record IsRecordCopyOf (entry : Slot) (given to image : List ℕ) (cut : Loss
   pub lock : HasLockOf entry to second made.disk
   pub text : made.text.items ≡ codes "COPIED\n"
 
--- the file with this entry is relative, and its records are copied so; or its bytes are
+-- the file with this entry is relative, and its records are copied so; or its bytes are; or it has no block, and its copy has none
 abbrev pub IsCopyAs : Slot → (content source name to image : List ℕ) → Loss → Changed → Type 0
-IsCopyAs entry content source name to image cut made = (¬ (IsTrue (is_rel entry)) × IsCopyOf entry content to image cut made)
+IsCopyAs entry content source name to image cut made = (¬ (IsTrue (is_rel entry)) × IsPlainCopyOf entry content to image cut made)
     ⊎ (IsTrue (is_rel entry) × (given : List ℕ) × IsTextOf source name given × IsRecordCopyOf entry given to image cut made)
 
 -- The first closed file of that name of the other image is copied so.
@@ -89,6 +112,20 @@ abbrev pub IsNoCopyOf : Slot → (content to image : List ℕ) → Loss → Comm
 IsNoCopyOf entry content to image cut why = ((why ≡ faults.NoFile) × (plain_type entry ≡ None))
     ⊎ ((kind : FileType) × (plain_type entry ≡ Some kind) × (IsPutRefusal image to kind content cut why
     ⊎ ((first : Changed) × IsPut image to kind content cut first × IsUnlockedFor entry to first why)))
+
+-- why a file without a block, with this entry, isn't copied: it has no such type; or it isn't put on the disk, or doesn't give its block
+-- back, or isn't locked there
+abbrev pub IsNoEmptyCopyOf : Slot → (to image : List ℕ) → Loss → CommandFault → Type 0
+IsNoEmptyCopyOf entry to image cut why = ((why ≡ faults.NoFile) × (plain_type entry ≡ None))
+    ⊎ ((kind : FileType) × (plain_type entry ≡ Some kind) × (IsPutRefusal image to kind [] cut why
+    ⊎ ((first : Changed) × (put : IsPut image to kind [] cut first) × (IsUnlaid why
+    ⊎ ((second : Changed) × IsEmptied (disk_image first.disk) put.after.layout to (disk_image second.disk)
+    × IsUnlockedFor entry to second why)))))
+
+-- why a file that isn't relative isn't copied
+abbrev pub IsNoPlainCopyOf : Slot → (content to image : List ℕ) → Loss → CommandFault → Type 0
+IsNoPlainCopyOf entry content to image cut why = (NamesNoBlock entry × IsNoEmptyCopyOf entry to image cut why)
+    ⊎ (¬ (NamesNoBlock entry) × IsNoCopyOf entry content to image cut why)
 
 -- why the records of a file aren't all there: as they aren't all printed
 abbrev pub IsNoTextOf : (source name : List ℕ) → CommandFault → Type 0
@@ -111,7 +148,7 @@ IsNoRecordCopyOf entry given to image cut why = ((why ≡ faults.NoFile) × ¬ (
 
 -- why the file with this entry isn't copied
 abbrev pub IsNoCopyAs : Slot → (content source name to image : List ℕ) → Loss → CommandFault → Type 0
-IsNoCopyAs entry content source name to image cut why = (¬ (IsTrue (is_rel entry)) × IsNoCopyOf entry content to image cut why)
+IsNoCopyAs entry content source name to image cut why = (¬ (IsTrue (is_rel entry)) × IsNoPlainCopyOf entry content to image cut why)
     ⊎ (IsTrue (is_rel entry) × (IsNoTextOf source name why
     ⊎ ((given : List ℕ) × IsTextOf source name given × IsNoRecordCopyOf entry given to image cut why)))
 

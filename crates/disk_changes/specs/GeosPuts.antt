@@ -11,6 +11,7 @@ use Rattle.damaged_files.specs.declared.sides.planning.Loss.{Loss}
 use Rattle.damaged_files.specs.reached.Reached.{IsReached}
 use Rattle.disk_changes.specs.Judged.{IsSoundDisk}
 use Rattle.disk_changes.specs.Puts.{IsPut, IsPutRefusal}
+use Rattle.disk_changes.specs.Rewrites.{IsPlainNamed, IsUnlaid, now_at}
 use Rattle.disk_changes.specs.Sorts.{with_entry}
 use Rattle.disk_changes.specs.declared.changes.Changed.{Changed}
 use Rattle.disk_layout.specs.Directory.{slot_in, type_byte}
@@ -47,12 +48,6 @@ pub record HasEntryOf (s : Slot) (name cvt : List ℕ) : Type 0 where
   pub kind : type_byte s ≡ slice_index cvt 0
   pub geos : slice_range s.bytes 23 30 ≡ slice_range cvt 21 28
 
--- s is the first entry of that name, and isn't that of a relative file
-pub record IsPlainNamed (l : Layout) (name : List ℕ) (s : Slot) : Type 0 where
-  pub number : ℕ
-  pub first : IsFirstNamed (entries_of l) (slot_name name) number s
-  pub plain : is_rel s ≡ false
-
 -- From b to c only the blocks of the first file of that name have changed, and the entry of this file, which isn't relative.
 pub record IsLaid (b : Image) (l : Layout) (name : List ℕ) (s : Slot) (c : Image) : Type 0 where
   pub named : IsPlainNamed l name s
@@ -63,10 +58,6 @@ pub record IsLaid (b : Image) (l : Layout) (name : List ℕ) (s : Slot) (c : Ima
   pub beside : SameBeside b blocks middle
   pub entry : Slot
   pub is : c ≡ with_entry middle s entry
-
--- the entry of this slot, as the image has it
-abbrev pub now_at : Image → Slot → Slot
-now_at img s = slot_in s.sector (sector img s.sector) s.number
 
 -- A file of GEOS was made of the first file of that name, which has the content of a CVT in one chain. The disk is sound, and the
 -- file's CVT has that content, and what the CVT's entry says but for the name, the places and the block count.
@@ -87,10 +78,6 @@ pub record IsGeosPut (image name cvt : List ℕ) (cut : Loss) (made : Changed) :
   pub put : IsPut image name Usr content cut first
   pub laid : IsGeosMade (disk_image first.disk) put.after.layout name cvt content (disk_image made.disk)
   pub text : made.text.items ≡ codes "PUT\n"
-
--- why what was made isn't taken: it isn't such a file, or the disk isn't sound, or there was no memory
-abbrev pub IsUnlaid : CommandFault → Type 0
-IsUnlaid why = (why ≡ faults.NoFile) ⊎ ((why ≡ faults.NoMemory) ⊎ ((bytes : List ℕ) × IsSoundFault bytes why))
 
 -- why a file of GEOS isn't put there: the source isn't a whole CVT; or its content can't be put there; or what came of it isn't taken
 abbrev pub IsGeosPutRefusal : (image name cvt : List ℕ) → Loss → CommandFault → Type 0

@@ -5,6 +5,7 @@ pub mod Changes
 pub mod Copies
 pub mod Cvts
 pub mod Deletes
+pub mod Empties
 pub mod GeosPuts
 pub mod Judged
 pub mod Locks
@@ -14,6 +15,7 @@ pub mod Rebuilds
 pub mod Remedies
 pub mod Renames
 pub mod Repairs
+pub mod Rewrites
 pub mod ShopFiles
 pub mod Sorts
 pub mod Stores

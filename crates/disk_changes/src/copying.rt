@@ -1,7 +1,8 @@
 //! A file of another image copied into an image.
 ghost use Rattle.std.specs.Prelude.{◌≡◌, ◌≤◌, ◌⊎◌, ◌↔◌, ℕ, IfErr, IfOk, IsTrue, List, MatchOption, length};
 ghost use Rattle.d64_image.specs.Memory.{disk_image, sectors_in};
-ghost use Rattle.disk_changes.specs.Copies.{HasLockOf, IsCopied, IsCopyOf, IsCopyRefusal, IsNoCopyOf, IsUnlockedFor};
+ghost use Rattle.disk_changes.specs.Copies.{HasLockOf, IsCopied, IsCopyOf, IsCopyRefusal, IsEmptyCopyOf, IsNoCopyOf};
+ghost use Rattle.disk_changes.specs.Copies.{IsNoEmptyCopyOf, IsNoPlainCopyOf, IsPlainCopyOf, IsUnlockedFor};
 ghost use Rattle.disk_changes.specs.Copies.{IsNoRecordCopyOf, IsNoTextOf, IsRecordCopyOf, IsTextOf};
 ghost use Rattle.disk_changes.specs.Copies.{plain_type as plain_type_of};
 ghost use Rattle.disk_layout.specs.Layout.{is_rel, record_length};
@@ -9,6 +10,7 @@ ghost use Rattle.file_changes.specs.Deletes.{IsLocked};
 ghost use Rattle.rel_records.specs.File.{IsLength};
 
 use crate::changes::{Changed, Lock};
+use crate::emptying::{emptied, names_no_block};
 use crate::locking::relocked;
 use crate::making::made;
 use crate::outcomes::{changed, in_memory};
@@ -92,6 +94,48 @@ fn copy_of(
     changed(alloc, disk, b"COPIED\n")
 }
 
+/// The image with a new file of this name that has no block, and the type and the lock of an entry. `NoFile` if that is of no PRG, SEQ or
+/// USR file. A file of one block is put there, which then gives this block back: `DiskFull` if there is none.
+fn empty_copy(
+    alloc: Global,
+    entry: &Slot,
+    to: &[u8],
+    image: &[u8],
+    cut: Loss,
+) -> Result<Changed, CommandFault>
+    requires to { length to.now ≤ 16 }
+    ensures ok { IfOk result (IsEmptyCopyOf entry.now to.now image.now cut) }
+    ensures err { IfErr result (IsNoEmptyCopyOf entry.now to.now image.now cut) }
+{
+    let Some(kind) = plain_type(entry) else {
+        return Err(CommandFault::NoFile);
+    };
+    let first = put(alloc, image, to, kind, &[], cut)?;
+    let empty = emptied(alloc, first.disk, to)?;
+    let second = changed(alloc, empty, b"COPIED\n")?;
+    let disk = with_lock_of(alloc, entry, to, second)?;
+    changed(alloc, disk, b"COPIED\n")
+}
+
+/// The image with a copy of a file that isn't relative, which has these bytes: of one without a block if the entry names none.
+fn plain_copy(
+    alloc: Global,
+    entry: &Slot,
+    content: &[u8],
+    to: &[u8],
+    image: &[u8],
+    cut: Loss,
+) -> Result<Changed, CommandFault>
+    requires to { length to.now ≤ 16 }
+    ensures ok { IfOk result (IsPlainCopyOf entry.now content.now to.now image.now cut) }
+    ensures err { IfErr result (IsNoPlainCopyOf entry.now content.now to.now image.now cut) }
+{
+    if names_no_block(entry) {
+        return empty_copy(alloc, entry, to, image, cut);
+    }
+    copy_of(alloc, entry, content, to, image, cut)
+}
+
 /// The lines of the records of a source's first closed relative file of that name, as `records_image` prints them. That file isn't cut
 /// short.
 fn records_text(alloc: Global, source: &[u8], name: &[u8]) -> Result<Vec<u8>, CommandFault>
@@ -162,7 +206,7 @@ fn relative_copy(
 }
 
 /// The image with a copy of the first closed file of that name of another image, which gets the name `to`: of its records if it
-/// is relative, otherwise of its bytes.
+/// is relative, otherwise of its bytes; without a block if it has none.
 pub(crate) fn copied(
     alloc: Global,
     image: &[u8],
@@ -179,5 +223,5 @@ pub(crate) fn copied(
     if is_relative(&entry) {
         return relative_copy(alloc, &entry, source, name, to, image, cut);
     }
-    copy_of(alloc, &entry, content.as_slice(), to, image, cut)
+    plain_copy(alloc, &entry, content.as_slice(), to, image, cut)
 }

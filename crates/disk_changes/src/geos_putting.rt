@@ -3,7 +3,8 @@ ghost use Rattle.std.specs.Prelude.{◌≡◌, ◌≤◌, ◌<◌, ◌+◌, ◌+
 ghost use Rattle.d64_image.specs.Images.{put as put_at};
 ghost use Rattle.d64_image.specs.Memory.{disk_image};
 ghost use Rattle.command_faults.specs.declared.faults.CommandFault.TheVariants.{NoFile, NoMemory};
-ghost use Rattle.disk_changes.specs.GeosPuts.{HasContent, HasEntryOf, IsGeosMade, IsGeosPut, IsGeosPutRefusal, IsLaid, IsPlainNamed, IsUnlaid};
+ghost use Rattle.disk_changes.specs.GeosPuts.{HasContent, HasEntryOf, IsGeosMade, IsGeosPut, IsGeosPutRefusal, IsLaid};
+ghost use Rattle.disk_changes.specs.Rewrites.{IsPlainNamed, IsUnlaid};
 ghost use Rattle.disk_changes.specs.GeosPuts as specs;
 ghost use Rattle.disk_layout.specs.Layout.{IsLayout, IsSound, Layout};
 ghost use Rattle.file_changes.specs.PutWrites.{SameBeside};
@@ -14,6 +15,7 @@ use crate::cvts::cvt_content;
 use crate::judging::sound_disk;
 use crate::outcomes::changed;
 use crate::putting::put;
+use crate::rewriting::{are_same, is_broken, plain_named, put_sector};
 use crate::sorting::put_entry;
 use arrayvec::ArrayVec;
 use command_faults::CommandFault;
@@ -30,13 +32,6 @@ const RECORDS: usize = 127;
 
 /// The byte of a CVT that says whether the file has records.
 const STRUCTURE: usize = 21;
-
-/// Writes the sector at a place.
-fn put_sector(disk: &mut MemDisk, place: Place, bytes: &[u8; 256])
-    ensures { disk_image disk.new ≡ put_at (disk_image disk.old) place bytes.now }
-{
-    let _ = disk.write(place, bytes);
-}
 
 /// Writes one of these blocks.
 fn put_block(disk: &mut MemDisk, blocks: &[Place], number: usize, bytes: &[u8; 256])
@@ -113,31 +108,6 @@ fn geos_slot(slot: &Slot, cvt: &[u8], info: Place, first: Place) -> Slot
     geos.bytes[22] = info.sector();
     geos.bytes[23..30].copy_from_slice(&cvt[STRUCTURE..28]);
     geos
-}
-
-/// The first entry of that name of a sound disk. `NoFile` if none has it, or if it is that of a relative file.
-fn plain_named(disk: &MemDisk, name: &[u8]) -> Result<Slot, CommandFault>
-    requires sound { IsSound (disk_image disk.now) }
-    requires name { length name.now ≤ 16 }
-    ensures ok { IfOk result (λ s. (l : Layout) → IsLayout (disk_image disk.now) l → IsPlainNamed l name.now s) }
-    ensures low { IfOk result (λ s. s.number < 8) }
-    ensures err { IfErr result (λ why. why ≡ NoFile) }
-{
-    let mut sectors = ArrayVec::new();
-    let mut entries = ArrayVec::new();
-    let _ = read_so_far(disk, &mut sectors, &mut entries);
-    let slot = choose_named(entries.as_slice(), &padded_name(name))?;
-    if is_relative(&slot) {
-        return Err(CommandFault::NoFile);
-    }
-    Ok(slot)
-}
-
-/// Whether a fault is in the way of more.
-fn is_broken(reach: &Reach) -> bool
-    ensures { IsFalse result → reach.now.fault ≡ None }
-{
-    reach.fault.is_some()
 }
 
 /// Makes the blocks of a file of GEOS of these, which have its content in one chain.
@@ -218,13 +188,6 @@ fn joined(alloc: Global, front: &[u8], middle: &[u8], back: &[u8]) -> Result<Vec
     append(&mut all, middle)?;
     append(&mut all, back)?;
     Ok(all)
-}
-
-/// Whether both are the same bytes.
-fn are_same(one: &[u8], other: &[u8]) -> bool
-    ensures { IsTrue result → one.now ≡ other.now }
-{
-    one == other
 }
 
 /// Whether the CVT of the entry's file has this content from its info block on, and no fault is in the way. `NoMemory` if there was none for it.

@@ -2,7 +2,7 @@
 use Rattle.std.proofs.Common.{List, inl, inr, subst, ℕ}
 use Rattle.std.proofs.lemmas.Result.{IfErr-weaker, IfOk-weaker}
 use Rattle.disk_changes.proofs.Copied.{not-copied}
-use Rattle.disk_changes.specs.Copies.{IsCopyOf, IsNoCopyOf}
+use Rattle.disk_changes.specs.Copies.{IsNoPlainCopyOf, IsPlainCopyOf}
 use Rattle.disk_changes.proofs.copying.copied.Goals as goal
 
 pub returns-then-is_relative-clause-ok : goal.returns-then-is_relative-clause-ok
@@ -21,21 +21,21 @@ returns-then-is_relative-clause-err c = IfErr-weaker c.relative_copy.result _ _
     c.relative_copy.ensures.err
 
 pub returns-clause-ok : goal.returns-clause-ok
-returns-clause-ok c = IfOk-weaker c.copy_of.result _ _
+returns-clause-ok c = IfOk-weaker c.plain_copy.result _ _
     (λ made is. record {
       entry = c.in_ok-entry.entry;
       content = c.in_ok-entry.content.items;
       file = c.in_ok-entry.ensures.ok;
       copy = inl (
         λ relative. absurd (cc (c.is_relative.ensures.1 relative, c.if-is_relative.false)),
-        subst (λ (bytes : List ℕ). IsCopyOf c.in_ok-entry.entry bytes c.args.to.now c.args.image.now c.args.cut made)
+        subst (λ (bytes : List ℕ). IsPlainCopyOf c.in_ok-entry.entry bytes c.args.to.now c.args.image.now c.args.cut made)
             c.as_slice.ensures.value is,
       );
-    }) c.copy_of.ensures.ok
+    }) c.plain_copy.ensures.ok
 
 pub returns-clause-err : goal.returns-clause-err
-returns-clause-err c = IfErr-weaker c.copy_of.result _ _
+returns-clause-err c = IfErr-weaker c.plain_copy.result _ _
     (λ why no. not-copied c.args.source.now c.args.name.now c.args.to.now c.args.image.now c.args.cut c.in_ok-entry.entry
     c.in_ok-entry.content.items c.in_ok-entry.ensures.ok why
-    (inl (λ relative. absurd (cc (c.is_relative.ensures.1 relative, c.if-is_relative.false)), subst (λ (bytes : List ℕ). IsNoCopyOf c.in_ok-entry.entry bytes c.args.to.now c.args.image.now c.args.cut why) c.as_slice.ensures.value no)))
-    c.copy_of.ensures.err
+    (inl (λ relative. absurd (cc (c.is_relative.ensures.1 relative, c.if-is_relative.false)), subst (λ (bytes : List ℕ). IsNoPlainCopyOf c.in_ok-entry.entry bytes c.args.to.now c.args.image.now c.args.cut why) c.as_slice.ensures.value no)))
+    c.plain_copy.ensures.err

@@ -3,7 +3,8 @@ use Rattle.std.proofs.Common.{Err, List, ap, inr, subst, sym, ℕ, ◌≡◌, �
 use Rattle.std.proofs.lemmas.Result.{err_from_is_err_and}
 use Rattle.d64_image.specs.Images.{Image, sector}
 use Rattle.d64_image.specs.Memory.{disk_image, sectors_in}
-use Rattle.disk_changes.specs.GeosPuts.{HasContent, HasEntryOf, IsLaid, now_at}
+use Rattle.disk_changes.specs.GeosPuts.{HasContent, HasEntryOf, IsLaid}
+use Rattle.disk_changes.specs.Rewrites.{now_at}
 use Rattle.disk_layout.specs.Directory.{slot_in}
 use Rattle.disk_layout.specs.declared.slot.Slot.{Slot}
 use Rattle.disk_changes.proofs.geos_putting.geos_made.Goals as goal

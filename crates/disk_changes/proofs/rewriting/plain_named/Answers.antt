@@ -1,11 +1,11 @@
 -- The entries that were read are those of the layout.
 use Rattle.std.proofs.Common.{List, subst}
 use Rattle.d64_image.specs.Memory.{disk_image}
-use Rattle.disk_changes.proofs.GeosPut.{named-is, named-low, says-no}
+use Rattle.disk_changes.proofs.Rewritten.{named-is, named-low, says-no}
 use Rattle.disk_layout.specs.declared.slot.Slot.{Slot}
 use Rattle.disk_layout.specs.Layout.{is_rel}
 use Rattle.file_changes.specs.Entries.{IsFirstNamed}
-use Rattle.disk_changes.proofs.geos_putting.plain_named.Goals as goal
+use Rattle.disk_changes.proofs.rewriting.plain_named.Goals as goal
 
 pub returns-clause-ok : goal.returns-clause-ok
 returns-clause-ok c =
