@@ -112,8 +112,8 @@ fn empty_copy(
     };
     let first = put(alloc, image, to, kind, &[], cut)?;
     let empty = emptied(alloc, first.disk, to)?;
-    let second = changed(alloc, empty, b"COPIED\n")?;
-    let disk = with_lock_of(alloc, entry, to, second)?;
+    let freed = changed(alloc, empty, b"COPIED\n")?;
+    let disk = with_lock_of(alloc, entry, to, freed)?;
     changed(alloc, disk, b"COPIED\n")
 }
 

@@ -17,10 +17,10 @@ returns-in_err-empty-clause-err c =
       inr (c.in_ok-first.first, c.in_ok-first.ensures.ok, inl c.in_err-empty.ensures.err),
     ))
 
-pub returns-in_err-second-clause-err : goal.returns-in_err-second-clause-err
-returns-in_err-second-clause-err c =
-    let p = err_from_is_err_and c.from_residual-in_err-second.result c.from_residual-in_err-second.ensures.1 in
-    rw (p.1 ∙ ap Err (p.2 ∙ c.in_err-second.ensures.err)) (inr (
+pub returns-in_err-freed-clause-err : goal.returns-in_err-freed-clause-err
+returns-in_err-freed-clause-err c =
+    let p = err_from_is_err_and c.from_residual-in_err-freed.result c.from_residual-in_err-freed.ensures.1 in
+    rw (p.1 ∙ ap Err (p.2 ∙ c.in_err-freed.ensures.err)) (inr (
       c.in-Some.kind,
       sym c.plain_type.ensures ∙ c.in-Some.is,
       inl c.in_ok-first.ensures.ok.before.taken.0,
@@ -30,7 +30,7 @@ pub returns-in_err-disk-clause-err : goal.returns-in_err-disk-clause-err
 returns-in_err-disk-clause-err c =
     let p = err_from_is_err_and c.from_residual-in_err-disk.result c.from_residual-in_err-disk.ensures.1 in
     let put = c.in_ok-first.ensures.ok in
-    let second = c.in_ok-second.second in
+    let freed = c.in_ok-freed.freed in
     rw (p.1 ∙ ap Err p.2) (inr (
       c.in-Some.kind,
       sym c.plain_type.ensures ∙ c.in-Some.is,
@@ -38,9 +38,9 @@ returns-in_err-disk-clause-err c =
         c.in_ok-first.first,
         put,
         inr (
-          second,
+          freed,
           subst (λ (d : MemDisk). IsEmptied (disk_image c.in_ok-first.first.disk) put.after.layout c.args.to.now (disk_image d))
-              (sym c.in_ok-second.ensures.ok.0) (c.in_ok-empty.ensures.ok put.after.layout put.after.sound),
+              (sym c.in_ok-freed.ensures.ok.0) (c.in_ok-empty.ensures.ok put.after.layout put.after.sound),
           c.in_err-disk.ensures.err,
         ),
       ),
@@ -55,10 +55,10 @@ returns-clause-ok c = IfOk-weaker c.changed.result _ _
       kind_is = sym c.plain_type.ensures ∙ c.in-Some.is;
       first = c.in_ok-first.first;
       put = put;
-      second = c.in_ok-second.second;
+      second = c.in_ok-freed.freed;
       empty = subst (λ (d : MemDisk). IsEmptied (disk_image c.in_ok-first.first.disk) put.after.layout c.args.to.now
-          (disk_image d)) (sym c.in_ok-second.ensures.ok.0) (c.in_ok-empty.ensures.ok put.after.layout put.after.sound);
-      lock = subst (λ (d : MemDisk). HasLockOf c.args.entry.now c.args.to.now c.in_ok-second.second d) (sym is.0)
+          (disk_image d)) (sym c.in_ok-freed.ensures.ok.0) (c.in_ok-empty.ensures.ok put.after.layout put.after.sound);
+      lock = subst (λ (d : MemDisk). HasLockOf c.args.entry.now c.args.to.now c.in_ok-freed.freed d) (sym is.0)
           c.in_ok-disk.ensures.ok;
       text = is.1;
     }) c.changed.ensures.ok

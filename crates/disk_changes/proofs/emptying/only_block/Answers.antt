@@ -16,6 +16,8 @@ returns-clause-ok c =
     let last = c.reach_file-reach.result.last in
     let long : length blocks ≡ 1 = cc (c.len.ensures.value, c.if-len-ne1.false) in
     let at : c.index-deref-0.result ≡ get_or blocks 0 c.index-deref-0.result =
-    c.index-deref-0.is ∙ ap (λ (ps : List Place). get_or ps 0 c.index-deref-0.result) c.deref.ensures.0 in
-    (last, subst (λ (ps : List Place). IsReached img s ps None last) (only-one blocks c.index-deref-0.result long at)
-    (subst (λ (f : Option Fault). IsReached img s blocks f last) (c.is_broken.ensures c.if-is_broken.false) c.reach_file-reach.ensures))
+    c.index-deref-0.is ∙ ap (λ (ps : List Place). get_or ps 0 c.index-deref-0.result) c.deref.ensures.0 in (
+      last,
+      subst (λ (ps : List Place). IsReached img s ps None last) (only-one blocks c.index-deref-0.result long at)
+          (subst (λ (f : Option Fault). IsReached img s blocks f last) (c.is_broken.ensures c.if-is_broken.false) c.reach_file-reach.ensures),
+    )
