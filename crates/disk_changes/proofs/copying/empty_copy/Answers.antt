@@ -47,7 +47,7 @@ returns-in_err-disk-clause-err c =
     ))
 
 pub returns-clause-ok : goal.returns-clause-ok
-returns-clause-ok c = IfOk-weaker c.changed.result _ _
+returns-clause-ok c = IfOk-weaker c.changed-2.result _ _
     (λ made is.
     let put = c.in_ok-first.ensures.ok in
     record {
@@ -61,13 +61,13 @@ returns-clause-ok c = IfOk-weaker c.changed.result _ _
       lock = subst (λ (d : MemDisk). HasLockOf c.args.entry.now c.args.to.now c.in_ok-freed.freed d) (sym is.0)
           c.in_ok-disk.ensures.ok;
       text = is.1;
-    }) c.changed.ensures.ok
+    }) c.changed-2.ensures.ok
 
 pub returns-clause-err : goal.returns-clause-err
-returns-clause-err c = IfErr-weaker c.changed.result _ _
+returns-clause-err c = IfErr-weaker c.changed-2.result _ _
     (λ why is. subst (λ (w : CommandFault). IsNoEmptyCopyOf c.args.entry.now c.args.to.now c.args.image.now c.args.cut w)
     (sym is) (inr (
       c.in-Some.kind,
       sym c.plain_type.ensures ∙ c.in-Some.is,
       inl c.in_ok-first.ensures.ok.before.taken.0,
-    ))) c.changed.ensures.err
+    ))) c.changed-2.ensures.err

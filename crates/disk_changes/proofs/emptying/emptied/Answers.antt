@@ -1,11 +1,9 @@
 -- The entry is written, what came of it judged, and then the block given back.
-use Rattle.std.proofs.Common.{ℕ, List, ap, subst, sym, ◌≡◌, ◌∙◌}
-use Rattle.std.specs.Prelude.{IsFalse, IsTrue}
+use Rattle.std.proofs.Common.{ℕ, List, ap, subst, ◌≡◌, ◌∙◌}
 use Rattle.d64_image.specs.Images.{Image, sector}
 use Rattle.d64_image.specs.Memory.{disk_image, sectors_in}
 use Rattle.disk_changes.specs.Empties.{IsGivenBack, IsWithoutBlock}
 use Rattle.disk_changes.specs.Rewrites.{now_at}
-use Rattle.disk_changes.specs.Sorts.{with_entry}
 use Rattle.disk_layout.specs.Directory.{slot_in}
 use Rattle.disk_layout.specs.declared.slot.Slot.{Slot}
 use Rattle.disk_changes.proofs.emptying.emptied.Goals as goal

@@ -1,5 +1,5 @@
 -- The file was reached without a fault, and one block was found.
-use Rattle.std.proofs.Common.{ℕ, List, ap, get_or, length, subst, ◌≡◌, ◌∙◌}
+use Rattle.std.proofs.Common.{List, ap, get_or, length, subst, ◌≡◌, ◌∙◌}
 use Rattle.std.specs.Prelude.{None, Option}
 use Rattle.d64_image.specs.Memory.{disk_image}
 use Rattle.d64_image.specs.declared.place.Place.{Place}
