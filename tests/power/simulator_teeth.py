@@ -9,8 +9,9 @@ machine in memory can leave one out: it returns, and does nothing. For the progr
 With --late the machine makes the step after the next call of another kind, a printing among them, as if two lines of the source had
 changed places: a log is named before it is synced, or a reply is printed before its commit is.
 The simulator plays the seeds 1, 2, ... until it finds something wrong; for a step that has to be found up to four times as many, since
-which seed finds a step changes with each change of the program. The status is 1 if such a step isn't found, and if a step that isn't
-found has no reason in COVERED or COVERED_LATE, why it does no harm to leave that step out, or to make it late, alone."""
+which seed finds a step changes with each change of the program. The status is 1 if such a step isn't found, or if the first seeds don't
+meet it; and if a step that isn't found has no reason in COVERED or COVERED_LATE, why it does no harm to leave that step out, or to make it
+late, alone."""
 
 import re
 import sys
@@ -145,6 +146,9 @@ def main(given):
             right, wrong = right + (not lacks), wrong + lacks
             said = f"seed {found[1]}, step {found[2]}: {found[3]}" if found else reason or "IT HAS TO BE FOUND"
             print(f"| {act} | {before} | {said} |", flush=True)
+    for act, before in sorted(way.must - {step[1:] for step in steps}):
+        wrong += 1
+        print(f"| {act} | {before} | NO STORY MEETS IT |", flush=True)
     return right, wrong
 
 
