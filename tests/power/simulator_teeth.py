@@ -9,9 +9,9 @@ machine in memory can leave one out: it returns, and does nothing. For the progr
 With --late the machine makes the step after the next call of another kind, a printing among them, as if two lines of the source had
 changed places: a log is named before it is synced, or a reply is printed before its commit is.
 The simulator plays the seeds 1, 2, ... until it finds something wrong; for a step that has to be found up to four times as many, since
-which seed finds a step changes with each change of the program. The status is 1 if such a step isn't found, and if a step that isn't
-found has no reason: in COVERED or COVERED_LATE, why it does no harm to leave that step out, or to make it late, alone; or in UNSEEN_LATE,
-what no story meets."""
+which seed finds a step changes with each change of the program. The status is 1 if such a step isn't found, or if the first seeds don't
+meet it; and if a step that isn't found has no reason in COVERED or COVERED_LATE, why it does no harm to leave that step out, or to make it
+late, alone."""
 
 import re
 import sys
@@ -57,16 +57,17 @@ MUST_BOTH = {
     ("sync the folder", "sync the log in the making"),
     ("sync the log", "write the mark"),
     ("remove a name", "give a second name"),
-    # a link can't be made, so a copy is renamed
+    # a copy has its name, and COPIED is printed
+    ("sync the folder", "remove a name"),
+    # the same where links are refused, so a copy is renamed
     ("rename a file", "give a second name"),
+    ("sync the folder", "rename a file"),
     # these by a file that is no image, over which `format` writes
     ("sync another file", "set a length"),
     ("write another file", "sync the folder"),
 }
 # and those that were found when they were left out
 MUST = MUST_BOTH | {
-    ("sync the folder", "remove a name"),
-    ("sync the folder", "rename a file"),
     ("sync the log in the making", "write the log in the making"),
     ("sync the log in the making", "write the mark"),
     # this by a file that is no image, over which `format` writes
@@ -102,10 +103,6 @@ COVERED = {
 
 # the steps that were found when they were made late
 MUST_LATE = MUST_BOTH
-# the step that does harm if it is late, which no story meets. A log has its name on the disk in time, since the next call syncs IMAGE
-UNSEEN_LATE = {
-    ("sync the folder", "rename a file"): "no link can be made, so a copy is renamed, and power goes when COPIED was printed and the name isn't on the disk",
-}
 # the steps that do no harm if they alone are late
 COVERED_LATE = {
     **COVERED,
@@ -113,7 +110,6 @@ COVERED_LATE = {
     ("sync IMAGE", "the beginning"): "it changes places with the sync of the folder, and neither waits for the other",
     ("sync IMAGE", "sync the folder"): "`play` found a log: the mark is written before and synced after, and IMAGE is written only then",
     ("sync the folder", "sync IMAGE"): "it still comes before IMAGE is written, and before a log gets its name",
-    ("sync the folder", "remove a name"): "a log that is back gives what IMAGE is; only `play` writes IMAGE before this sync, and promises nothing of a loss of power",
     ("sync the log in the making", "write the log in the making"): "it changes places with the sync of the folder, and still comes before the log gets its name",
     ("sync the log in the making", "write the mark"): "it changes places with the sync of the folder, and still comes before the log gets its name",
     ("set a length", "write another file"): "the next sync brings it to the disk, and until then a file that is too long is refused",
@@ -129,7 +125,7 @@ class Way(NamedTuple):
 
 
 WITHOUT = Way("--without", MUST, COVERED)
-LATE = Way("--late", MUST_LATE, {**COVERED_LATE, **UNSEEN_LATE})
+LATE = Way("--late", MUST_LATE, COVERED_LATE)
 
 
 def main(given):
@@ -150,6 +146,9 @@ def main(given):
             right, wrong = right + (not lacks), wrong + lacks
             said = f"seed {found[1]}, step {found[2]}: {found[3]}" if found else reason or "IT HAS TO BE FOUND"
             print(f"| {act} | {before} | {said} |", flush=True)
+    for act, before in sorted(way.must - {step[1:] for step in steps}):
+        wrong += 1
+        print(f"| {act} | {before} | NO STORY MEETS IT |", flush=True)
     return right, wrong
 
 

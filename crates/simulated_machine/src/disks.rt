@@ -23,6 +23,8 @@ pub(crate) struct Disk {
     files: Vec<Inode>,
     names: Vec<Name>,
     waiting: Vec<NameChange>,
+    /// Whether no file gets a second name.
+    refuses_links: bool,
 }
 
 /// The error of a file that isn't there.
@@ -38,7 +40,20 @@ impl Disk {
             files: Vec::new(alloc),
             names: Vec::new(alloc),
             waiting: Vec::new(alloc),
+            refuses_links: false,
         }
+    }
+
+    /// A disk without files on which links are refused if they are here.
+    pub(crate) fn another(&self) -> Disk {
+        let mut other = Disk::new(self.alloc);
+        other.refuses_links = self.refuses_links;
+        other
+    }
+
+    /// From now on no file gets a second name.
+    pub(crate) fn refuse_links(&mut self) {
+        self.refuses_links = true;
     }
 
     /// The number of the file at a path.
@@ -158,6 +173,9 @@ impl Disk {
         if self.find(to).is_ok() {
             return Err(ErrorKind::AlreadyExists.into());
         }
+        if self.refuses_links {
+            return Err(ErrorKind::PermissionDenied.into());
+        }
         let name = self.give(to, file)?;
         self.waiting.push(NameChange::Made { name, file })?;
         Ok(())
@@ -242,7 +260,7 @@ impl Disk {
 
     /// The same files under the same names, all synced.
     pub(crate) fn copy(&self) -> io::Result<Disk> {
-        let mut other = Disk::new(self.alloc);
+        let mut other = self.another();
         for file in self.files.as_slice() {
             other
                 .files

@@ -148,6 +148,13 @@ impl Machine {
         self.acts.set(Acts::delaying(number));
     }
 
+    /// From now on a link is refused, as on a file system on which a file has one name. The other calls are as before.
+    pub fn refuse_links(&self) {
+        let mut disk = self.disk();
+        disk.refuse_links();
+        self.disk.set(disk);
+    }
+
     /// Which calls were made after which other ones.
     pub fn acts(&self) -> Acts {
         self.acts.get()
@@ -578,7 +585,10 @@ impl Machine {
             Turn::Later => self.keep(call),
             Turn::Now => {
                 let made = self.make_call(&call);
-                self.catch_up(made.is_ok());
+                // without a link the program goes on, and what waits goes on waiting
+                if made.is_ok() || !call.is_link() {
+                    self.catch_up(made.is_ok());
+                }
                 made?;
                 self.record_deed(Deed::Changed(call))
             }
@@ -657,15 +667,20 @@ impl Machine {
         added
     }
 
+    /// A machine with this disk.
+    fn with_disk(&self, disk: Disk) -> Machine {
+        let other = Machine::new(self.alloc);
+        other.disk.set(disk);
+        other
+    }
+
     /// A machine with the files that this one holds, all synced, of the same numbers: there a record of what is done here can be
     /// done again.
     pub fn copy(&self) -> io::Result<Machine> {
         let disk = self.disk();
         let copied = disk.copy();
         self.disk.set(disk);
-        let other = Machine::new(self.alloc);
-        other.disk.set(copied?);
-        Ok(other)
+        Ok(self.with_disk(copied?))
     }
 
     /// The first deeds of a record are done here, of which there are so many. The program that runs then has the others done
@@ -775,7 +790,10 @@ impl Machine {
 
     /// A machine with the files that this one holds, all synced, under these paths.
     pub fn with_files(&self, paths: &[&str]) -> io::Result<Machine> {
-        let other = Machine::new(self.alloc);
+        let disk = self.disk();
+        let another = disk.another();
+        self.disk.set(disk);
+        let other = self.with_disk(another);
         for path in paths {
             if self.find(path).is_ok() {
                 let bytes = self.bytes_of(path)?;

@@ -3,6 +3,8 @@
 /// A kind of event.
 #[derive(Clone, Copy, PartialEq, Eq)]
 pub enum Event {
+    /// A story in which links are refused.
+    Linkless,
     /// A `serve`.
     Serve,
     /// A `play --sync`.
@@ -34,7 +36,8 @@ pub enum Event {
 }
 
 /// The names of all kinds.
-pub static EVENTS: [(Event, &str); 14] = [
+pub static EVENTS: [(Event, &str); 15] = [
+    (Event::Linkless, "stories without links"),
     (Event::Serve, "serve"),
     (Event::PlaySync, "play --sync"),
     (Event::Play, "play"),
@@ -54,12 +57,12 @@ pub static EVENTS: [(Event, &str); 14] = [
 /// How many events of each kind were played.
 #[derive(Clone, Copy)]
 pub struct Counts {
-    numbers: [u64; 14],
+    numbers: [u64; 15],
 }
 
 impl Counts {
     /// None yet.
-    pub const NONE: Counts = Counts { numbers: [0; 14] };
+    pub const NONE: Counts = Counts { numbers: [0; 15] };
 
     /// Counts so many events of a kind.
     pub(crate) fn add(&mut self, event: Event, count: u64) {

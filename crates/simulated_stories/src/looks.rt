@@ -5,13 +5,10 @@ use crate::runs::{Ended, Program, draw_plan};
 use crate::stops::{Stop, see};
 use crate::stories::Story;
 use crate::words::{CHECK, COPY, COPY_MAKING, COPYING, IMAGE, SERVE, SHOW, SHOW_COPY, Words};
-use simulated_machine::{Counted, Lock, Plan, Strike};
+use simulated_machine::{Lock, Plan};
 
 /// What `copy` prints.
 const COPIED: &[u8] = b"COPIED\n";
-
-/// The step of a `copy` that gives the new file its name besides that under which it was made. If a log is read, it is the next one.
-const LINKED: u64 = 5;
 
 /// What is reported of an image that another program has.
 const IN_USE: &[u8] = b"IN USE\n";
@@ -32,7 +29,7 @@ impl<P: Program> Story<'_, P> {
     }
 
     /// A copy that was reported has its name, and no other.
-    fn see_named(&mut self, ended: &Ended) -> Result<(), Stop> {
+    pub(crate) fn see_named(&mut self, ended: &Ended) -> Result<(), Stop> {
         let has_name = self.machine.has_file(COPY) && !self.machine.has_file(COPY_MAKING);
         see(
             has_name || ended.out.as_slice() != COPIED,
@@ -50,7 +47,7 @@ impl<P: Program> Story<'_, P> {
     }
 
     /// A copy that is there is whole.
-    fn see_copy(&mut self) -> Result<(), Stop> {
+    pub(crate) fn see_copy(&mut self) -> Result<(), Stop> {
         if self.machine.has_file(COPY) {
             self.see_shop(&SHOW_COPY, "a copy has another shop")?;
             self.machine.remove_file(COPY)?;
@@ -59,24 +56,11 @@ impl<P: Program> Story<'_, P> {
     }
 
     /// No copy is in the making.
-    fn clear_making(&mut self) -> Result<(), Stop> {
+    pub(crate) fn clear_making(&mut self) -> Result<(), Stop> {
         if self.machine.has_file(COPY_MAKING) {
             self.machine.remove_file(COPY_MAKING)?;
         }
         Ok(())
-    }
-
-    /// What happens while a copy is made. Once in four times no link can be made, as on some file systems.
-    fn draw_copying(&mut self) -> Plan {
-        if !self.random.once_in(4) {
-            return draw_plan(&mut self.random, 120, 8);
-        }
-        Plan {
-            counted: Counted::Steps,
-            at: self.random.below(2).saturating_add(LINKED),
-            what: Strike::Fails,
-            part: 0,
-        }
     }
 
     /// Runs a command that only reads.
@@ -106,8 +90,7 @@ impl<P: Program> Story<'_, P> {
             1 => &CHECK,
             _ => {
                 self.clear_making()?;
-                let plan = self.draw_copying();
-                return self.read_by(&COPYING, plan);
+                &COPYING
             }
         };
         let plan = draw_plan(&mut self.random, 120, 8);

@@ -6,7 +6,7 @@ use crate::runs::{Ended, Program, run, stop_at};
 use crate::services::between;
 use crate::stops::{Stop, see};
 use crate::stories::Story;
-use crate::words::{DELETE_A, PLAY, PUT_A, SCRIPT, SERVE, SHOW, TITLE, TITLE_BACK, Words};
+use crate::words::{COPYING, DELETE_A, PLAY, PUT_A, SCRIPT, SERVE, SHOW, TITLE, TITLE_BACK, Words};
 use simulated_machine::{Counted, Plan};
 
 /// How often logs are stopped while they are made.
@@ -16,6 +16,11 @@ const MAKINGS: usize = 6;
 const ENDINGS: usize = 3;
 
 const ENDING: u64 = 5;
+
+/// How often power goes while a copy gets its name, and in how many of its last steps that is.
+const NAMINGS: usize = 4;
+
+const NAMING: u64 = 3;
 
 /// How often the tag is taken away.
 const UNTAGGINGS: usize = 2;
@@ -182,6 +187,21 @@ impl<P: Program> Story<'_, P> {
         self.find(&shop, &[])
     }
 
+    /// Power goes in one of the last steps of a copy, or when it is done.
+    fn copy_and_lose(&mut self) -> Result<(), Stop> {
+        self.counts.add(Event::Look, 1);
+        self.clear_making()?;
+        let twin = self.machine.copy()?;
+        let input = twin.copy_of(b"")?;
+        run(self.program, &twin, &COPYING, input, 1, Plan::NONE);
+        let most = twin.calls(Counted::Steps).saturating_add(1);
+        let last = most.saturating_sub(self.random.below(NAMING));
+        let ended = self.run_alone(&COPYING, stop_at(last))?;
+        self.lose_power()?;
+        self.see_named(&ended)?;
+        self.see_copy()
+    }
+
     /// Faults meet.
     pub fn meet_faults(&mut self) -> Result<(), Stop> {
         let plan = self.stop_near(7, 4);
@@ -204,6 +224,10 @@ impl<P: Program> Story<'_, P> {
         }
         self.serve_and_lose(MARKED)?;
         self.format_long()?;
-        self.make_again()
+        self.make_again()?;
+        for _ in 0..NAMINGS {
+            self.copy_and_lose()?;
+        }
+        Ok(())
     }
 }

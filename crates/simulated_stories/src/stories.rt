@@ -119,8 +119,19 @@ impl<'p, P: Program> Story<'p, P> {
         see(found.is_some(), reason)
     }
 
+    /// In one of four stories links are refused, as on some file systems and network shares.
+    fn draw_links(&mut self) -> Result<(), Stop> {
+        if self.random.once_in(4) {
+            self.counts.add(Event::Linkless, 1);
+            self.machine.refuse_links();
+            self.notes.extend_from_slice(b"links are refused\n")?;
+        }
+        Ok(())
+    }
+
     /// Makes the shop.
     pub fn begin(&mut self) -> Result<(), Stop> {
+        self.draw_links()?;
         let ended = self.look(&NEW)?;
         see(ended.status == 0, "no shop is made")
     }
