@@ -159,11 +159,12 @@ class Wanted:
         owned = self.owners(sectors, chains)
         self.files, self.faults, rows, self.named = {}, [fault] if fault else [], [], []
         for number, ((place, slot), (blocks, last, ended)) in enumerate(zip(slots, chains), 1):
-            shared = next((block for block in blocks if owned[block] > 1), None)
-            data = geos.cvt(image, slot) if geos.is_geos(slot) else self.data(image, blocks, last)
-            art = is_art(slot)
-            rows.append(self.row(number, slot, 0, 0, "", None, "", "") if art else
-                        self.row(number, slot, len(blocks), len(data), ended, shared, self.misread(blocks, errors),
+            shared = next((block for block in blocks if block in INDEX and owned[block] > 1), None)
+            past = next((block for block in blocks if block not in INDEX and owned[block] > 1), None)
+            cvt, art = geos.is_cvt(image, slot), is_art(slot)
+            data = geos.cvt(image, slot) if cvt else self.data(image, blocks, last)
+            rows.append(self.row(number, slot, cvt, 0, 0, "", None, "", "") if art else
+                        self.row(number, slot, cvt, len(blocks), len(data), ended, shared or past, self.misread(blocks, errors),
                                  hashlib.sha256(data).hexdigest()))
             if art:
                 rows[-1][1] = ""
@@ -194,7 +195,7 @@ class Wanted:
         """How many have each sector."""
         owned = {}
         for place in [MAP, *sectors, *(block for blocks, _, _ in chains for block in blocks)]:
-            owned[place] = owned.get(place, 0) + (1 if place in INDEX else 0)
+            owned[place] = owned.get(place, 0) + 1
         return owned
 
     def names(self, is_asked, most):
@@ -211,13 +212,13 @@ class Wanted:
         for place, slot in every:  # none is one of GEOS, since its type is 0
             if slot[2] == 0 and slot[5:21].rstrip(b"\xa0") and tuple(slot[3:5]) in INDEX:
                 reach = cls.reach(image, place, slot)
-                if not owned & {block for block in reach[0] if block in INDEX}:
+                if not owned & set(reach[0]):
                     yield place, slot, reach
 
     @classmethod
     def reach(cls, image, place, slot):
         """The blocks of an entry's file, the last index, and what ends them; of one of GEOS all its blocks."""
-        if not geos.is_geos(slot):
+        if not geos.is_cvt(image, slot):
             return cls.whole(image, place, slot)
         blocks, _, last, ended = geos.reach(image, slot)
         return blocks, last, ended
@@ -256,10 +257,10 @@ class Wanted:
         return " ".join(f"{place[0]}/{place[1]}:{error_text(error)}" for place, error in found if error != 1)
 
     @staticmethod
-    def row(number, slot, blocks, count, ended, shared, misread, digest):
+    def row(number, slot, cvt, blocks, count, ended, shared, misread, digest):
         name, kind = slot[5:21].rstrip(b"\xa0"), slot[2]
         low = kind % 16
-        ending = ".cvt" if geos.is_geos(slot) else "." + KINDS[low].lower() if low < 5 else ".bin"
+        ending = ".cvt" if cvt else "." + KINDS[low].lower() if low < 5 else ".bin"
         return [str(number), file_name(number, name, ending), name_text(name), "".join(map(shown, name)),
                 KINDS[low] if low < 5 else "???", "yes" if kind >= 128 else "no", "yes" if kind >> 6 & 1 else "no",
                 str(slot[30] + 256 * slot[31]), str(blocks), str(slot[23]) if low == 4 else "", str(count), ended,

@@ -5,16 +5,17 @@
 
 PROGRAM is what `tools/program` prints. cc1541 (Debian's package) makes each disk, of 35 tracks or of 40 with the map of SpeedDOS or
 DolphinDOS, with files of random bytes, some of which lie beyond track 35. Then it gets tracks more, error bytes of any value, or a
-changed link, also one that leads on or back past track 35, or it is cut. Of each image:
+changed link, also one that leads on or back past track 35, or an entry of another type, or it is cut. Of each image:
 
 - `list --as-is` has the names, types and block counts that c1541 (of VICE) has in its directory;
 - `check --as-is`, with --all and among several images, prints what `check` prints of the first 35 tracks alone, and then the lines that a
   reader of images in Python finds (tests/lib/missing.py), and which systems have a map of tracks 36 to 40 in 18/0; so do `map` and,
   without the last, `picture` and `picture --sheet`, and `picture --svg` says whether there are any;
 - `extract` makes the files and the index of the reader of tests/hostile/extract.py, with each file's blocks that weren't read. A file
-  that goes on past track 35 is whole if the image has all of its chain. It ends with the first fault of a file, or as of the first 35
+  that goes on past track 35 is whole if the image has all of its chain, and one of GEOS if it has all of its chains. It ends with the first fault of a file, or as of the first 35
   tracks alone, with the lines of sectors that weren't read after what it prints;
-- `bytes` prints of each name what this reader reads, and of a disk that nothing changed what c1541 reads, also past track 35;
+- `bytes` and `records` print of each name what this reader reads, and `bytes` of a disk that nothing changed what c1541 reads, also past
+  track 35;
 - without the flag it is `IMAGE SIZE`, and so it is with the flag if the image is cut;
 - each run takes less than 24 MB, and leaves the image as it was. (A program of `rt try` isn't limited, since it takes more to start.)
 
@@ -36,7 +37,7 @@ from pathlib import Path
 sys.dont_write_bytecode = True
 sys.path[:0] = [str(Path(__file__).resolve().parents[1] / it) for it in ("lib", "hostile")]
 from drawn import PLACES, SIZE, name_text, start
-from extract import HEADING, Wanted, is_closed, number_of
+from extract import HEADING, Wanted, has_records, is_closed, number_of
 from missing import missing_lines
 from trial import at, check, conduct, need
 
@@ -88,6 +89,20 @@ def lead_past(draw, image, tracks):
         image[at:at + 2] = bytes(link)
 
 
+def retyped(draw, image, tracks):
+    """Makes an entry one of a relative file, or of a file of GEOS whose info block and first block are on any track."""
+    slot = start((18, 1)) + 32 * draw.randrange(8)
+    if image[slot + 2] == 0:
+        return
+    if draw.random() < 0.5:
+        image[slot + 2], image[slot + 23] = 0x84, draw.choice((1, 20, 254, 255))
+        return
+    every = PLACES + [(track, number) for track in range(36, tracks + 1) for number in range(17)]
+    image[slot + 21:slot + 25] = bytes((*draw.choice(every), draw.randint(0, 1), draw.randint(1, 15)))
+    if draw.random() < 0.5:
+        image[slot + 3:slot + 5] = bytes(draw.choice(every[683:] or every))
+
+
 def odd(draw, tracks, image):
     """The image with more tracks, a changed byte or error bytes, and these; and whether it is whole."""
     image = bytearray(image)
@@ -98,6 +113,8 @@ def odd(draw, tracks, image):
     image += draw.randbytes(BYTES[more] - len(image))
     for _ in range(draw.choice((0, 0, 1, 3)) if more > 35 else 0):
         lead_past(draw, image, more)
+    if draw.random() < 0.5:
+        retyped(draw, image, more)
     errors = bytearray(b"\1" * (BYTES[more] // 256) if draw.random() < 0.7 else b"")
     for _ in range(draw.choice((0, 1, 5, 100)) if errors else 0):
         errors[draw.randrange(len(errors))] = draw.choice((0, 2, 5, 11, 15, 16, 255, draw.randrange(256)))
@@ -149,6 +166,10 @@ def read_each(program, folder, path, whole, what):
         data, slot, fault = made.first(name, is_closed)
         done = subprocess.run([program, "bytes", path, "--", name_text(name)], capture_output=True, cwd=folder)
         check(done.stdout == data, f"{what}: bytes {name}: {len(done.stdout)} bytes, not {len(data)}")
+        relative = made.first(name, lambda it: is_closed(it) and has_records(it))
+        if relative:
+            lines = subprocess.run([program, "records", path, "--", name_text(name)], capture_output=True, cwd=folder).stdout
+            check(lines == made.lines(relative[0], relative[1][23]), f"{what}: records {name}")
         told = done.stderr.decode()
         check(told == f"LAYOUT {fault}\n" if fault else told == "" or told.startswith("SHORT "), f"{what}: bytes {name}: {told}")
         if not told:

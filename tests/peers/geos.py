@@ -13,10 +13,14 @@ records, some of which are empty or missing. Of each disk:
 - `put --type cvt` puts each CVT on a new disk under another name, and `extract` takes the same CVT out again, but for the name and the places
   in its first bytes; so does `geosread` of c1541, where it reads the file (above);
 - after up to three changes of a third of the disks, in the entries, the record blocks and the links, the files and the index are those of a
-  reader in Python (tests/hostile/extract.py).
+  reader in Python (tests/hostile/extract.py);
+- of another disk of 40 or 42 tracks, with files of GEOS, relative files and others on all tracks, some of them deleted, the files and
+  the index are those of this reader, and so are the bytes and the records of each name.
 
 Not part of the gate."""
 
+import csv
+import io
 import random
 import shutil
 import subprocess
@@ -29,19 +33,29 @@ sys.dont_write_bytecode = True
 TESTS = Path(__file__).resolve().parents[1]
 sys.path.insert(0, str(TESTS / "lib"))
 import geos
-from drawn import DIRECTORY, MAP, PLACES, SIZE, start
+from drawn import DIRECTORY, MAP, PLACES, SIZE, name_text
+from missing import missing_lines
 from trial import at, check, conduct, need
 
 taken_out = SourceFileLoader("taken_out", str(TESTS / "hostile" / "extract.py")).load_module()
 
 
-class Drawn:
-    """A disk that is being drawn."""
+def start(place):
+    """Where a sector of any track begins."""
+    return 256 * geos.ALL[place]
 
-    def __init__(self, draw):
-        self.draw, self.image, self.slots = draw, bytearray(SIZE), []
+
+class Drawn:
+    """A disk that is being drawn, of 35 tracks or more."""
+
+    def __init__(self, draw, size=SIZE):
+        self.draw, self.image, self.slots = draw, bytearray(size), []
         self.free = [place for place in PLACES if place[0] != 18]
         draw.shuffle(self.free)
+        past = [place for place in geos.ALL if SIZE <= start(place) < size]
+        draw.shuffle(past)
+        self.free += draw.sample([*self.free[-len(past):], *past], 2 * len(past)) if past else []
+        self.free = list(dict.fromkeys(reversed(self.free)))[::-1]
 
     def put(self, place, data):
         self.image[start(place):start(place) + len(data)] = data
@@ -58,6 +72,8 @@ class Drawn:
         """A file, of GEOS or another."""
         kind, geos_type = self.draw.choice((0x83, 0x83, 0x83, 0xC3, 0x82, 0x81)), self.draw.choice(geos.TYPES)
         is_geos, structure = self.draw.random() < 0.8, self.draw.randint(0, 1)
+        if len(self.image) > SIZE and self.draw.random() < 0.3:
+            kind, is_geos = 0x84, False
         info, blocks, first = (0, 0), 0, None
         if is_geos:
             info = self.free.pop()
@@ -78,6 +94,8 @@ class Drawn:
             places = self.chain(9)
             first, blocks = places[0], blocks + len(places)
         extra = (*info, structure, geos_type, 88, 5, 6, 7, 8) if is_geos else bytes(9)
+        if kind == 0x84:
+            extra = (*self.free.pop(), self.draw.choice((1, 20, 254, 255)), *bytes(6))
         slot = bytes((kind, *first)) + f"FILE {number}".encode().ljust(16, b"\xa0") + bytes(extra) + blocks.to_bytes(2, "little")
         self.put(DIRECTORY if number < 8 else (18, 4), b"")
         self.slots.append(slot)
@@ -192,6 +210,64 @@ def hurt(draw, image):
     return bytes(image)
 
 
+def same_words(program, path, image, made):
+    """Compares what `bytes` and `records` print of each name of an image with these files."""
+    ran = subprocess.run([program, "check", "--as-is", path], capture_output=True)
+    found = ran.stdout.decode().splitlines()[0]
+    for name in made.names(taken_out.is_closed, 144):
+        data, slot, own = made.first(name, taken_out.is_closed)
+        asked = [("bytes", data, own, [])]
+        relative = made.first(name, lambda slot: taken_out.is_closed(slot) and taken_out.has_records(slot))
+        if relative:
+            data, slot, own = relative
+            whole = not own and taken_out.Wanted.plain(image[:SIZE], DIRECTORY, slot)[2]
+            asked.append(("records", made.lines(data, slot[23]), own, [] if whole else [f"LAYOUT {found}\n"]))
+        for word, wanted, own, others in asked:
+            ran = subprocess.run([program, word, path, "--", name_text(name)], capture_output=True)
+            taken_out.want(f"{word} of {name}", ran.stdout, wanted)
+            taken_out.ends_with(f"the end of {word} {name}", ran, own, others)
+
+
+def longer(program, folder, image, *flags):
+    """Takes a disk of 40 or 42 tracks out, and compares what comes of it with a reader in Python."""
+    path, out, made = folder / "longer.d64", folder / "out", taken_out.Wanted(image, "--deleted" in flags)
+    path.write_bytes(image)
+    ran = subprocess.run([program, "extract", path, out, *flags], capture_output=True)
+    said, told = ran.stdout.decode(), ran.stderr.decode()
+    lines = [line for line in missing_lines(image[:SIZE], b"", image).splitlines() if not line.startswith("BEYOND ")]
+    if made.faults:
+        taken_out.want("the end", (ran.returncode, said, told), (1, "", f"LAYOUT {made.faults[0]}\n"))
+    elif not told.startswith("SHORT "):
+        printed = [line for line in said.splitlines() if not line.startswith("FEWER ")]
+        taken_out.want("the end", (ran.returncode, printed, told), (1 if lines else 0, ["EXTRACTED", *lines], ""))
+    got = {entry.name: entry.read_bytes() for entry in out.iterdir()}
+    index = list(csv.reader(io.StringIO(got.pop("index.csv").decode(), newline="")))
+    taken_out.want("the index", index, [taken_out.HEADING, *made.rows])
+    taken_out.want("the files", sorted(got), sorted(made.files))
+    for name, data in made.files.items():
+        taken_out.want(name, got[name], data)
+    shutil.rmtree(out)
+    if not flags:
+        same_words(program, path, image, made)
+
+
+def look_longer(program, folder, draw, number):
+    """Draws a disk of 40 or 42 tracks, and looks at it."""
+    disk = Drawn(draw, draw.choice((196_608, 205_312)))
+    for file in range(draw.randint(1, 12)):
+        disk.file(file)
+    image = disk.done()
+    image = hurt(draw, image) if draw.random() < 0.5 else image
+    for slot in draw.sample(range(8), draw.randrange(3)):  # a scratch leaves the rest of the entry
+        image = image[:start(DIRECTORY) + 32 * slot + 2] + b"\0" + image[start(DIRECTORY) + 32 * slot + 3:]
+    try:
+        longer(program, folder, image)
+        longer(program, folder, image, "--deleted")
+        check(True, "")
+    except taken_out.Differs as error:
+        check(False, f"image {number}, longer: {error}")
+
+
 def main(given):
     need("c1541", "cbmconvert")
     draw = random.Random(given.seed)
@@ -210,6 +286,7 @@ def main(given):
                     check(True, "")
                 except taken_out.Differs as error:
                     check(False, f"image {number}, hurt: {error}")
+            look_longer(given.program, Path(work), draw, number)
 
 
 if __name__ == "__main__":

@@ -27,7 +27,8 @@ damaged, it prints what can be read, and then reports a fault.
 The last column is \\- if the last field has no CR. --at 1,25,49 prints the bytes
 from each position up to the next one, without the zeros at their end. --text
 and --mixed have no effect then. `store` takes each back with the same flag.
-With --unclosed nothing of the disk but the file is checked.
+With --unclosed nothing of the disk but the file is checked. If the image has
+40 or 42 tracks, a file that goes on past track 35 is read whole.
 
 Exit status:
   0  the records were printed

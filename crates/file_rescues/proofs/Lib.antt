@@ -4,6 +4,7 @@ pub mod Blocks
 pub mod Entries
 pub mod Files
 pub mod Long
+pub mod LongRecords
 pub mod Pieced
 pub mod Printing
 pub mod ReachedRecords

@@ -1,5 +1,5 @@
 -- Files that go on past track 35, and what comes of their bytes.
-use Rattle.std.proofs.Common.{◌≡◌, ◌⊎◌, ◌-◌, ◌∙◌, ℕ, List, None, Option, Result, Some, ap, inl, inr, length, subst}
+use Rattle.std.proofs.Common.{◌≡◌, ◌⊎◌, ◌-◌, ◌∙◌, ℕ, List, None, Option, Result, Some, ap, inl, inr, length, refl, subst}
 use Rattle.std.proofs.lemmas.Result.{IfErr-weaker, IfOk-weaker, on_err_weaker}
 use Rattle.std.specs.Io.KnownBytes.{Appends}
 use Rattle.std.specs.List.{AllByRecursion}
@@ -47,7 +47,7 @@ pub found-long : (image : List ℕ) (kind : Kind) (name : List ℕ) (img : Image
     → (had : IsHad img kind name n s blocks last found) → broken ≡ had.broken
     → apart ≡ apart_from_chain s blocks had.ended had.all → long_chain image s broken ≡ Some sectors
     → left ≡ slice_get blocks (length blocks - 1) → AllByRecursion (HasSector image) sectors
-    → IsFoundLong image kind name sectors apart left
+    → IsFoundLong image kind name sectors apart s left
 found-long image kind name img n s blocks last found broken apart left sectors size same had is why long leaves inside =
     let (here, its, others) = subst (λ (i : Image). (h : IsHad i kind name n s blocks last found) × (broken ≡ h.broken)
     × (apart ≡ apart_from_chain s blocks h.ended h.all)) same (had, is, why) in
@@ -63,6 +63,7 @@ found-long image kind name img n s blocks last found broken apart left sectors s
         chain = subst (λ (o : Option Fault). long_chain image s o ≡ Some sectors) its long;
         fault_is = others;
       };
+      entry = refl;
       left_is = leaves;
       inside = inside;
     }
@@ -70,8 +71,8 @@ found-long image kind name img n s blocks last found broken apart left sectors s
 module _ {W : Type 0} (contents : W → Option (List ℕ)) (form : FileForm) (candidates : Candidates) (image name : List ℕ)
     (old new : W) (r : Result (Option Place) CommandFault)
   where
-    module _ (sectors : List ℕ) (apart : Option Fault) (left : Option Place)
-        (found : IsFoundLong image (Any candidates) name sectors apart left)
+    module _ (sectors : List ℕ) (apart : Option Fault) (slot : Slot) (left : Option Place)
+        (found : IsFoundLong image (Any candidates) name sectors apart slot left)
       where
         -- its bytes were printed
         pub long-taken : IfOk r (λ cut. (apart ≡ None)
@@ -79,8 +80,8 @@ module _ {W : Type 0} (contents : W → Option (List ℕ)) (form : FileForm) (ca
             × (cut ≡ past_left form (data_of image sectors) left) × HasForm form (data_of image sectors))
             → IfOk r (AreBytesTaken contents form candidates image name old new)
         long-taken = IfOk-weaker r _ _ (λ cut holds.
-            let here : IsFoundLong image (Any candidates) name sectors None left =
-            subst (λ (o : Option Fault). IsFoundLong image (Any candidates) name sectors o left) holds.0 found in
+            let here : IsFoundLong image (Any candidates) name sectors None slot left =
+            subst (λ (o : Option Fault). IsFoundLong image (Any candidates) name sectors o slot left) holds.0 found in
             inr (record {
               sectors = sectors;
               file = here.file;

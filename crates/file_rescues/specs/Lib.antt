@@ -4,6 +4,7 @@ pub mod Faults
 pub mod Forms
 pub mod Found
 pub mod Long
+pub mod LongRecords
 pub mod Printed
 pub mod Programs
 pub mod Records

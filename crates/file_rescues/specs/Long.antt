@@ -36,10 +36,12 @@ pub record IsLongFile (image : List ℕ) (kind : Kind) (name : List ℕ) (sector
   pub chain : long_chain image slot had.broken ≡ Some sectors
   pub fault_is : fault ≡ apart_from_chain slot blocks had.ended had.all
 
--- such a file was found, and its last block before it leaves track 35, if it has one. Each of its sectors lies in the image
+-- such a file was found, with this entry, and its last block before it leaves track 35, if it has one. Each of its sectors lies in the
+-- image
 pub record IsFoundLong (image : List ℕ) (kind : Kind) (name : List ℕ) (sectors : List ℕ) (apart : Option Fault)
-    (left : Option Place) : Type 0 where
+    (slot : Slot) (left : Option Place) : Type 0 where
   pub file : IsLongFile image kind name sectors apart
+  pub entry : slot ≡ file.slot
   pub left_is : left ≡ slice_get file.blocks (length file.blocks - 1)
   pub inside : AllByRecursion (HasSector image) sectors
 

@@ -1,80 +1,30 @@
 //! The bytes of a file of any type, of an image that may have more tracks than 35.
-ghost use Rattle.std.specs.Prelude.{◌≡◌, ◌⊎◌, ◌-◌, ◌++◌, IfErr, IfOk, MatchOption, None, OnErr, OnOk, Some, length, slice_get};
+ghost use Rattle.std.specs.Prelude.{◌≡◌, ◌⊎◌, ◌++◌, IfErr, IfOk, None, OnErr, OnOk, Some};
 ghost use Rattle.std.specs.Io.KnownBytes.{Appends};
 ghost use Rattle.std.specs.List.{AllByRecursion};
-ghost use Rattle.command_faults.specs.Faults.{IsLoadFault};
 ghost use Rattle.command_faults.specs.Outputs.{HandsPart};
 ghost use Rattle.command_faults.specs.declared.faults.CommandFault.TheVariants as faults;
-ghost use Rattle.damaged_files.specs.reached.Sizes.{disk_of};
 ghost use Rattle.disk_layout.specs.declared.faults.Fault.{Fault};
 ghost use Rattle.file_rescues.specs.Forms.{HasForm, file_as};
-ghost use Rattle.file_rescues.specs.Long.{IsFoundLong, IsNoLongFile};
 ghost use Rattle.file_rescues.specs.Printed.{AreBytesTaken, IsBytesFault, IsBytesPart, IsLongStop, past_left};
-ghost use Rattle.file_rescues.specs.declared.finding.Kind.TheVariants as kinds;
 ghost use Rattle.file_rescues.specs.declared.forms.FileForm.TheVariants as forms;
 ghost use Rattle.long_chains.specs.Chains.{data_of};
 ghost use Rattle.long_chains.specs.Sectors.{HasSector};
 
 use crate::byte_printing::disk_bytes;
-use crate::finding::{Candidates, Kind, find_file};
+use crate::finding::{Candidates, Kind};
 use crate::forms::{ByteForm, FileForm};
-use crate::long_files::{find_long, has_more_tracks, read_long};
+use crate::long_files::read_long;
+use crate::long_finding::{LongFile, find_long_file};
 use crate::programs::is_program;
 use arrayvec::ArrayVec;
-use command_faults::{CommandFault, flush, load, put};
+use command_faults::{CommandFault, flush, put};
 use d64_image::Place;
 use damaged_files::disk_in;
 use disk_layout::Fault;
 use line_text::{Listing, Readable, is_ended};
-use long_chains::MOST_SECTORS;
 use std::alloc::Global;
 use std::io::{self, Write};
-
-/// A file that goes on past track 35.
-#[derive(Clone, Copy)]
-struct LongFile {
-    /// The block where it leaves track 35, if it has one before.
-    left: Option<Place>,
-    /// Its chain aside, why it may not be whole.
-    apart: Option<Fault>,
-}
-
-/// The last one of these blocks.
-fn last_of(blocks: &[Place]) -> Option<Place>
-    ensures { result ≡ slice_get blocks.now (length blocks.now - 1) }
-{
-    blocks.last().copied()
-}
-
-/// Finds the first file of this name among the candidates, if it goes on past track 35, and fills `chain` with its sectors. `NoMemory`
-/// or `ImageSize`: the disk of the image wasn't loaded.
-fn find_long_file(
-    alloc: Global,
-    image: &[u8],
-    candidates: Candidates,
-    name: &[u8],
-    chain: &mut ArrayVec<u16, MOST_SECTORS>,
-) -> Result<Option<LongFile>, CommandFault>
-    ensures ok { IfOk result (λ found. MatchOption found (IsNoLongFile image.now (kinds.Any candidates) name.now)
-        (λ file. IsFoundLong image.now (kinds.Any candidates) name.now chain.new.items file.apart file.left)) }
-    ensures err { IfErr result (IsLoadFault (disk_of image.now)) }
-{
-    if !has_more_tracks(image) {
-        return Ok(None);
-    }
-    let disk = load(alloc, disk_in(image))?;
-    let mut blocks = ArrayVec::new();
-    let Ok(file) = find_file(&disk, Kind::Any(candidates), name, &mut blocks) else {
-        return Ok(None);
-    };
-    if !find_long(image, &file.slot, file.broken, chain) {
-        return Ok(None);
-    }
-    Ok(Some(LongFile {
-        left: last_of(blocks.as_slice()),
-        apart: file.apart,
-    }))
-}
 
 /// Writes a file with these bytes in this form.
 fn write_as(text: &mut Vec<u8>, form: FileForm, bytes: &[u8]) -> io::Result<()>
@@ -189,7 +139,7 @@ pub fn bytes_image<W: Write>(
     ensures part { OnErr result (IsBytesPart W.contents form candidates image.now name.now out.old out.new) }
 {
     let mut chain = ArrayVec::new();
-    let found = find_long_file(alloc, image, candidates, name, &mut chain)?;
+    let found = find_long_file(alloc, image, Kind::Any(candidates), name, &mut chain)?;
     match found {
         Some(file) => print_long(alloc, image, &file, chain.as_slice(), form, out),
         None => disk_bytes(alloc, disk_in(image), candidates, name, form, out),

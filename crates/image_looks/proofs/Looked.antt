@@ -7,7 +7,9 @@ use Rattle.command_faults.specs.declared.faults.CommandFault.{CommandFault}
 use Rattle.command_faults.specs.declared.faults.CommandFault.TheVariants as faults
 use Rattle.opened_files.specs.Ends.{JobEnd, as_run, IsPrintEnd, IsQuietPrint}
 use Rattle.opened_files.specs.HostFiles.{IsUnbegun, RunEnds}
-use Rattle.image_looks.specs.Looks.{IsTakingEnd, WhyNoBytes, WhyNoRecords, taken_end}
+use Rattle.image_looks.specs.Looks.{IsTakingEnd, WhyNoBytes, taken_end}
+use Rattle.damaged_files.specs.reached.Sizes.{disk_of}
+use Rattle.file_rescues.specs.LongRecords.{WhyNoDiskRecords, WhyNotOut}
 use Rattle.file_rescues.specs.declared.finding.Candidates.{Candidates}
 use Rattle.file_rescues.specs.declared.finding.Candidates.TheVariants.{All, Closed}
 use Rattle.file_rescues.specs.declared.forms.FileForm.{FileForm}
@@ -40,11 +42,19 @@ module _ {W : Type 0} (old new : W) where
   taken Taken Why other (Err _) end is ok err = subst (IsTakingEnd Taken Why old new) (sym is) err
 
 -- the records that aren't taken are none of a file that is cut short
+no-cut-disk : {W : Type 0} (contents : W → Option (List ℕ)) (form : RecordForm) (candidates : Candidates)
+    (image name : List ℕ) (old new : W) (p : Place)
+    → WhyNoDiskRecords contents form candidates image name old new (faults.Short p) → ⊥
+no-cut-disk contents form Closed image name old new p why = why.0
+no-cut-disk contents form All image name old new p why = why.0
+
 pub no-cut-records : {W : Type 0} (contents : W → Option (List ℕ)) (form : RecordForm) (candidates : Candidates)
     (image name : List ℕ) (old new : W) (p : Place)
-    → WhyNoRecords contents form candidates image name old new (faults.Short p) → ⊥
-no-cut-records contents form Closed image name old new p why = why.0
-no-cut-records contents form All image name old new p why = why.0
+    → WhyNotOut contents form candidates image name old new (faults.Short p) → ⊥
+no-cut-records contents form candidates image name old new p (inl (none, why)) =
+    no-cut-disk contents form candidates (disk_of image) name old new p why
+no-cut-records contents form candidates image name old new p (inr (inl (never, same))) = never
+no-cut-records contents form candidates image name old new p (inr (inr (sectors, apart, file, stop))) = stop.0
 
 -- the fault says that a file is cut short
 abbrev SaysShort : CommandFault → Type 0

@@ -10,7 +10,7 @@ use Rattle.opened_files.specs.declared.extents.Extent.{Extent}
 use Rattle.opened_files.specs.declared.extents.Extent.TheVariants.{Disk, FirstTracks, Whole}
 
 -- a directory, a check and a shop of a disk of 35 tracks alone, unless they are asked for as the image is; those of the whole image,
--- and so a map, a page, a poster and the bytes of a file; everything besides of the first 35 tracks of a longer image
+-- and so a map, a page, a poster, and the bytes and the records of a file; everything besides of the first 35 tracks of a longer image
 abbrev pub extent_of : Look → Extent
 extent_of (looks.List form) = Disk
 extent_of looks.Check = Disk
@@ -21,6 +21,7 @@ extent_of looks.Map = Whole
 extent_of looks.Picture = Whole
 extent_of looks.Poster = Whole
 extent_of (looks.Bytes form candidates name) = Whole
+extent_of (looks.Records form candidates name) = Whole
 extent_of _ = FirstTracks
 
 -- which images are shown as an object: as the look's, and where they may be longer, their first 35 tracks, but a check and a map of the whole

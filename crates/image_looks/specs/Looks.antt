@@ -7,11 +7,10 @@ use Rattle.disk_reports.specs.AllFaults.{AreListed}
 use Rattle.disk_reports.specs.Listings.{IsCheckFault, IsListFault, IsListed}
 use Rattle.damaged_files.specs.reached.Sizes.{disk_of}
 use Rattle.disk_reports.specs.Outcomes.{IsDescribeFault}
-use Rattle.file_rescues.specs.Printed.{AreBytesTaken, AreRecordsTaken as AreClosedTaken, AreUnclosedTaken, IsBytesFault, IsBytesPart, IsRecordsFault, IsRecordsPart, IsUnclosedFault, IsUnclosedPart}
+use Rattle.file_rescues.specs.LongRecords.{AreRecordsOut, WhyNotOut}
+use Rattle.file_rescues.specs.Printed.{AreBytesTaken, IsBytesFault, IsBytesPart}
 use Rattle.file_rescues.specs.declared.finding.Candidates.{Candidates}
-use Rattle.file_rescues.specs.declared.finding.Candidates.TheVariants.{All, Closed}
 use Rattle.file_rescues.specs.declared.forms.FileForm.{FileForm}
-use Rattle.file_rescues.specs.declared.forms.RecordForm.{RecordForm}
 use Rattle.shop_commands.specs.Shops.{IsShowFault, IsShown}
 use Rattle.image_log.specs.life.Tags.{SaysLogAway}
 use Rattle.command_faults.specs.declared.faults.CommandFault.{CommandFault}
@@ -42,19 +41,7 @@ IsTakingEnd Taken Why old new (Err (faults.Short p)) = Taken old new (Some p)
 IsTakingEnd Taken Why old new (Err fault) = Why old new fault
 
 module _ {W : Type 0} (contents : W → Option (List ℕ)) where
-  -- the records of the file of a name were printed, and it is cut short there, or isn't
-  abbrev pub AreRecordsTaken : RecordForm → Candidates → (image name : List ℕ) → W → W → Option Place → Type 0
-  AreRecordsTaken form Closed image name old new cut = AreClosedTaken contents form image name old new cut
-  AreRecordsTaken form All image name old new cut = AreUnclosedTaken contents form image name old new cut
-
-  -- why they weren't, or not surely all of them, and what was printed then
-  abbrev pub WhyNoRecords : RecordForm → Candidates → (image name : List ℕ) → W → W → CommandFault → Type 0
-  WhyNoRecords form Closed image name old new fault =
-      IsRecordsFault contents form image name old new fault × IsRecordsPart contents form image name old new
-  WhyNoRecords form All image name old new fault =
-      IsUnclosedFault contents form image name old new fault × IsUnclosedPart contents form image name old new
-
-  -- why its bytes weren't
+  -- why the bytes of a file weren't printed, or not surely all of them, and what was printed then
   abbrev pub WhyNoBytes : FileForm → Candidates → (image name : List ℕ) → W → W → CommandFault → Type 0
   WhyNoBytes form candidates image name old new fault =
       IsBytesFault contents form candidates image name old new fault
@@ -87,8 +74,8 @@ module _ {W : Type 0} (contents : W → Option (List ℕ)) where
   IsLook (looks.Sector p) image old new end =
       IsQuietPrint (IsSectorPrinted contents image p) (IsViewFault image) old new end
   IsLook (looks.Records form candidates name) image old new end =
-      IsTakingEnd (AreRecordsTaken form candidates image (name_bytes name))
-      (WhyNoRecords form candidates image (name_bytes name)) old new end
+      IsTakingEnd (AreRecordsOut contents form candidates image (name_bytes name))
+      (WhyNotOut contents form candidates image (name_bytes name)) old new end
   IsLook (looks.Bytes form candidates name) image old new end =
       IsTakingEnd (AreBytesTaken contents form candidates image (name_bytes name))
       (WhyNoBytes form candidates image (name_bytes name)) old new end

@@ -77,7 +77,7 @@ impl Look {
         match self {
             Look::List(_) | Look::Check | Look::Faults | Look::Show(_) => Extent::Disk,
             Look::AsIs(_) | Look::Map | Look::Picture | Look::Poster => Extent::Whole,
-            Look::Bytes { .. } => Extent::Whole,
+            Look::Bytes { .. } | Look::Records { .. } => Extent::Whole,
             _ => Extent::FirstTracks,
         }
     }

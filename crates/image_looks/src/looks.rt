@@ -1,7 +1,7 @@
 //! What is printed of one image: over its bytes, and over those at a path.
-ghost use Rattle.std.specs.Prelude.{◌≡◌, IfErr, IfOk};
+ghost use Rattle.std.specs.Prelude.{◌≡◌};
 ghost use Rattle.image_looks.specs.LookRuns.{IsLookedAt};
-ghost use Rattle.image_looks.specs.Looks.{AreRecordsTaken, IsAsIs, IsLook, IsShowEnd, WhyNoRecords, taken_end as end_of};
+ghost use Rattle.image_looks.specs.Looks.{IsAsIs, IsLook, IsShowEnd, taken_end as end_of};
 ghost use Rattle.opened_files.specs.Rights.{MayReadImage};
 
 use crate::kinds::{DiskLook, Look};
@@ -12,7 +12,7 @@ use damaged_files::disk_in;
 use disk_layout::Fault;
 use disk_pictures::{free_image, sector_image};
 use disk_reports::{check_image, list_image};
-use file_rescues::{Candidates, RecordForm, bytes_image, records_image, unclosed_records_image};
+use file_rescues::{bytes_image, file_records_image};
 use image_file::{HostFiles, Locks};
 use opened_files::{Loss, image_as, run_end, see_log_away};
 use shop_commands::show_image;
@@ -42,24 +42,6 @@ fn print_shop<W: Write>(
 {
     see_log_away(image, loss)?;
     run_end(show_image(alloc, image, out))
-}
-
-/// Prints the records of the first relative file of a name among the candidates. Returns where this file is cut short.
-fn take_records<W: Write>(
-    alloc: Global,
-    image: &[u8],
-    form: RecordForm,
-    candidates: Candidates,
-    name: &[u8],
-    out: &mut W,
-) -> Result<Option<Place>, CommandFault>
-    ensures ok { IfOk result (AreRecordsTaken W.contents form candidates image.now name.now out.old out.new) }
-    ensures err { IfErr result (WhyNoRecords W.contents form candidates image.now name.now out.old out.new) }
-{
-    match candidates {
-        Candidates::Closed => records_image(alloc, image, name, form, out),
-        Candidates::All => unclosed_records_image(alloc, image, name, form, out),
-    }
 }
 
 /// Prints what is asked of the disk in an image that may have more tracks, or error bytes.
@@ -110,7 +92,7 @@ pub fn look<W: Write>(
             form,
             candidates,
             ref name,
-        } => taken_end(take_records(alloc, image, form, candidates, name.as_bytes(), out)),
+        } => taken_end(file_records_image(alloc, image, candidates, name.as_bytes(), form, out)),
         Look::Bytes {
             form,
             candidates,

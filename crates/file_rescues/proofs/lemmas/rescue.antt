@@ -3,8 +3,11 @@ pub mod Counts
 pub mod Cvt
 pub mod Extracted
 pub mod Inside
+pub mod LongCvt
+pub mod LongGeos
 pub mod Made
 pub mod Parts
 pub mod Reached
+pub mod PastShared
 pub mod Scanned
 pub mod Undeleted

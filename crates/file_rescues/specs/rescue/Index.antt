@@ -13,6 +13,7 @@ use Rattle.line_text.specs.declared.petscii.characters.CharacterSet.TheVariants.
 use Rattle.line_text.specs.petscii.Quoted.{quoted}
 use Rattle.damaged_files.specs.reached.Names.{name_of}
 use Rattle.damaged_files.specs.reached.Types.{type_name}
+use Rattle.long_chains.specs.Sectors.{sector_past, track_past}
 use Rattle.file_rescues.specs.rescue.Art.{is_art}
 use Rattle.file_rescues.specs.rescue.Named.{first_name}
 use Rattle.file_rescues.specs.declared.rescue.rows.Row.{Row}
@@ -38,10 +39,15 @@ abbrev pub ended_text : Option Fault → List ℕ
 ended_text None = []
 ended_text (Some fault) = fault_text fault
 
--- the first block of the file that several have; nothing otherwise
-abbrev pub shared_text : Option Place → List ℕ
-shared_text None = []
-shared_text (Some p) = place_text p
+-- the first sector past track 35 of the file that several have; nothing otherwise
+abbrev pub past_text : Option ℕ → List ℕ
+past_text None = []
+past_text (Some n) = decimal (track_past n) ++ (codes "/" ++ decimal (sector_past n))
+
+-- the first block of the file that several have, on tracks 1 to 35 if there is one, and otherwise past these
+abbrev pub shared_text : Option Place → (past : Option ℕ) → List ℕ
+shared_text None past = past_text past
+shared_text (Some p) past = place_text p
 
 -- the hash of the file's bytes, in hexadecimal digits; nothing if there is no file
 abbrev pub hash_text : Option (List ℕ) → List ℕ
@@ -51,7 +57,7 @@ hash_text (Some hash) = flat_map hex hash
 -- the name of the file; none of directory art. Each byte of it is its own text
 unfoldable pub file_text : Row → List ℕ
 file_text r =
-    if is_art r.slot then [] else text_of (first_name r.number r.slot)
+    if is_art r.slot then [] else text_of (first_name r.number r.is_cvt r.slot)
 
 -- whose the row is: the entry's number, the file's name, the entry's name as it is typed, and as a C64 shows it
 unfoldable pub naming_text : Row → List ℕ
@@ -66,13 +72,13 @@ entry_text r =
     ++ (locked_text (type_byte r.slot) ++ (codes "," ++ (decimal (count_field r.slot) ++ codes ","))))))
 
 -- what was found: how many blocks, the length of a record, how many bytes, and what is wrong
-unfoldable pub found_text : Row → List ℕ
-found_text r =
+unfoldable pub found_text : Row → (past : Option ℕ) → List ℕ
+found_text r past =
     decimal r.blocks ++ (codes "," ++ (length_text (type_byte r.slot) (record_length r.slot) ++ (codes ","
-    ++ (decimal r.bytes ++ (codes "," ++ (ended_text r.fault ++ (codes "," ++ shared_text r.shared)))))))
+    ++ (decimal r.bytes ++ (codes "," ++ (ended_text r.fault ++ (codes "," ++ shared_text r.shared past)))))))
 
--- the line of a file, with what is said of its blocks that weren't read
-unfoldable pub row_text : Row → (errors : List ℕ) → List ℕ
-row_text r errors =
-    naming_text r ++ (entry_text r ++ (found_text r ++ (codes "," ++ (errors ++ (codes ","
+-- the line of a file, with its first sector past track 35 that several have, and what is said of its blocks that weren't read
+unfoldable pub row_text : Row → (past : Option ℕ) → (errors : List ℕ) → List ℕ
+row_text r past errors =
+    naming_text r ++ (entry_text r ++ (found_text r past ++ (codes "," ++ (errors ++ (codes ","
     ++ (hash_text r.hash ++ codes "\n"))))))

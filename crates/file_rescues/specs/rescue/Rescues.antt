@@ -3,7 +3,7 @@ use Rattle.std.specs.Prelude.{◌≡◌, ◌≢◌, ◌⊎◌, ◌≤◌, ℕ, �
 use Rattle.std.specs.Prelude.{false, true}
 use Rattle.std.specs.Prelude.{filter, if◌then◌else◌, length, map, nat_eq, nat_lt}
 use Rattle.std.specs.List.{AllByRecursion}
-use Rattle.std.specs.Option.{option_or}
+use Rattle.std.specs.Option.{is_some, option_or}
 use Rattle.sha2.specs.Sha256.{sha256}
 use Rattle.d64_image.specs.Images.{Image}
 use Rattle.d64_image.specs.Memory.{sectors_in}
@@ -35,10 +35,11 @@ use Rattle.file_rescues.specs.rescue.Errors.{errors_of}
 use Rattle.file_rescues.specs.rescue.Folders.{AddsFiles, AddsPart, NewFile, new_file}
 use Rattle.file_rescues.specs.rescue.Geos.{cvt_bytes}
 use Rattle.file_rescues.specs.rescue.Index.{heading, row_text}
+use Rattle.file_rescues.specs.rescue.LongGeos.{long_cvt, long_geos}
 use Rattle.file_rescues.specs.rescue.Named.{first_name}
 use Rattle.damaged_files.specs.reached.Names.{name_of}
 use Rattle.file_rescues.specs.rescue.Scanned.{with_scanned}
-use Rattle.file_rescues.specs.rescue.Sharing.{owned}
+use Rattle.file_rescues.specs.rescue.Sharing.{first_past, is_taken, owned, past_of}
 use Rattle.file_rescues.specs.declared.rescue.choices.Choice.{Choice}
 use Rattle.file_rescues.specs.declared.rescue.rescuing.Rescued.{Rescued}
 use Rattle.file_rescues.specs.declared.rescue.rows.Row.{Row}
@@ -72,27 +73,32 @@ IsReachedBy None image img f = IsChainTaken image img f × (f.pairs.items ≡ []
 IsReachedBy (Some entry) image img f =
     IsGeosReach img entry f.blocks.items f.pairs.items f.fault f.last × (f.sectors.items ≡ [])
 
--- the file goes on past track 35, and all of it is taken
+-- All of a file of GEOS with a sector past track 35 is taken, or what is taken otherwise. It is written as CVT if it is one of GEOS
+abbrev pub IsReachedIn : Option (List ℕ × List ℕ) → (image : List ℕ) → Image → Rescued → Type 0
+IsReachedIn None image img f = IsReachedBy (geos_entry f.slot) image img f × (f.is_cvt ≡ is_some (geos_entry f.slot))
+IsReachedIn (Some parts) image img f = IsOfChain f parts.0 × (f.pairs.items ≡ parts.1) × (f.is_cvt ≡ true)
+
+-- the file has a sector past track 35, and all of it is taken
 abbrev pub is_long : Rescued → Bool
 is_long f = nat_lt 0 (length f.sectors.items)
 
 -- this is taken of the entry's file, up to this fault
 pub record IsRescued (image : List ℕ) (img : Image) (f : Rescued) : Type 0 where
-  pub reached : IsReachedBy (geos_entry f.slot) image img f
+  pub reached : IsReachedIn (long_geos image f.slot) image img f
   pub few : length f.sectors.items ≡ 0 → length f.blocks.items ≤ 683
   pub pairs : length f.pairs.items ≤ 254
   pub inside : AllByRecursion (HasSector image) f.sectors.items
   pub short : length f.sectors.items ≤ 802
+  pub cvt : f.is_cvt ≡ true → length f.sectors.items ≤ 800
 
 -- this is taken of these entries, in their order
 pub record AreRescued (image : List ℕ) (img : Image) (slots : List Slot) (files : List Rescued) : Type 0 where
   pub entries : map (λ f. f.slot) files ≡ slots
   pub reached : AllByRecursion (IsRescued image img) files
 
--- a file and those after it, or only those, if a block of it is shared
-abbrev pub with_unshared : (shared : Option Place) → Rescued → List Rescued → List Rescued
-with_unshared None f files = f ∷ files
-with_unshared (Some p) f files = files
+-- a file and those after it, or only those, if a block of it is taken
+abbrev pub with_untaken : (taken : Bool) → Rescued → List Rescued → List Rescued
+with_untaken taken f files = if taken then files else f ∷ files
 
 -- what was found of these deleted entries, in their order. Left out are those of which a block that can be reached is
 -- also the map's, the directory's, or that of one of these files
@@ -101,7 +107,7 @@ abbrev pub AreUndeleted : (image : List ℕ) → Image → (directory : List Pla
 AreUndeleted image img directory files [] found = found ≡ []
 AreUndeleted image img directory files (s ∷ ss) found = (f : Rescued) × (rest : List Rescued) × (f.slot ≡ s) × IsRescued image img f
     × AreUndeleted image img directory files ss rest
-    × (found ≡ with_unshared (first_shared (owned directory (files ++ f ∷ [])) f.blocks.items) f rest)
+    × (found ≡ with_untaken (is_taken directory files f) f rest)
 
 -- the same of the deleted entries of a directory, if they are chosen: otherwise there are none
 abbrev pub AreAdded : Bool → (image : List ℕ) → Image → (directory : List Place) → (files : List Rescued) → List Rescued → Type 0
@@ -122,9 +128,14 @@ abbrev pub bytes_by : Option GeosEntry → Image → Rescued → List ℕ
 bytes_by None img f = file_bytes img f.blocks.items f.last
 bytes_by (Some entry) img f = cvt_bytes img entry f
 
+-- those of a file with sectors past track 35; of one of GEOS those of its CVT
+abbrev pub long_bytes : (image : List ℕ) → Rescued → List ℕ
+long_bytes image f =
+    if f.is_cvt then long_cvt image f.slot f.sectors.items f.pairs.items else data_of image f.sectors.items
+
 -- the bytes that are taken of the file
 abbrev pub bytes_in : (image : List ℕ) → Image → Rescued → List ℕ
-bytes_in image img f = if is_long f then data_of image f.sectors.items else bytes_by (geos_entry f.slot) img f
+bytes_in image img f = if is_long f then long_bytes image f else bytes_by (geos_entry f.slot) img f
 
 -- how many blocks are
 abbrev pub block_count : Rescued → ℕ
@@ -139,7 +150,7 @@ line_files n f bytes (Some L) =
 -- the files of entry n: one with its bytes, and one with its records
 unfoldable pub own_files : (image : List ℕ) → Image → ℕ → Rescued → List NewFile
 own_files image img n f =
-    new_file (first_name n f.slot) (bytes_in image img f)
+    new_file (first_name n f.is_cvt f.slot) (bytes_in image img f)
     ∷ line_files n f (bytes_in image img f) (records_length f.slot)
 
 -- all files that are made of entry n: none if it is directory art
@@ -153,13 +164,15 @@ files_from image img n (f ∷ fs) = files_of image img n f ++ files_from image i
 
 -- what the index says of entry n, which is directory art: it has nothing
 abbrev pub art_row : ℕ → Slot → Row
-art_row n s = record { number = n; slot = s; blocks = 0; bytes = 0; fault = None; shared = None; hash = None }
+art_row n s =
+    record { number = n; slot = s; is_cvt = false; blocks = 0; bytes = 0; fault = None; shared = None; hash = None }
 
 -- what it says of a file, if these sectors are somebody's
 abbrev pub file_row : (image : List ℕ) → Image → List Place → ℕ → Rescued → Row
 file_row image img all n f = record {
   number = n;
   slot = f.slot;
+  is_cvt = f.is_cvt;
   blocks = block_count f;
   bytes = length (bytes_in image img f);
   fault = f.fault;
@@ -171,19 +184,19 @@ file_row image img all n f = record {
 abbrev pub row_of : (image : List ℕ) → Image → List Place → ℕ → Rescued → Row
 row_of image img all n f = if is_art f.slot then art_row n f.slot else file_row image img all n f
 
--- the line of entry n, of an image with these bytes
-abbrev pub line_of : (image : List ℕ) → Image → List Place → ℕ → Rescued → List ℕ
-line_of image img all n f = row_text (row_of image img all n f) (errors_of image f)
+-- the line of entry n, of an image with these bytes, if these sectors past track 35 are shared
+abbrev pub line_of : (image : List ℕ) → Image → List Place → (past : List ℕ) → ℕ → Rescued → List ℕ
+line_of image img all past n f = row_text (row_of image img all n f) (first_past past f) (errors_of image f)
 
 -- the lines of several entries, the first of them numbered n
-unfoldable pub rows_from : (image : List ℕ) → Image → List Place → ℕ → List Rescued → List ℕ
-rows_from image img all n [] = []
-rows_from image img all n (f ∷ fs) = line_of image img all n f ++ rows_from image img all (n + 1) fs
+unfoldable pub rows_from : (image : List ℕ) → Image → List Place → (past : List ℕ) → ℕ → List Rescued → List ℕ
+rows_from image img all past n [] = []
+rows_from image img all past n (f ∷ fs) = line_of image img all past n f ++ rows_from image img all past (n + 1) fs
 
 -- the index of these files of a disk whose directory has these sectors
 abbrev pub index_of_files : (image : List ℕ) → Image → List Place → List Rescued → NewFile
 index_of_files image img directory files =
-    new_file (codes "index.csv") (heading ++ rows_from image img (owned directory files) 1 files)
+    new_file (codes "index.csv") (heading ++ rows_from image img (owned directory files) (past_of 2 files) 1 files)
 
 -- all files that are made, in their order: those of each entry, and the index
 abbrev pub all_files : (image : List ℕ) → Image → List Place → List Rescued → List NewFile

@@ -5,12 +5,14 @@ ghost use Rattle.d64_image.specs.Memory.{disk_image};
 ghost use Rattle.disk_layout.specs.Directory.{slots_in};
 ghost use Rattle.damaged_files.specs.reached.Sharing as sharing;
 ghost use Rattle.file_rescues.specs.rescue.Deleted as deleted;
-ghost use Rattle.file_rescues.specs.rescue.Rescues.{AreChosen, AreUndeleted, with_unshared};
-ghost use Rattle.file_rescues.specs.rescue.Sharing.{owned};
+ghost use Rattle.file_rescues.specs.rescue.Rescues.{AreChosen, AreUndeleted, with_untaken};
+ghost use Rattle.file_rescues.specs.rescue.Sharing as specs;
+ghost use Rattle.file_rescues.specs.rescue.Sharing.{owned, past_of};
 ghost use Rattle.file_rescues.specs.declared.rescue.rescuing.Rescued.{Rescued};
 ghost use Rattle.command_faults.specs.declared.faults.CommandFault.TheVariants as faults;
 
 use crate::rescue::choices::Choice;
+use crate::rescue::past_sharing::{first_among, past_of};
 use crate::rescue::rescuing::{Rescued, rescue, rescue_all};
 use crate::rescue::sharing::owners_of;
 use crate::rescue::slots::used_of;
@@ -68,18 +70,24 @@ fn shared_with(directory: &[Place], files: &[Rescued], file: &Rescued) -> Option
     owners.first_shared(blocks)
 }
 
-/// Adds this file, unless a block of it is shared. The only error is `NoMemory`.
-fn add_unshared(
-    files: &mut Vec<Rescued>,
-    file: Rescued,
-    shared: Option<Place>,
-) -> Result<(), CommandFault>
-    ensures ok { OnOk result (files.new.items ≡ files.old.items ++ with_unshared shared file []) }
+/// Whether a block of this file that can be reached is also the map's, the directory's or that of one of these files, of which these are
+/// the sectors past track 35.
+fn is_taken(directory: &[Place], files: &[Rescued], past: &[u16], file: &Rescued) -> bool
+    requires { past.now ≡ past_of 1 files.now }
+    ensures { result ≡ specs.is_taken directory.now files.now file.now }
+{
+    shared_with(directory, files, file).is_some()
+        || first_among(past, file.sectors.as_slice()).is_some()
+}
+
+/// Adds this file, unless a block of it is taken. The only error is `NoMemory`.
+fn add_untaken(files: &mut Vec<Rescued>, file: Rescued, taken: bool) -> Result<(), CommandFault>
+    ensures ok { OnOk result (files.new.items ≡ files.old.items ++ with_untaken taken file []) }
     ensures err { IfErr result (λ fault. fault ≡ faults.NoMemory) }
 {
-    let None = shared else {
+    if taken {
         return Ok(());
-    };
+    }
     if files.push(file).is_err() {
         return Err(CommandFault::NoMemory);
     }
@@ -102,13 +110,14 @@ fn add_undeleted(
     ensures err { IfErr result (λ fault. fault ≡ faults.NoMemory) }
 {
     let used = files.as_slice().len();
+    let past = past_of(files.as_slice(), 1);
     let mut room = ArrayVec::new();
     let entries = deleted_of(disk, directory);
     let slots = entries.as_slice();
     for slot in slots {
         let file = rescue(alloc, image, disk, slot, &mut room)?;
-        let shared = shared_with(directory, &files.as_slice()[..used], &file);
-        add_unshared(files, file, shared)?;
+        let taken = is_taken(directory, &files.as_slice()[..used], past.as_slice(), &file);
+        add_untaken(files, file, taken)?;
     }
     Ok(())
 }

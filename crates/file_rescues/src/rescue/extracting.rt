@@ -9,7 +9,7 @@ ghost use Rattle.file_rescues.specs.rescue.Index.{row_text};
 ghost use Rattle.damaged_files.specs.reached.Owned.{CountsAll};
 ghost use Rattle.file_rescues.specs.rescue.Rescues.{IsExtractFault, IsExtracted, IsMakeFault, IsRescued, all_files};
 ghost use Rattle.file_rescues.specs.rescue.Rescues.{files_from, files_of, first_fault, row_of, rows_from};
-ghost use Rattle.file_rescues.specs.rescue.Sharing.{owned};
+ghost use Rattle.file_rescues.specs.rescue.Sharing.{first_past, owned};
 
 use crate::rescue::art::is_art;
 use crate::rescue::choices::Choice;
@@ -18,6 +18,7 @@ use crate::rescue::errors::{Errors, misread_blocks, misread_past};
 use crate::rescue::folders::NewFolder;
 use crate::rescue::making::{make, make_files};
 use crate::rescue::output::put;
+use crate::rescue::past_sharing::{first_past, past_of};
 use crate::rescue::rescuing::Rescued;
 use crate::rescue::rows::{Line, Row};
 use crate::rescue::scanning::add_chosen;
@@ -60,6 +61,7 @@ fn make_row<F: NewFolder>(
         return Ok(Row {
             number,
             slot: file.slot,
+            is_cvt: false,
             blocks: 0,
             bytes: 0,
             fault: None,
@@ -71,6 +73,7 @@ fn make_row<F: NewFolder>(
     Ok(Row {
         number,
         slot: file.slot,
+        is_cvt: file.is_cvt,
         blocks: file.block_count(),
         bytes: bytes.len(),
         fault: file.fault,
@@ -86,6 +89,7 @@ fn extract_entry<F: NewFolder>(
     disk: &MemDisk,
     folder: &mut F,
     owners: &Owners,
+    shared: &[u16],
     number: u8,
     file: &Rescued,
     index: &mut Vec<u8>,
@@ -94,21 +98,22 @@ fn extract_entry<F: NewFolder>(
     ensures row { IfOk result (λ row. (all : List Place) → CountsAll owners.now all
         → row ≡ row_of image.now (disk_image disk.now) all number file.now) }
     ensures index { IfOk result (λ row. index.new.items
-        ≡ index.old.items ++ row_text row (errors_of image.now file.now)) }
+        ≡ index.old.items ++ row_text row (first_past shared.now file.now) (errors_of image.now file.now)) }
     ensures ok { IfOk result (λ row. AddsFiles (F.files folder.old) (F.files folder.new)
         (files_of image.now (disk_image disk.now) number file.now)) }
     ensures err { IfErr result (λ fault. IsMakeFault fault
         × AddsPart (F.files folder.old) (F.files folder.new) (files_of image.now (disk_image disk.now) number file.now)) }
 {
     let row = make_row(alloc, image, disk, folder, owners, number, file)?;
-    let misread = misread_blocks(alloc, image, file)?;
-    let past = misread_past(alloc, image, file)?;
+    let past = first_past(shared, file);
+    let blocks = misread_blocks(alloc, image, file)?;
+    let sectors = misread_past(alloc, image, file)?;
     let errors = Errors {
         image,
-        places: misread.as_slice(),
-        past: past.as_slice(),
+        places: blocks.as_slice(),
+        past: sectors.as_slice(),
     };
-    put(index, Line { row, errors })?;
+    put(index, Line { row, past, errors })?;
     Ok(row)
 }
 
@@ -120,6 +125,7 @@ fn extract_entries<F: NewFolder>(
     disk: &MemDisk,
     folder: &mut F,
     owners: &Owners,
+    shared: &[u16],
     files: &[Rescued],
     index: &mut Vec<u8>,
     before: Option<Fault>,
@@ -129,7 +135,7 @@ fn extract_entries<F: NewFolder>(
     ensures made { IfOk result (λ _. AddsFiles (F.files folder.old) (F.files folder.new)
         (files_from image.now (disk_image disk.now) 1 files.now)) }
     ensures rows { IfOk result (λ _. (all : List Place) → CountsAll owners.now all
-        → index.new.items ≡ index.old.items ++ rows_from image.now (disk_image disk.now) all 1 files.now) }
+        → index.new.items ≡ index.old.items ++ rows_from image.now (disk_image disk.now) all shared.now 1 files.now) }
     ensures told { IfOk result (λ fault. (all : List Place) → CountsAll owners.now all
         → fault ≡ first_fault image.now (disk_image disk.now) all 1 before files.now) }
     ensures err { IfErr result (λ fault. IsMakeFault fault
@@ -139,7 +145,9 @@ fn extract_entries<F: NewFolder>(
     let mut number = 0;
     for file in files {
         number += 1;
-        let row = extract_entry(alloc, image, disk, folder, owners, number, file, index)?;
+        let row = extract_entry(
+            alloc, image, disk, folder, owners, shared, number, file, index,
+        )?;
         found = found.or(row.fault());
     }
     Ok(found)
@@ -164,10 +172,19 @@ fn extract_files<F: NewFolder>(
         × AddsPart (F.files folder.old) (F.files folder.new) (all_files image.now (disk_image disk.now) sectors.now files.now)) }
 {
     let owners = owners_of(sectors, files);
+    let shared = past_of(files, 2);
     let mut index = Vec::new(alloc);
     put(&mut index, HEADING)?;
     let fault = extract_entries(
-        alloc, image, disk, folder, &owners, files, &mut index, found,
+        alloc,
+        image,
+        disk,
+        folder,
+        &owners,
+        shared.as_slice(),
+        files,
+        &mut index,
+        found,
     )?;
     make(folder, INDEX, index.as_slice())?;
     Ok(fault)

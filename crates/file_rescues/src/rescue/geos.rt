@@ -13,10 +13,10 @@ use geos_files::{GeosEntry, cvt_signature};
 use std::alloc::Global;
 
 /// The zeros after the signature.
-const ZEROS: [u8; 196] = [0; 196];
+pub(crate) const ZEROS: [u8; 196] = [0; 196];
 
 /// How many blocks come before those of the data.
-fn leading(has_records: bool) -> usize
+pub(crate) fn leading(has_records: bool) -> usize
     ensures { result ≡ geos.leading has_records }
 {
     if has_records { 2 } else { 1 }

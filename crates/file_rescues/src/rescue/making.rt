@@ -1,13 +1,15 @@
 //! The files that are made of an entry.
-ghost use Rattle.std.specs.Prelude.{◌≡◌, ◌≤◌, IfErr, IfOk, OnOk, [], ◌∷◌, length};
+ghost use Rattle.std.specs.Prelude.{◌≡◌, ◌≤◌, IfErr, IfOk, OnOk, [], ◌∷◌, length, true};
+ghost use Rattle.std.specs.List.{AllByRecursion};
 ghost use Rattle.d64_image.specs.Memory.{disk_image};
 ghost use Rattle.file_rescues.specs.rescue.Folders.{AddsFiles, AddsPart, StaysInside, new_file};
-ghost use Rattle.file_rescues.specs.rescue.Rescues.{IsMakeFault, IsRescued, bytes_by, bytes_in, line_files, own_files};
+ghost use Rattle.file_rescues.specs.rescue.Rescues.{IsMakeFault, IsRescued, bytes_by, bytes_in, line_files, long_bytes, own_files};
 ghost use Rattle.file_rescues.specs.rescue.Named.{first_name};
 ghost use Rattle.file_rescues.specs.Found.{records_length};
 ghost use Rattle.file_rescues.specs.Records.{records_of, records_text};
 ghost use Rattle.damaged_files.specs.reached.Names.{name_of};
 ghost use Rattle.geos_files.specs.Entries.{geos_entry};
+ghost use Rattle.long_chains.specs.Sectors.{HasSector};
 ghost use Rattle.line_text.specs.petscii.FileNames.{file_name_of};
 ghost use Rattle.line_text.specs.declared.petscii.file_names.Ending.TheVariants as endings;
 ghost use Rattle.command_faults.specs.declared.faults.CommandFault.TheVariants as faults;
@@ -19,6 +21,7 @@ use crate::long_files::read_long;
 use crate::piece_printing::print_pieces;
 use crate::rescue::folders::NewFolder;
 use crate::rescue::geos::cvt_bytes;
+use crate::rescue::long_cvt::long_cvt;
 use crate::rescue::naming::first_name;
 use crate::rescue::rescuing::Rescued;
 use command_faults::CommandFault;
@@ -54,12 +57,12 @@ fn make_first<F: NewFolder>(
     bytes: &[u8],
 ) -> Result<(), CommandFault>
     ensures ok { OnOk result (AddsFiles (F.files folder.old) (F.files folder.new)
-        (new_file (first_name number file.now.slot) bytes.now ∷ [])) }
+        (new_file (first_name number file.now.is_cvt file.now.slot) bytes.now ∷ [])) }
     ensures err { IfErr result (λ fault. IsMakeFault fault
         × AddsPart (F.files folder.old) (F.files folder.new)
-        (new_file (first_name number file.now.slot) bytes.now ∷ [])) }
+        (new_file (first_name number file.now.is_cvt file.now.slot) bytes.now ∷ [])) }
 {
-    let name = first_name(number, &file.slot);
+    let name = first_name(number, file.is_cvt, &file.slot);
     make(folder, name.as_slice(), bytes)
 }
 
@@ -92,6 +95,22 @@ fn reached_bytes(alloc: Global, disk: &MemDisk, file: &Rescued) -> Result<Vec<u8
     }
 }
 
+/// The bytes of a file with sectors past track 35; of one of GEOS those of its CVT. `NoMemory` if there was none for them.
+fn whole_bytes(alloc: Global, image: &[u8], file: &Rescued) -> Result<Vec<u8>, CommandFault>
+    requires inside { AllByRecursion (HasSector image.now) file.now.sectors.items }
+    requires few { length file.now.sectors.items ≤ 802 }
+    requires cvt { file.now.is_cvt ≡ true → length file.now.sectors.items ≤ 800 }
+    requires pairs { length file.now.pairs.items ≤ 254 }
+    ensures ok { IfOk result (λ bytes. bytes.items ≡ long_bytes image.now file.now) }
+    ensures short { IfOk result (λ bytes. length bytes.items ≤ 203708) }
+    ensures err { IfErr result (λ fault. fault ≡ faults.NoMemory) }
+{
+    if file.is_cvt {
+        return long_cvt(alloc, image, file);
+    }
+    read_long(alloc, image, file.sectors.as_slice())
+}
+
 /// The bytes of a file, as far as it can be reached. `NoMemory` if there was none for them.
 fn bytes_of(
     alloc: Global,
@@ -105,7 +124,7 @@ fn bytes_of(
     ensures err { IfErr result (λ fault. fault ≡ faults.NoMemory) }
 {
     if file.is_long() {
-        return read_long(alloc, image, file.sectors.as_slice());
+        return whole_bytes(alloc, image, file);
     }
     reached_bytes(alloc, disk, file)
 }

@@ -4,7 +4,6 @@ ghost use Rattle.file_rescues.specs.rescue.Named as named;
 
 use damaged_files::entry_name;
 use disk_layout::Slot;
-use geos_files::geos_entry;
 use line_text::{Ending, FileName, file_name};
 
 /// How many letters the ending of a name has, without the full stop.
@@ -21,13 +20,13 @@ fn cvt_name(number: u8, name: &[u8]) -> FileName
     text
 }
 
-/// The name of the file with the bytes of the entry with this number.
-pub(crate) fn first_name(number: u8, slot: &Slot) -> FileName
-    ensures { result.items ≡ named.first_name number slot.now }
+/// The name of the file with the bytes of the entry with this number, by whether they are a CVT.
+pub(crate) fn first_name(number: u8, is_cvt: bool, slot: &Slot) -> FileName
+    ensures { result.items ≡ named.first_name number is_cvt slot.now }
 {
     let name = entry_name(slot);
-    match geos_entry(slot) {
-        Some(_) => cvt_name(number, name),
-        None => file_name(number, name, Ending::of_type(slot.bytes[2])),
+    if is_cvt {
+        return cvt_name(number, name);
     }
+    file_name(number, name, Ending::of_type(slot.bytes[2]))
 }

@@ -2,7 +2,7 @@
 ghost use Rattle.std.specs.Prelude.{◌≡◌, Some};
 ghost use Rattle.file_rescues.specs.rescue.Errors.{errors_text};
 ghost use Rattle.file_rescues.specs.rescue.Index.{closed_text, ended_text, entry_text, file_text, found_text, length_text};
-ghost use Rattle.file_rescues.specs.rescue.Index.{locked_text, naming_text, row_text, shared_text};
+ghost use Rattle.file_rescues.specs.rescue.Index.{locked_text, naming_text, past_text, row_text, shared_text};
 ghost use Rattle.file_rescues.specs.rescue.Rescues as rescues;
 ghost use Rattle.file_rescues.specs.rescue.Rescues.{fault_of};
 
@@ -14,6 +14,7 @@ use d64_image::Place;
 use damaged_files::{entry_name, type_name};
 use disk_layout::{EntryView, Fault, Slot};
 use line_text::{CharacterSet, Quoted, Text};
+use long_chains::place_past;
 use std::fmt::{self, Display, Formatter};
 
 /// What the index says of a file.
@@ -23,13 +24,15 @@ pub struct Row {
     pub number: u8,
     /// Its entry.
     pub slot: Slot,
+    /// Whether its file is a CVT.
+    pub is_cvt: bool,
     /// How many of its blocks can be reached: 0 of directory art, of which nothing is said in the fields below either.
     pub blocks: usize,
     /// How many bytes these have.
     pub bytes: usize,
     /// What ended its chain, if it wasn't its end.
     pub fault: Option<Fault>,
-    /// The first of its blocks that another file has too, or the map or the directory.
+    /// The first of its blocks on tracks 1 to 35 that another file has too, or the map or the directory.
     pub shared: Option<Place>,
     /// The SHA-256 of the file's bytes: none of directory art, which has no file.
     pub hash: Option<[u8; 32]>,
@@ -111,16 +114,35 @@ impl Display for Ended {
     }
 }
 
-/// The first shared block, if there is one.
+/// The first shared sector past track 35, if there is one.
 #[derive(Clone, Copy)]
-struct Shared(Option<Place>);
+struct SharedPast(Option<u16>);
 
-impl Display for Shared {
-    ghost output = { λ shared. Some (shared_text shared.0) };
+impl Display for SharedPast {
+    ghost output = { λ shared. Some (past_text shared.0) };
 
     fn fmt<W: fmt::Write>(&self, f: &mut Formatter<W>) -> fmt::Result {
-        match self.0 {
-            None => Ok(()),
+        let Some(number) = self.0 else {
+            return Ok(());
+        };
+        let (track, sector) = place_past(number);
+        write!(f, "{track}/{sector}")
+    }
+}
+
+/// The first shared block, on tracks 1 to 35 if there is one, and otherwise past these.
+#[derive(Clone, Copy)]
+struct Shared {
+    block: Option<Place>,
+    past: Option<u16>,
+}
+
+impl Display for Shared {
+    ghost output = { λ shared. Some (shared_text shared.block shared.past) };
+
+    fn fmt<W: fmt::Write>(&self, f: &mut Formatter<W>) -> fmt::Result {
+        match self.block {
+            None => write!(f, "{}", SharedPast(self.past)),
             Some(place) => write!(f, "{}/{}", place.track(), place.sector()),
         }
     }
@@ -138,7 +160,7 @@ impl Display for NameOfFile {
         if is_art(&row.slot) {
             return Ok(());
         }
-        let file = first_name(row.number, &row.slot);
+        let file = first_name(row.number, row.is_cvt, &row.slot);
         write!(f, "{}", Text(file.as_slice()))
     }
 }
@@ -188,15 +210,18 @@ impl Display for Entry {
     }
 }
 
-/// What was found of a row's file.
+/// What was found of a row's file, with its first shared sector past track 35.
 #[derive(Clone, Copy)]
-struct Found(Row);
+struct Found {
+    row: Row,
+    past: Option<u16>,
+}
 
 impl Display for Found {
-    ghost output = { λ found. Some (found_text found.0) };
+    ghost output = { λ found. Some (found_text found.row found.past) };
 
     fn fmt<W: fmt::Write>(&self, f: &mut Formatter<W>) -> fmt::Result {
-        let row = &self.0;
+        let row = &self.row;
         let entry = EntryView::new(&row.slot.bytes);
         let (type_byte, length) = (entry.type_byte(), entry.record_length());
         write!(
@@ -206,7 +231,10 @@ impl Display for Found {
             Length { type_byte, length },
             row.bytes,
             Ended(row.fault),
-            Shared(row.shared)
+            Shared {
+                block: row.shared,
+                past: self.past
+            }
         )
     }
 }
@@ -216,21 +244,23 @@ impl Display for Found {
 pub(crate) struct Line<'a> {
     /// The row.
     pub row: Row,
+    /// The first sector past track 35 of its file that another file has too.
+    pub past: Option<u16>,
     /// The blocks.
     pub errors: Errors<'a>,
 }
 
 impl Display for Line<'_> {
-    ghost output = { λ line. Some (row_text line.row (errors_text line.errors.image.now line.errors.places.now line.errors.past.now)) };
+    ghost output = { λ line. Some (row_text line.row line.past (errors_text line.errors.image.now line.errors.places.now line.errors.past.now)) };
 
     fn fmt<W: fmt::Write>(&self, f: &mut Formatter<W>) -> fmt::Result {
-        let row = self.row;
+        let (row, past) = (self.row, self.past);
         writeln!(
             f,
             "{}{}{},{},{}",
             Naming(row),
             Entry(row),
-            Found(row),
+            Found { row, past },
             self.errors,
             Hash(row.hash)
         )

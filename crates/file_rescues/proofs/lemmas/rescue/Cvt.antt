@@ -1,6 +1,7 @@
 -- Files of GEOS: what was reached of them, and how long their CVT is.
 use Rattle.std.proofs.Common.{◌≡◌, ◌≤◌, ◌+◌, ◌-◌, ◌*◌, ◌∷◌, ◌++◌, ℕ, zero, suc, Bool, true, false, List, [], Option, None, Some, ap, append_assoc, arith, drop, inl, inr, length, length-append, map, max, refl, subst, sym, take, ◌∙◌}
 use Rattle.std.specs.List.{AllByRecursion}
+use Rattle.std.specs.Option.{is_some}
 use Rattle.std.specs.Prelude.{Err, IfOk, IsOk, Ok, OnOk, Result, codes, filter, nat_lt, replicate, slice_range}
 use Rattle.std.proofs.lemmas.Bool.{false≢true, lt-ltb}
 use Rattle.std.proofs.Math.Seq.{take-append_seam}
@@ -25,8 +26,9 @@ use Rattle.file_rescues.proofs.Pieced.{short-file}
 use Rattle.file_rescues.specs.Bytes.{file_bytes}
 use Rattle.file_rescues.specs.Long.{long_chain}
 use Rattle.file_rescues.specs.rescue.Geos.{cvt_bytes, leading}
+use Rattle.file_rescues.specs.rescue.LongGeos.{long_geos}
 use Rattle.file_rescues.specs.rescue.Named.{cvt_name}
-use Rattle.file_rescues.specs.rescue.Rescues.{IsChainTaken, IsOfChain, IsReachedBy, IsRescued, IsTaken, bytes_by, is_on_disk}
+use Rattle.file_rescues.specs.rescue.Rescues.{IsChainTaken, IsOfChain, IsReachedBy, IsReachedIn, IsRescued, IsTaken, bytes_by, is_on_disk}
 use Rattle.file_rescues.specs.declared.rescue.rescuing.Rescued.{Rescued}
 
 -- what can be reached of an entry's file isn't more than the disk
@@ -36,28 +38,45 @@ reached-few img s ps fault u (inl none) = omega (arith, ap length none.1)
 reached-few img s ps fault u (inr (inl bad)) = omega (arith, ap length bad.2)
 reached-few img s ps fault u (inr (inr walk)) = places-few ps walk.2.once
 
+-- what was taken of a file that isn't one of GEOS with a sector past track 35
+reached-in : (image : List ℕ) (img : Image) (s : Slot) (o : Option GeosEntry) (f : Rescued) → long_geos image s ≡ None
+    → geos_entry s ≡ o → f.slot ≡ s → IsReachedBy o image img f → f.is_cvt ≡ is_some o
+    → IsReachedIn (long_geos image f.slot) image img f
+reached-in image img s o f none geos slot reach cvt =
+    let here : IsReachedBy (geos_entry s) image img f × (f.is_cvt ≡ is_some (geos_entry s)) =
+    subst (λ (e : Option GeosEntry). IsReachedBy e image img f × (f.is_cvt ≡ is_some e)) (sym geos) (reach, cvt) in
+    let there : IsReachedBy (geos_entry f.slot) image img f × (f.is_cvt ≡ is_some (geos_entry f.slot)) =
+    subst (λ (t : Slot). IsReachedBy (geos_entry t) image img f × (f.is_cvt ≡ is_some (geos_entry t))) (sym slot) here in
+    subst (λ (parts : Option (List ℕ × List ℕ)). IsReachedIn parts image img f) (sym (ap (long_geos image) slot ∙ none)) there
+
+-- no file without sectors has too many
+few-here : (f : Rescued) → f.sectors.items ≡ [] → f.is_cvt ≡ true → length f.sectors.items ≤ 800
+few-here f none cvt = omega (arith, ap length none)
+
 -- the slot with what was reached
 pub geos-rescued : (image : List ℕ) (img : Image) (s : Slot) (entry : GeosEntry) (f : Rescued) (ps : List Place) (bs : List ℕ)
-    (fault : Option Fault) (u : ℕ) → geos_entry s ≡ Some entry → f.slot ≡ s → f.blocks.items ≡ ps → f.pairs.items ≡ bs
+    (fault : Option Fault) (u : ℕ) → long_geos image s ≡ None → geos_entry s ≡ Some entry → f.is_cvt ≡ true → f.slot ≡ s
+    → f.blocks.items ≡ ps → f.pairs.items ≡ bs
     → f.sectors.items ≡ [] → f.fault ≡ fault → f.last ≡ u → IsGeosReach img entry ps bs fault u → length ps ≤ 683
     → length bs ≤ 254 → IsRescued image img f
-geos-rescued image img s entry f ps bs fault u geos slot blocks pairs sectors faults end reach few short =
+geos-rescued image img s entry f ps bs fault u none geos cvt slot blocks pairs sectors faults end reach few short =
     let here : IsGeosReach img entry f.blocks.items f.pairs.items f.fault f.last =
     rw (blocks, pairs, faults, end) reach in
     record {
-      reached = subst (λ (t : Slot). IsReachedBy (geos_entry t) image img f) (sym slot)
-          (subst (λ (o : Option GeosEntry). IsReachedBy o image img f) (sym geos) (here, sectors));
+      reached = reached-in image img s (Some entry) f none geos slot (here, sectors) cvt;
       few = λ no. omega (arith, ap length blocks, few);
       pairs = omega (arith, ap length pairs, short);
       inside = subst (AllByRecursion (HasSector image)) (sym sectors) tt;
       short = omega (arith, ap length sectors);
+      cvt = few-here f sectors;
     }
 
 -- the chain was taken on tracks 1 to 35, since it isn't long
 pub chain-rescued : (image : List ℕ) (img : Image) (s : Slot) (f : Rescued) (ps : List Place) (fault : Option Fault) (u : ℕ)
-    → geos_entry s ≡ None → f.slot ≡ s → f.blocks.items ≡ ps → f.pairs.items ≡ [] → f.sectors.items ≡ [] → f.fault ≡ fault
+    → long_geos image s ≡ None → geos_entry s ≡ None → f.is_cvt ≡ false → f.slot ≡ s → f.blocks.items ≡ ps → f.pairs.items ≡ []
+    → f.sectors.items ≡ [] → f.fault ≡ fault
     → f.last ≡ u → IsReached img s ps fault u → None ≡ long_chain image s fault → IsRescued image img f
-chain-rescued image img s f ps fault u geos slot blocks pairs sectors faults end reach none =
+chain-rescued image img s f ps fault u other geos cvt slot blocks pairs sectors faults end reach none =
     let taken : IsTaken f ps fault u (long_chain image s fault) =
     subst (IsTaken f ps fault u) none (blocks, faults, end, sectors) in
     let here : IsChainTaken image img f = record {
@@ -68,12 +87,12 @@ chain-rescued image img s f ps fault u geos slot blocks pairs sectors faults end
       taken = subst (λ (t : Slot). IsTaken f ps fault u (long_chain image t fault)) (sym slot) taken;
     } in
     record {
-      reached = subst (λ (t : Slot). IsReachedBy (geos_entry t) image img f) (sym slot)
-          (subst (λ (o : Option GeosEntry). IsReachedBy o image img f) (sym geos) (here, pairs));
+      reached = reached-in image img s None f other geos slot (here, pairs) cvt;
       few = λ no. omega (arith, ap length blocks, reached-few img s ps fault u reach);
       pairs = omega (arith, ap length pairs);
       inside = subst (AllByRecursion (HasSector image)) (sym sectors) tt;
       short = omega (arith, ap length sectors);
+      cvt = few-here f sectors;
     }
 
 -- a file that isn't long has no sectors, and a chain without sectors no blocks
@@ -88,10 +107,11 @@ few-none f (n ∷ ns) same none = absurd (omega (arith, none))
 
 -- its long chain was
 pub long-rescued : (image : List ℕ) (img : Image) (s : Slot) (f : Rescued) (ps : List Place) (fault : Option Fault) (u : ℕ)
-    (shown ns : List ℕ) → geos_entry s ≡ None → f.slot ≡ s → f.pairs.items ≡ [] → IsOfChain f shown → shown ≡ ns
+    (shown ns : List ℕ) → long_geos image s ≡ None → geos_entry s ≡ None → f.is_cvt ≡ false → f.slot ≡ s → f.pairs.items ≡ []
+    → IsOfChain f shown → shown ≡ ns
     → IsReached img s ps fault u → Some ns ≡ long_chain image s fault → AllByRecursion (HasSector image) ns
     → length ns ≤ 802 → IsRescued image img f
-long-rescued image img s f ps fault u shown ns geos slot pairs of same reach long inside short =
+long-rescued image img s f ps fault u shown ns other geos cvt slot pairs of same reach long inside short =
     let mine : IsOfChain f ns = subst (IsOfChain f) same of in
     let here : IsChainTaken image img f = record {
       blocks = ps;
@@ -102,19 +122,36 @@ long-rescued image img s f ps fault u shown ns geos slot pairs of same reach lon
           (subst (IsTaken f ps fault u) long mine);
     } in
     record {
-      reached = subst (λ (t : Slot). IsReachedBy (geos_entry t) image img f) (sym slot)
-          (subst (λ (o : Option GeosEntry). IsReachedBy o image img f) (sym geos) (here, pairs));
+      reached = reached-in image img s None f other geos slot (here, pairs) cvt;
       few = λ no. few-none f ns mine.blocks (omega (arith, no, ap length mine.sectors));
       pairs = omega (arith, ap length pairs);
       inside = subst (AllByRecursion (HasSector image)) (sym mine.sectors) inside;
       short = omega (arith, ap length mine.sectors, short);
+      cvt = λ yes. absurd (false≢true (sym cvt ∙ yes));
     }
 
--- what holds of a value by three clauses of a result, where there is one
-pub if-taken : {T E : Type 0} (r : Result T E) (P Q R : T → Type 0) {S : T → Type 0} → ((x : T) → P x → Q x → R x → S x)
-    → IfOk r P → IfOk r Q → IfOk r R → IfOk r S
-if-taken (Ok x) P Q R holds p q of = holds x p q of
-if-taken (Err e) P Q R holds p q of = tt
+-- all of a file of GEOS was taken
+pub parts-rescued : (image : List ℕ) (img : Image) (s : Slot) (f : Rescued) (shown ns bytes bs : List ℕ)
+    → Some (ns, bs) ≡ long_geos image s → f.slot ≡ s → f.pairs.items ≡ bytes → IsOfChain f shown → f.is_cvt ≡ true → shown ≡ ns
+    → bytes ≡ bs → AllByRecursion (HasSector image) ns → length ns ≤ 800 → length bs ≤ 254 → IsRescued image img f
+parts-rescued image img s f shown ns bytes bs long slot pairs of cvt same also inside few short =
+    let mine : IsOfChain f ns = subst (IsOfChain f) same of in
+    let here : IsReachedIn (Some (ns, bs)) image img f = (mine, pairs ∙ also, cvt) in
+    record {
+      reached = subst (λ (parts : Option (List ℕ × List ℕ)). IsReachedIn parts image img f)
+          (long ∙ ap (long_geos image) (sym slot)) here;
+      few = λ no. few-none f ns mine.blocks (omega (arith, no, ap length mine.sectors));
+      pairs = omega (arith, ap length pairs, ap length also, short);
+      inside = subst (AllByRecursion (HasSector image)) (sym mine.sectors) inside;
+      short = omega (arith, ap length mine.sectors, few);
+      cvt = λ yes. omega (arith, ap length mine.sectors, few);
+    }
+
+-- what holds of a value by four clauses of a result, where there is one
+pub if-taken : {T E : Type 0} (r : Result T E) (P Q R U : T → Type 0) {S : T → Type 0}
+    → ((x : T) → P x → Q x → R x → U x → S x) → IfOk r P → IfOk r Q → IfOk r R → IfOk r U → IfOk r S
+if-taken (Ok x) P Q R U holds p q of cvt = holds x p q of cvt
+if-taken (Err e) P Q R U holds p q of cvt = tt
 
 -- the bytes of blocks are at most 254 each
 file-long : (img : Image) (blocks : List Place) (u : ℕ) → IsImage img
@@ -125,9 +162,13 @@ file-long img blocks u whole =
     let part = length-take (254 * (length blocks - 1) + max u 1 - 1) (joined img blocks) in
     omega (arith, long, part)
 
-signature-long : (b : Bool) → length (signature b) ≡ 28
+pub signature-long : (b : Bool) → length (signature b) ≡ 28
 signature-long true = refl
 signature-long false = refl
+
+pub leading-some : (b : Bool) → 1 ≤ leading b
+leading-some true = omega arith
+leading-some false = omega arith
 
 -- a CVT is no longer than the disk and three blocks
 cvt-short : (img : Image) (entry : GeosEntry) (f : Rescued) → IsImage img → length f.blocks.items ≤ 683

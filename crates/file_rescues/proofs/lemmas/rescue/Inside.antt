@@ -20,10 +20,8 @@ use Rattle.damaged_files.proofs.lemmas.reached.Lengths.{name-short}
 use Rattle.file_rescues.specs.rescue.Folders.{NewFile, StaysInside, new_file}
 use Rattle.damaged_files.specs.reached.Names.{name_of}
 use Rattle.file_rescues.specs.Found.{records_length}
-use Rattle.geos_files.specs.Entries.{geos_entry}
-use Rattle.geos_files.specs.declared.entries.GeosEntry.{GeosEntry}
 use Rattle.file_rescues.specs.rescue.Art.{is_art}
-use Rattle.file_rescues.specs.rescue.Named.{cvt_name, first_name, name_by}
+use Rattle.file_rescues.specs.rescue.Named.{cvt_name, first_name}
 use Rattle.file_rescues.specs.rescue.Rescues.{all_files, bytes_in, files_from, files_of, index_of_files, line_files, own_files}
 use Rattle.file_rescues.specs.declared.rescue.rescuing.Rescued.{Rescued}
 
@@ -131,13 +129,10 @@ cvt-inside n s low =
     (subst StaysInside (ended n (name_of s) (codes ".prg")) (name-inside n s Prg low)) refl (omega arith)
     (other 47 (codes ".cvt") cvt-other-47) (other 0 (codes ".cvt") cvt-other-0))
 
-pub first-inside : (n : ℕ) (s : Slot) → n < 256 → StaysInside (first_name n s)
+pub first-inside : (n : ℕ) (is_cvt : Bool) (s : Slot) → n < 256 → StaysInside (first_name n is_cvt s)
 unfolding first_name
-first-inside n s low = by-entry (geos_entry s)
-  where
-    by-entry : (o : Option GeosEntry) → StaysInside (name_by o n s)
-    by-entry None = name-inside n s (ending_of (type_byte s)) low
-    by-entry (Some entry) = cvt-inside n s low
+first-inside n false s low = name-inside n s (ending_of (type_byte s)) low
+first-inside n true s low = cvt-inside n s low
 
 inside-append : (xs ys : List NewFile) → AllByRecursion IsInside xs → AllByRecursion IsInside ys
     → AllByRecursion IsInside (xs ++ ys)
@@ -158,7 +153,7 @@ unless-inside false fs all = all
 own-inside : (image : List ℕ) (img : Image) (n : ℕ) (f : Rescued) → n < 256 → AllByRecursion IsInside (own_files image img n f)
 unfolding own_files
 own-inside image img n f low = (
-  first-inside n f.slot low,
+  first-inside n f.is_cvt f.slot low,
   lines-inside n f (bytes_in image img f) (records_length f.slot) low,
 )
 
@@ -191,13 +186,10 @@ cvt-numbered : (n : ℕ) (a : List ℕ) → IsNumbered n (cvt_name n a)
 unfolding cvt_name
 cvt-numbered n a = (map file_byte a ++ codes ".cvt", refl)
 
-first-numbered : (n : ℕ) (s : Slot) → IsNumbered n (first_name n s)
+first-numbered : (n : ℕ) (is_cvt : Bool) (s : Slot) → IsNumbered n (first_name n is_cvt s)
 unfolding first_name
-first-numbered n s = by-entry (geos_entry s)
-  where
-    by-entry : (o : Option GeosEntry) → IsNumbered n (name_by o n s)
-    by-entry None = name-numbered n (name_of s) (ending_of (type_byte s))
-    by-entry (Some entry) = cvt-numbered n (name_of s)
+first-numbered n false s = name-numbered n (name_of s) (ending_of (type_byte s))
+first-numbered n true s = cvt-numbered n (name_of s)
 
 endings : (m n : ℕ) (a b : List ℕ) (s t : Ending) → file_name_of m a s ≡ file_name_of n b t → s ≡ t
 unfolding file_name_of
@@ -236,34 +228,31 @@ cvt-apart n a same =
     let letters : 118 ≡ 115 = sym left ∙ ap (λ (l : List ℕ). get_or l (length (front n a) + 2) 0) both ∙ right in
     omega (arith, letters)
 
-first-apart : (n : ℕ) (s : Slot) → first_name n s ≢ file_name_of n (name_of s) Records
+first-apart : (n : ℕ) (is_cvt : Bool) (s : Slot) → first_name n is_cvt s ≢ file_name_of n (name_of s) Records
 unfolding first_name
-first-apart n s = by-entry (geos_entry s)
-  where
-    by-entry : (o : Option GeosEntry) → name_by o n s ≢ file_name_of n (name_of s) Records
-    by-entry None = λ is. no-records (type_byte s) (endings n n (name_of s) (name_of s) _ _ is)
-    by-entry (Some entry) = cvt-apart n (name_of s)
+first-apart n false s = λ is. no-records (type_byte s) (endings n n (name_of s) (name_of s) _ _ is)
+first-apart n true s = cvt-apart n (name_of s)
 
 -- the names of an entry's files differ
 own-once : (n : ℕ) (f : Rescued) (bytes : List ℕ) (body : List ℕ) (o : Option ℕ)
-    → EachOnce (map name (new_file (first_name n f.slot) body ∷ line_files n f bytes o))
+    → EachOnce (map name (new_file (first_name n f.is_cvt f.slot) body ∷ line_files n f bytes o))
 own-once n f bytes body None = (Contains-nil _, tt)
 own-once n f bytes body (Some L) = (
   λ has. elim (Contains-cases _ _ [] has) [
-    | inl is ↦ first-apart n f.slot (sym is)
+    | inl is ↦ first-apart n f.is_cvt f.slot (sym is)
     | inr none ↦ Contains-nil _ none
   ],
   (Contains-nil _, tt),
 )
 
 own-from : (n : ℕ) (f : Rescued) (bytes body : List ℕ) (o : Option ℕ) (x : List ℕ)
-    → Contains (map name (new_file (first_name n f.slot) body ∷ line_files n f bytes o)) x → IsNumbered n x
+    → Contains (map name (new_file (first_name n f.is_cvt f.slot) body ∷ line_files n f bytes o)) x → IsNumbered n x
 own-from n f bytes body None x has = elim (Contains-cases x _ [] has) [
-  | inl is ↦ subst (IsNumbered n) is (first-numbered n f.slot)
+  | inl is ↦ subst (IsNumbered n) is (first-numbered n f.is_cvt f.slot)
   | inr none ↦ absurd (Contains-nil x none)
 ]
 own-from n f bytes body (Some L) x has = elim (Contains-cases x _ (map name (line_files n f bytes (Some L))) has) [
-  | inl is ↦ subst (IsNumbered n) is (first-numbered n f.slot)
+  | inl is ↦ subst (IsNumbered n) is (first-numbered n f.is_cvt f.slot)
   | inr there ↦ elim (Contains-cases x _ [] there) [
     | inl is ↦ subst (IsNumbered n) is (name-numbered n (name_of f.slot) Records)
     | inr none ↦ absurd (Contains-nil x none)

@@ -11,7 +11,7 @@ use Rattle.file_rescues.specs.rescue.Art.{is_art}
 use Rattle.file_rescues.specs.rescue.Folders.{AddsFiles, AddsPart, NewFile, new_file}
 use Rattle.file_rescues.specs.rescue.Index.{heading}
 use Rattle.file_rescues.specs.rescue.Named.{first_name}
-use Rattle.file_rescues.specs.rescue.Sharing.{owned}
+use Rattle.file_rescues.specs.rescue.Sharing.{owned, past_of}
 use Rattle.file_rescues.specs.Found.{records_length}
 use Rattle.file_rescues.specs.rescue.Rescues.{all_files, bytes_in, fault_of, files_from, files_of, first_fault, index_of_files, line_files, line_of, own_files, row_of, rows_from}
 use Rattle.file_rescues.specs.declared.rescue.rescuing.Rescued.{Rescued}
@@ -27,7 +27,7 @@ two-words _ = inl refl
 
 -- the file with its bytes, as it is made
 abbrev first_file : ℕ → Rescued → List ℕ → NewFile
-first_file n f bytes = new_file (first_name n f.slot) bytes
+first_file n f bytes = new_file (first_name n f.is_cvt f.slot) bytes
 
 pub data-part : (a b : Option (List NewFile)) (image : List ℕ) (img : Image) (n : ℕ) (f : Rescued) (bytes : List ℕ)
     → bytes ≡ bytes_in image img f → AddsPart a b (first_file n f bytes ∷ []) → AddsPart a b (own_files image img n f)
@@ -77,16 +77,16 @@ from-append image img n (x ∷ xs) ys =
     ∙ sym (append_assoc (files_of image img n x) (files_from image img (n + 1) xs) (files_from image img (n + 1 + length xs) ys))
     ∙ ap (λ (k : ℕ). files_of image img n x ++ files_from image img (n + 1) xs ++ files_from image img k ys) e
 
-pub rows-append : (image : List ℕ) (img : Image) (all : List Place) (n : ℕ) (xs ys : List Rescued)
-    → rows_from image img all n (xs ++ ys) ≡ rows_from image img all n xs ++ rows_from image img all (n + length xs) ys
+pub rows-append : (image : List ℕ) (img : Image) (all : List Place) (past : List ℕ) (n : ℕ) (xs ys : List Rescued)
+    → rows_from image img all past n (xs ++ ys) ≡ rows_from image img all past n xs ++ rows_from image img all past (n + length xs) ys
 unfolding rows_from
-rows-append image img all n [] ys = let e : n ≡ n + 0 = omega arith in ap (λ (k : ℕ). rows_from image img all k ys) e
-rows-append image img all n (x ∷ xs) ys =
+rows-append image img all past n [] ys = let e : n ≡ n + 0 = omega arith in ap (λ (k : ℕ). rows_from image img all past k ys) e
+rows-append image img all past n (x ∷ xs) ys =
     let e : n + 1 + length xs ≡ n + length (x ∷ xs) = omega arith in
-    ap (λ (l : List ℕ). line_of image img all n x ++ l) (rows-append image img all (n + 1) xs ys)
-    ∙ sym (append_assoc (line_of image img all n x) (rows_from image img all (n + 1) xs)
-    (rows_from image img all (n + 1 + length xs) ys))
-    ∙ ap (λ (k : ℕ). line_of image img all n x ++ rows_from image img all (n + 1) xs ++ rows_from image img all k ys) e
+    ap (λ (l : List ℕ). line_of image img all past n x ++ l) (rows-append image img all past (n + 1) xs ys)
+    ∙ sym (append_assoc (line_of image img all past n x) (rows_from image img all past (n + 1) xs)
+    (rows_from image img all past (n + 1 + length xs) ys))
+    ∙ ap (λ (k : ℕ). line_of image img all past n x ++ rows_from image img all past (n + 1) xs ++ rows_from image img all past k ys) e
 
 pub fault-append : (image : List ℕ) (img : Image) (all : List Place) (n : ℕ) (found : Option Fault) (xs ys : List Rescued)
     → first_fault image img all n found (xs ++ ys)
@@ -104,10 +104,10 @@ pub no-files : (a : Option (List NewFile)) (image : List ℕ) (img : Image) (fs 
 unfolding files_from
 no-files a image img fs = adds-none a
 
-pub no-rows : (image : List ℕ) (img : Image) (all : List Place) (old : List ℕ) (fs : List Rescued)
-    → old ≡ old ++ rows_from image img all 1 (take 0 fs)
+pub no-rows : (image : List ℕ) (img : Image) (all : List Place) (past : List ℕ) (old : List ℕ) (fs : List Rescued)
+    → old ≡ old ++ rows_from image img all past 1 (take 0 fs)
 unfolding rows_from
-no-rows image img all old fs = sym (append-nil old)
+no-rows image img all past old fs = sym (append-nil old)
 
 pub no-fault : (image : List ℕ) (img : Image) (all : List Place) (old : Option Fault) (fs : List Rescued)
     → old ≡ first_fault image img all 1 old (take 0 fs)
@@ -119,10 +119,10 @@ from-one : (image : List ℕ) (img : Image) (n : ℕ) (f : Rescued) → files_fr
 unfolding files_from
 from-one image img n f = append-nil (files_of image img n f)
 
-rows-one : (image : List ℕ) (img : Image) (all : List Place) (n : ℕ) (f : Rescued)
-    → rows_from image img all n (f ∷ []) ≡ line_of image img all n f
+rows-one : (image : List ℕ) (img : Image) (all : List Place) (past : List ℕ) (n : ℕ) (f : Rescued)
+    → rows_from image img all past n (f ∷ []) ≡ line_of image img all past n f
 unfolding rows_from
-rows-one image img all n f = append-nil (line_of image img all n f)
+rows-one image img all past n f = append-nil (line_of image img all past n f)
 
 fault-one : (image : List ℕ) (img : Image) (all : List Place) (n : ℕ) (found : Option Fault) (f : Rescued)
     → first_fault image img all n found (f ∷ []) ≡ option_or found (fault_of (row_of image img all n f))
@@ -147,16 +147,16 @@ made-more a b c image img k n fs f inside is number before more =
     ∙ ap (λ (l : List NewFile). files_from image img 1 (take k fs) ++ l) (from-one image img n f)))
     (adds-both a b c (files_from image img 1 (take k fs)) (files_of image img n f) before more)
 
-pub rows-more : (image : List ℕ) (img : Image) (all : List Place) (k n : ℕ) (fs : List Rescued) (f : Rescued) (old now new : List ℕ)
-    → k < length fs → get_or fs k f ≡ f → n ≡ k + 1 → now ≡ old ++ rows_from image img all 1 (take k fs)
-    → new ≡ now ++ line_of image img all n f → new ≡ old ++ rows_from image img all 1 (take (k + 1) fs)
-rows-more image img all k n fs f old now new inside is number before more =
-    let row : List ℕ = line_of image img all n f in
-    more ∙ ap (λ (l : List ℕ). l ++ row) before ∙ append_assoc old (rows_from image img all 1 (take k fs)) row
+pub rows-more : (image : List ℕ) (img : Image) (all : List Place) (past : List ℕ) (k n : ℕ) (fs : List Rescued) (f : Rescued) (old now new : List ℕ)
+    → k < length fs → get_or fs k f ≡ f → n ≡ k + 1 → now ≡ old ++ rows_from image img all past 1 (take k fs)
+    → new ≡ now ++ line_of image img all past n f → new ≡ old ++ rows_from image img all past 1 (take (k + 1) fs)
+rows-more image img all past k n fs f old now new inside is number before more =
+    let row : List ℕ = line_of image img all past n f in
+    more ∙ ap (λ (l : List ℕ). l ++ row) before ∙ append_assoc old (rows_from image img all past 1 (take k fs)) row
     ∙ ap (λ (l : List ℕ). old ++ l)
-    (sym (ap (rows_from image img all 1) (taken k fs f inside is) ∙ rows-append image img all 1 (take k fs) (f ∷ [])
-    ∙ ap (λ (m : ℕ). rows_from image img all 1 (take k fs) ++ rows_from image img all m (f ∷ [])) (numbered k n fs inside number)
-    ∙ ap (λ (l : List ℕ). rows_from image img all 1 (take k fs) ++ l) (rows-one image img all n f)))
+    (sym (ap (rows_from image img all past 1) (taken k fs f inside is) ∙ rows-append image img all past 1 (take k fs) (f ∷ [])
+    ∙ ap (λ (m : ℕ). rows_from image img all past 1 (take k fs) ++ rows_from image img all past m (f ∷ [])) (numbered k n fs inside number)
+    ∙ ap (λ (l : List ℕ). rows_from image img all past 1 (take k fs) ++ l) (rows-one image img all past n f)))
 
 pub fault-more : (image : List ℕ) (img : Image) (all : List Place) (k n : ℕ) (fs : List Rescued) (f : Rescued) (old now : Option Fault)
     → k < length fs → get_or fs k f ≡ f → n ≡ k + 1 → now ≡ first_fault image img all 1 old (take k fs)
@@ -184,19 +184,26 @@ made-part a b c image img k n fs f inside is number before part =
     ∙ ap (files_from image img 1) (take-append-drop (k + 1) fs))
     (part-before a c (files_from image img 1 (take (k + 1) fs)) _ (subst (AddsPart a c) all both))
 
+-- the rows, if these sectors are those that are shared
+pub rows-with : (image : List ℕ) (img : Image) (directory : List Place) (files : List Rescued) (past old new : List ℕ)
+    → past ≡ past_of 2 files → new ≡ old ++ rows_from image img (owned directory files) past 1 files
+    → new ≡ old ++ rows_from image img (owned directory files) (past_of 2 files) 1 files
+rows-with image img directory files past old new is rows =
+    rows ∙ ap (λ (ns : List ℕ). old ++ rows_from image img (owned directory files) ns 1 files) is
+
 -- the index, as it was put together
 index-is : (image : List ℕ) (img : Image) (directory : List Place) (files : List Rescued) (none first now slice : List ℕ) → none ≡ []
-    → first ≡ none ++ heading → now ≡ first ++ rows_from image img (owned directory files) 1 files → slice ≡ now
+    → first ≡ none ++ heading → now ≡ first ++ rows_from image img (owned directory files) (past_of 2 files) 1 files → slice ≡ now
     → new_file (codes "index.csv") slice ≡ index_of_files image img directory files
 index-is image img directory files none first now slice empty head rows same =
     ap (new_file (codes "index.csv"))
-    (same ∙ rows ∙ ap (λ (l : List ℕ). l ++ rows_from image img (owned directory files) 1 files)
+    (same ∙ rows ∙ ap (λ (l : List ℕ). l ++ rows_from image img (owned directory files) (past_of 2 files) 1 files)
     (head ∙ ap (λ (l : List ℕ). l ++ heading) empty))
 
 -- the files of the entries, and the index or a part of it
 pub all-made : (a b c : Option (List NewFile)) (image : List ℕ) (img : Image) (directory : List Place) (files : List Rescued)
     (none first now slice : List ℕ) → none ≡ [] → first ≡ none ++ heading
-    → now ≡ first ++ rows_from image img (owned directory files) 1 files → slice ≡ now
+    → now ≡ first ++ rows_from image img (owned directory files) (past_of 2 files) 1 files → slice ≡ now
     → AddsFiles a b (files_from image img 1 files) → AddsFiles b c (new_file (codes "index.csv") slice ∷ [])
     → AddsFiles a c (all_files image img directory files)
 all-made a b c image img directory files none first now slice empty head rows same made last =
@@ -206,7 +213,7 @@ all-made a b c image img directory files none first now slice empty head rows sa
 
 pub all-part : (a b c : Option (List NewFile)) (image : List ℕ) (img : Image) (directory : List Place) (files : List Rescued)
     (none first now slice : List ℕ) → none ≡ [] → first ≡ none ++ heading
-    → now ≡ first ++ rows_from image img (owned directory files) 1 files → slice ≡ now
+    → now ≡ first ++ rows_from image img (owned directory files) (past_of 2 files) 1 files → slice ≡ now
     → AddsFiles a b (files_from image img 1 files) → AddsPart b c (new_file (codes "index.csv") slice ∷ [])
     → AddsPart a c (all_files image img directory files)
 all-part a b c image img directory files none first now slice empty head rows same made last =

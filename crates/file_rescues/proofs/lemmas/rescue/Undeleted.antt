@@ -22,8 +22,8 @@ use Rattle.damaged_files.specs.reached.Owned.{CountsAll, owners_at}
 use Rattle.damaged_files.specs.reached.Sharing.{count_at, first_shared}
 use Rattle.damaged_files.specs.declared.reached.sharing.Owners.{Owners}
 use Rattle.file_rescues.specs.rescue.Deleted.{deleted_slots, is_deleted}
-use Rattle.file_rescues.specs.rescue.Rescues.{AreAdded, AreChosen, AreUndeleted, IsRescued, with_unshared}
-use Rattle.file_rescues.specs.rescue.Sharing.{owned}
+use Rattle.file_rescues.specs.rescue.Rescues.{AreAdded, AreChosen, AreUndeleted, IsRescued, with_untaken}
+use Rattle.file_rescues.specs.rescue.Sharing.{is_taken, owned}
 use Rattle.file_rescues.specs.declared.rescue.choices.Choice.{Choice}
 use Rattle.file_rescues.specs.declared.rescue.rescuing.Rescued.{Rescued}
 
@@ -80,39 +80,39 @@ counted-one directory files f o new so_far more = λ p.
     (append_assoc directory (blocks_of files) f.blocks.items ∙ ap (λ (ps : List Place). directory ++ ps) (sym blocks))
 
 -- a file that is put before others, and then another after them; or the other way round
-unshared-both : (o q : Option Place) (f g : Rescued) (rest : List Rescued)
-    → with_unshared q g rest ++ with_unshared o f [] ≡ with_unshared q g (rest ++ with_unshared o f [])
-unshared-both o None f g rest = refl
-unshared-both o (Some p) f g rest = refl
+untaken-both : (o q : Bool) (f g : Rescued) (rest : List Rescued)
+    → with_untaken q g rest ++ with_untaken o f [] ≡ with_untaken q g (rest ++ with_untaken o f [])
+untaken-both o false f g rest = refl
+untaken-both o true f g rest = refl
 
 -- one deleted entry more
 pub undeleted-more : (image : List ℕ) (img : Image) (directory : List Place) (files : List Rescued) (ss : List Slot) (s : Slot)
     (f : Rescued) (found : List Rescued) → AreUndeleted image img directory files ss found → f.slot ≡ s → IsRescued image img f
     → AreUndeleted image img directory files (ss ++ s ∷ [])
-    (found ++ with_unshared (first_shared (owned directory (files ++ f ∷ [])) f.blocks.items) f [])
+    (found ++ with_untaken (is_taken directory files f) f [])
 undeleted-more image img directory files [] s f found are slot rescued = (
   f,
   [],
   slot,
   rescued,
   refl,
-  ap (λ (xs : List Rescued). xs ++ with_unshared (first_shared (owned directory (files ++ f ∷ [])) f.blocks.items) f []) are,
+  ap (λ (xs : List Rescued). xs ++ with_untaken (is_taken directory files f) f []) are,
 )
 undeleted-more image img directory files (t ∷ ss) s f found (g, rest, same, reached, are, is) slot rescued =
-    let o : Option Place = first_shared (owned directory (files ++ f ∷ [])) f.blocks.items in
-    let q : Option Place = first_shared (owned directory (files ++ g ∷ [])) g.blocks.items in (
+    let o : Bool = is_taken directory files f in
+    let q : Bool = is_taken directory files g in (
       g,
-      rest ++ with_unshared o f [],
+      rest ++ with_untaken o f [],
       same,
       reached,
       undeleted-more image img directory files ss s f rest are slot rescued,
-      ap (λ (xs : List Rescued). xs ++ with_unshared o f []) is ∙ unshared-both o q f g rest,
+      ap (λ (xs : List Rescued). xs ++ with_untaken o f []) is ∙ untaken-both o q f g rest,
     )
 
 -- there are no more than entries
-one-more : (o : Option Place) (f : Rescued) (xs : List Rescued) → length (with_unshared o f xs) ≤ length xs + 1
-one-more None f xs = omega arith
-one-more (Some p) f xs = omega arith
+one-more : (o : Bool) (f : Rescued) (xs : List Rescued) → length (with_untaken o f xs) ≤ length xs + 1
+one-more false f xs = omega arith
+one-more true f xs = omega arith
 
 pub undeleted-few : (image : List ℕ) (img : Image) (directory : List Place) (files : List Rescued) (ss : List Slot) (found : List Rescued)
     → AreUndeleted image img directory files ss found → length found ≤ length ss
@@ -121,7 +121,7 @@ undeleted-few image img directory files (s ∷ ss) found (f, rest, same, reached
     omega (
       arith,
       undeleted-few image img directory files ss rest are,
-      one-more (first_shared (owned directory (files ++ f ∷ [])) f.blocks.items) f rest,
+      one-more (is_taken directory files f) f rest,
       ap (λ (xs : List Rescued). length xs) is,
     )
 
@@ -203,10 +203,10 @@ all-both : (P : Rescued → Type 0) (xs ys : List Rescued) → AllByRecursion P 
 all-both P [] ys left right = right
 all-both P (x ∷ xs) ys left right = (left.0, all-both P xs ys left.1 right)
 
-all-unshared : (P : Rescued → Type 0) (o : Option Place) (f : Rescued) (fs : List Rescued) → P f → AllByRecursion P fs
-    → AllByRecursion P (with_unshared o f fs)
-all-unshared P None f fs here all = (here, all)
-all-unshared P (Some p) f fs here all = all
+all-untaken : (P : Rescued → Type 0) (o : Bool) (f : Rescued) (fs : List Rescued) → P f → AllByRecursion P fs
+    → AllByRecursion P (with_untaken o f fs)
+all-untaken P false f fs here all = (here, all)
+all-untaken P true f fs here all = all
 
 -- each was reached
 undeleted-rescued : (image : List ℕ) (img : Image) (directory : List Place) (files : List Rescued) (ss : List Slot) (found : List Rescued)
@@ -214,7 +214,7 @@ undeleted-rescued : (image : List ℕ) (img : Image) (directory : List Place) (f
 undeleted-rescued image img directory files [] found are = subst (AllByRecursion (IsRescued image img)) (sym are) tt
 undeleted-rescued image img directory files (s ∷ ss) found (f, rest, same, reached, are, is) =
     subst (AllByRecursion (IsRescued image img)) (sym is)
-    (all-unshared (IsRescued image img) (first_shared (owned directory (files ++ f ∷ [])) f.blocks.items) f rest reached
+    (all-untaken (IsRescued image img) (is_taken directory files f) f rest reached
     (undeleted-rescued image img directory files ss rest are))
 
 added-rescued : (b : Bool) (image : List ℕ) (img : Image) (directory : List Place) (files found : List Rescued)

@@ -4,9 +4,10 @@ use Rattle.disk_pictures.specs.Views.{AreFreePrinted, IsSectorPrinted, IsViewFau
 use Rattle.disk_reports.specs.AllFaults.{AreListed}
 use Rattle.disk_reports.specs.Listings.{IsCheckFault, IsListFault, IsListed}
 use Rattle.disk_reports.specs.Outcomes.{IsDescribeFault}
+use Rattle.file_rescues.specs.LongRecords.{AreRecordsOut, WhyNotOut}
 use Rattle.file_rescues.specs.Printed.{AreBytesTaken}
 use Rattle.image_looks.specs.Reports.{IsChecked}
-use Rattle.image_looks.specs.Looks.{AreRecordsTaken, IsTakingEnd, WhyNoBytes, WhyNoRecords}
+use Rattle.image_looks.specs.Looks.{IsTakingEnd, WhyNoBytes}
 use Rattle.image_looks.proofs.Looked.{if-all, if-both, no-cut-bytes, no-cut-records, printed, quietly-printed, taken}
 use Rattle.image_looks.proofs.looks.look.Goals as goal
 
@@ -58,14 +59,14 @@ returns-in-Sector g c =
 pub returns-in-Records : goal.returns-in-Records
 returns-in-Records g c =
     let at = c.in-Records in
-    let done = c.take_records in
+    let done = c.file_records_image in
     rw at.is (subst (λ (name : List ℕ).
-    IsTakingEnd (AreRecordsTaken g.W.Write.contents at.form at.candidates c.args.image.now name)
-    (WhyNoRecords g.W.Write.contents at.form at.candidates c.args.image.now name) c.args.out.now
+    IsTakingEnd (AreRecordsOut g.W.Write.contents at.form at.candidates c.args.image.now name)
+    (WhyNotOut g.W.Write.contents at.form at.candidates c.args.image.now name) c.args.out.now
     done.new.out c.taken_end.result) c.as_bytes.ensures
     (taken c.args.out.now done.new.out
-    (AreRecordsTaken g.W.Write.contents at.form at.candidates c.args.image.now c.as_bytes.result.now)
-    (WhyNoRecords g.W.Write.contents at.form at.candidates c.args.image.now c.as_bytes.result.now)
+    (AreRecordsOut g.W.Write.contents at.form at.candidates c.args.image.now c.as_bytes.result.now)
+    (WhyNotOut g.W.Write.contents at.form at.candidates c.args.image.now c.as_bytes.result.now)
     (no-cut-records g.W.Write.contents at.form at.candidates c.args.image.now c.as_bytes.result.now c.args.out.now done.new.out)
     done.result c.taken_end.result c.taken_end.ensures done.ensures.ok
     done.ensures.err))

@@ -11,6 +11,7 @@ use Rattle.file_rescues.specs.rescue.Errors.{errors_of}
 use Rattle.file_rescues.specs.rescue.Folders.{AddsFiles}
 use Rattle.file_rescues.specs.rescue.Index.{row_text}
 use Rattle.file_rescues.specs.rescue.Rescues.{fault_of, files_from, first_fault, rows_from}
+use Rattle.file_rescues.specs.rescue.Sharing.{first_past}
 use Rattle.file_rescues.specs.declared.rescue.rescuing.Rescued.{Rescued}
 use Rattle.file_rescues.specs.declared.rescue.rows.Row.{Row}
 use Rattle.file_rescues.proofs.rescue.extracting.extract_entries.Goals as goal
@@ -19,7 +20,7 @@ pub loop-file-init : goal.loop-file-init
 loop-file-init g c = record {
   number_is = refl;
   made = no-files (g.F.NewFolder.files c.args.folder.now) c.args.image.now (disk_image c.args.disk.now) c.args.files.now;
-  rows = λ all counts. no-rows c.args.image.now (disk_image c.args.disk.now) all c.args.index.now.items c.args.files.now;
+  rows = λ all counts. no-rows c.args.image.now (disk_image c.args.disk.now) all c.args.shared.now c.args.index.now.items c.args.files.now;
   told = λ all counts. no-fault c.args.image.now (disk_image c.args.disk.now) all c.args.before c.args.files.now;
 }
 
@@ -41,11 +42,11 @@ loop-file-preserved g c =
       made = made-more _ _ _ c.args.image.now (disk_image c.args.disk.now) c.loop-file.file-index (c.loop-file.number + 1) c.args.files.now
           c.file-item.result c.loop-file-test.true (sym c.file-item.is) next old.made
           (c.in_ok-row.ensures.ok);
-      rows = λ all counts. rows-more c.args.image.now (disk_image c.args.disk.now) all c.loop-file.file-index (c.loop-file.number + 1)
+      rows = λ all counts. rows-more c.args.image.now (disk_image c.args.disk.now) all c.args.shared.now c.loop-file.file-index (c.loop-file.number + 1)
           c.args.files.now c.file-item.result c.args.index.now.items c.loop-file.index.items _ c.loop-file-test.true
           (sym c.file-item.is) next (old.rows all counts)
           (c.in_ok-row.ensures.index ∙ ap (λ (r : Row). c.loop-file.index.items
-          ++ row_text r (errors_of c.args.image.now c.file-item.result))
+          ++ row_text r (first_past c.args.shared.now c.file-item.result) (errors_of c.args.image.now c.file-item.result))
           ((c.in_ok-row.ensures.row all counts)));
       told = λ all counts. c.or-found.ensures
           ∙ ap (λ (o : Option Fault). option_or c.loop-file.found o)
@@ -79,7 +80,7 @@ returns g c =
       made = subst (λ (fs : List Rescued). AddsFiles (g.F.NewFolder.files c.args.folder.now)
           (g.F.NewFolder.files c.loop-file.folder) (files_from c.args.image.now img 1 fs)) all_of c.loop-file.invariant.made;
       rows = λ all counts. subst (λ (fs : List Rescued). c.loop-file.index.items
-          ≡ c.args.index.now.items ++ rows_from c.args.image.now img all 1 fs) all_of (c.loop-file.invariant.rows all counts);
+          ≡ c.args.index.now.items ++ rows_from c.args.image.now img all c.args.shared.now 1 fs) all_of (c.loop-file.invariant.rows all counts);
       told = λ all counts. subst (λ (fs : List Rescued). c.loop-file.found ≡ first_fault c.args.image.now img all 1 c.args.before fs)
           all_of (c.loop-file.invariant.told all counts);
       err = tt;

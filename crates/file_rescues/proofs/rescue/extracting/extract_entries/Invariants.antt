@@ -15,7 +15,7 @@ invariant-loop-file g l =
       made : AddsFiles (g.F.NewFolder.files l.fn.folder) (g.F.NewFolder.files l.folder)
           (files_from l.image img 1 (take l.file-index l.files));
       rows : (all : List Place) → CountsAll l.owners all
-          → l.index.items ≡ l.fn.index.items ++ rows_from l.image img all 1 (take l.file-index l.files);
+          → l.index.items ≡ l.fn.index.items ++ rows_from l.image img all l.shared 1 (take l.file-index l.files);
       told : (all : List Place) → CountsAll l.owners all
           → l.found ≡ first_fault l.image img all 1 l.fn.before (take l.file-index l.files);
     }

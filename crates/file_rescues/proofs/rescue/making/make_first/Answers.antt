@@ -8,6 +8,6 @@ pub make-requires : goal.make-requires
 make-requires g c =
     let same = c.as_slice.ensures.value ∙ c.first_name-name.ensures in
     record {
-      inside = subst StaysInside (sym same) (first-inside c.args.number c.args.file.now.slot
+      inside = subst StaysInside (sym same) (first-inside c.args.number c.args.file.now.is_cvt c.args.file.now.slot
           (omega (arith, c.ranges.number.fits)));
     }

@@ -1,6 +1,6 @@
 -- What is said of the records is what their command says.
-use Rattle.image_looks.proofs.Looked.{if-both}
-use Rattle.image_looks.proofs.looks.take_records.Goals as goal
+use Rattle.file_rescues.proofs.LongRecords.{if-both}
+use Rattle.file_rescues.proofs.long_records.disk_records.Goals as goal
 
 pub returns-in-Closed : goal.returns-in-Closed
 returns-in-Closed g c = record {
