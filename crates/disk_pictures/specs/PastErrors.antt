@@ -1,19 +1,22 @@
 -- Sectors past track 35 that weren't read, and those that several files have (the D64 layout: an error byte for each sector). The lines are
 -- our own.
-use Rattle.std.specs.Prelude.{ℕ, ◌&&◌, ◌++◌, Bool, List, [], None, Option, Some, codes, decimal, filter, flat_map, nat_le, option_map}
+use Rattle.std.specs.Prelude.{ℕ, ◌&&◌, ◌||◌, ◌++◌, Bool, List, [], None, Option, Some, codes, decimal, filter, flat_map, nat_le, option_map}
 use Rattle.std.specs.Prelude.{slice_get, slice_index}
 use Rattle.std.specs.List.{range_with_len}
 use Rattle.disk_layout.specs.Directory.{type_byte}
 use Rattle.disk_layout.specs.Layout.{File, Layout}
 use Rattle.disk_layout.specs.declared.slot.Slot.{Slot}
 use Rattle.disk_pictures.specs.Trims.{error_number, errors_text, name_text}
+use Rattle.geos_files.specs.Long.{is_in_long_geos}
 use Rattle.long_chains.specs.Chains.{is_on_chain}
 use Rattle.long_chains.specs.Sectors.{error_in, misread_past, sector_past, track_past}
 
--- the entry is closed, and its file's chain over all tracks of the image comes to its end, and has the sector
+-- The entry is closed, and its file has the sector: the file's chain over all tracks of the image comes to its end, and has it; or it is a
+-- file of GEOS of which the image has all, and one of its sectors is this
 abbrev pub is_entrys : (image : List ℕ) → (number : ℕ) → File → Bool
 is_entrys image n f =
-    nat_le 128 (type_byte f.slot) && is_on_chain image (slice_index f.slot.bytes 3) (slice_index f.slot.bytes 4) n
+    nat_le 128 (type_byte f.slot) && (is_on_chain image (slice_index f.slot.bytes 3) (slice_index f.slot.bytes 4) n
+    || is_in_long_geos image f.slot n)
 
 -- those of these entries that have it
 unfoldable pub having : (image : List ℕ) → (number : ℕ) → List File → List File

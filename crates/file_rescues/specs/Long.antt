@@ -1,6 +1,6 @@
 -- Files whose chain goes on past track 35, of images that have those tracks. Our own.
-use Rattle.std.specs.Prelude.{◌≡◌, ◌≤◌, ◌⊎◌, ℕ, ◌-◌, Bool, List, None, Option, Some}
-use Rattle.std.specs.Prelude.{if◌then◌else◌, length, nat_lt, slice_get, slice_index}
+use Rattle.std.specs.Prelude.{◌≡◌, ◌≤◌, ◌⊎◌, ℕ, ◌-◌, List, None, Option, Some}
+use Rattle.std.specs.Prelude.{if◌then◌else◌, length, slice_get, slice_index}
 use Rattle.std.specs.List.{AllByRecursion}
 use Rattle.d64_image.specs.Memory.{sectors_in}
 use Rattle.d64_image.specs.declared.place.Place.{Place}
@@ -10,11 +10,7 @@ use Rattle.disk_layout.specs.declared.slot.Slot.{Slot}
 use Rattle.file_rescues.specs.Found.{HasNone, IsHad, apart_from_chain}
 use Rattle.file_rescues.specs.declared.finding.Kind.{Kind}
 use Rattle.long_chains.specs.Chains.{chain_of}
-use Rattle.long_chains.specs.Sectors.{HasSector, sectors_in as count_in}
-
--- the image has more tracks than 35
-abbrev pub has_more_tracks : (image : List ℕ) → Bool
-has_more_tracks image = nat_lt 683 (count_in (length image))
+use Rattle.long_chains.specs.Sectors.{HasSector, has_more_tracks, sectors_in as count_in}
 
 -- the sectors of an entry's file over all tracks of the image, if this ends its chain on tracks 1 to 35, and the image has more tracks
 -- and the whole chain

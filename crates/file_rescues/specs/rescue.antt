@@ -5,7 +5,7 @@ pub mod Errors
 pub mod Folders
 pub mod Geos
 pub mod Index
-pub mod LongGeos
+pub mod LongCvt
 pub mod Memory
 pub mod Named
 pub mod Rescues

@@ -8,17 +8,9 @@ ghost use Rattle.file_rescues.specs.Long as specs;
 
 use arrayvec::ArrayVec;
 use command_faults::CommandFault;
-use d64_image::SECTORS;
 use disk_layout::{Fault, Slot};
-use long_chains::{MOST_SECTORS, data_in, long_chain, sectors_in};
+use long_chains::{MOST_SECTORS, data_in, has_more_tracks, long_chain};
 use std::alloc::Global;
-
-/// Whether an image has more tracks than 35.
-pub(crate) fn has_more_tracks(image: &[u8]) -> bool
-    ensures { result ≡ specs.has_more_tracks image.now }
-{
-    SECTORS < sectors_in(image.len())
-}
 
 /// Fills `chain` with the sectors of an entry's file, if `broken` ends its chain on tracks 1 to 35, and the image has more tracks and
 /// the whole chain. Returns whether this is so.

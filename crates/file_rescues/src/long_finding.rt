@@ -5,13 +5,13 @@ ghost use Rattle.damaged_files.specs.reached.Sizes.{disk_of};
 ghost use Rattle.file_rescues.specs.Long.{IsFoundLong, IsNoLongFile};
 
 use crate::finding::{Kind, find_file};
-use crate::long_files::{find_long, has_more_tracks};
+use crate::long_files::find_long;
 use arrayvec::ArrayVec;
 use command_faults::{CommandFault, load};
 use d64_image::Place;
 use damaged_files::disk_in;
 use disk_layout::{Fault, Slot};
-use long_chains::MOST_SECTORS;
+use long_chains::{MOST_SECTORS, has_more_tracks};
 use std::alloc::Global;
 
 /// A file that goes on past track 35.

@@ -9,7 +9,6 @@ pub(crate) mod geos;
 pub(crate) mod hashes;
 pub(crate) mod laws;
 pub(crate) mod long_cvt;
-pub(crate) mod long_geos;
 pub(crate) mod making;
 pub(crate) mod mem_folder;
 pub(crate) mod naming;

@@ -1,3 +1,4 @@
 -- The lemmas.
+pub mod Long
 pub mod Naming
 pub mod Parts

@@ -39,7 +39,7 @@ fn names_one_block(slot: &Slot) -> bool
 }
 
 /// Whether the entry's type and its bytes 21 to 24 are those of a file of GEOS, whose info block isn't its first block.
-fn is_like_geos(slot: &Slot) -> bool
+pub(crate) fn is_like_geos(slot: &Slot) -> bool
     ensures { result ≡ entries.is_like_geos slot.now }
 {
     is_plain(slot) && (has_geos_type(slot) && !names_one_block(slot))

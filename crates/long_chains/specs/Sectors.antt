@@ -13,6 +13,10 @@ sectors_in n =
     else (if nat_eq n 196608 || nat_eq n 197376 then 768
     else (if nat_eq n 205312 || nat_eq n 206114 then 802 else 0))
 
+-- the image has more tracks than 35
+abbrev pub has_more_tracks : (image : List ℕ) → Bool
+has_more_tracks image = nat_lt 683 (sectors_in (length image))
+
 -- the image has a sector of this number
 abbrev pub HasSector : (image : List ℕ) → (number : ℕ) → Type 0
 HasSector image n = n < sectors_in (length image)

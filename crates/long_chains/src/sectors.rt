@@ -20,6 +20,13 @@ pub fn sectors_in(size: usize) -> usize
     }
 }
 
+/// Whether an image has more tracks than 35.
+pub fn has_more_tracks(image: &[u8]) -> bool
+    ensures { result ≡ specs.has_more_tracks image.now }
+{
+    SECTORS < sectors_in(image.len())
+}
+
 /// The number of a sector of the tracks 36 to 42, of which each has 17. None for any other.
 fn number_past(track: u8, sector: u8) -> Option<usize>
     ensures { result ≡ specs.number_past track sector }

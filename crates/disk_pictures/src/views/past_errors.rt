@@ -14,6 +14,7 @@ use crate::drawn_file::DrawnFile;
 use crate::views::reading_errors::{EntryName, ErrorNumber, print_errors};
 use command_faults::{CommandFault, print_text};
 use disk_layout::{EntryView, Slot};
+use geos_files::is_in_long_geos;
 use long_chains::{SECTORS_PAST, error_in, is_on_chain, misread_past, place_past};
 use std::fmt::{self, Display, Formatter};
 use std::io::Write;
@@ -68,12 +69,15 @@ impl Display for SharingLine<'_> {
     }
 }
 
-/// Whether the entry is closed, and its chain over all tracks comes to its end and has the sector.
+/// Whether the entry is closed, and its file has the sector: its chain over all tracks comes to its end and has the sector, or the file is one
+/// of GEOS of which the image has all, and the sector is one of the file's own.
 fn is_of(image: &[u8], file: &DrawnFile, number: u16) -> bool
     ensures { result ≡ is_entrys image.now number (file_in file.now) }
 {
     let bytes = &file.slot.bytes;
-    EntryView::new(bytes).type_byte() >= 128 && is_on_chain(image, bytes[3], bytes[4], number)
+    EntryView::new(bytes).type_byte() >= 128
+        && (is_on_chain(image, bytes[3], bytes[4], number)
+            || is_in_long_geos(image, &file.slot, number))
 }
 
 /// That of these entries which has the sector, and so many others that have it before it.

@@ -4,7 +4,6 @@ pub mod Cvt
 pub mod Extracted
 pub mod Inside
 pub mod LongCvt
-pub mod LongGeos
 pub mod Made
 pub mod Parts
 pub mod Reached

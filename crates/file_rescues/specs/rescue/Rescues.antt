@@ -35,7 +35,8 @@ use Rattle.file_rescues.specs.rescue.Errors.{errors_of}
 use Rattle.file_rescues.specs.rescue.Folders.{AddsFiles, AddsPart, NewFile, new_file}
 use Rattle.file_rescues.specs.rescue.Geos.{cvt_bytes}
 use Rattle.file_rescues.specs.rescue.Index.{heading, row_text}
-use Rattle.file_rescues.specs.rescue.LongGeos.{long_cvt, long_geos}
+use Rattle.geos_files.specs.Long.{long_geos}
+use Rattle.file_rescues.specs.rescue.LongCvt.{long_cvt}
 use Rattle.file_rescues.specs.rescue.Named.{first_name}
 use Rattle.damaged_files.specs.reached.Names.{name_of}
 use Rattle.file_rescues.specs.rescue.Scanned.{with_scanned}

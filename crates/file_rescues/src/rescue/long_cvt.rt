@@ -3,7 +3,7 @@ ghost use Rattle.std.specs.Prelude.{◌≡◌, ◌≤◌, ◌+◌, ◌*◌, ◌+
 ghost use Rattle.std.specs.List.{AllByRecursion};
 ghost use Rattle.long_chains.specs.Sectors.{HasSector};
 ghost use Rattle.command_faults.specs.declared.faults.CommandFault.TheVariants as faults;
-ghost use Rattle.file_rescues.specs.rescue.LongGeos as specs;
+ghost use Rattle.file_rescues.specs.rescue.LongCvt as specs;
 
 use crate::long_files::append;
 use crate::rescue::geos::{ZEROS, leading};

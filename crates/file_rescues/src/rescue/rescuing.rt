@@ -4,18 +4,17 @@ ghost use Rattle.d64_image.specs.Memory.{disk_image};
 ghost use Rattle.d64_image.specs.Places.{index_of};
 ghost use Rattle.command_faults.specs.declared.faults.CommandFault.TheVariants as faults;
 ghost use Rattle.std.specs.Option.{is_some};
-ghost use Rattle.file_rescues.specs.rescue.LongGeos.{long_geos};
+ghost use Rattle.geos_files.specs.Long.{long_geos};
 ghost use Rattle.file_rescues.specs.rescue.Rescues.{AreRescued, IsOfChain, IsRescued, is_on_disk};
 ghost use Rattle.geos_files.specs.Entries.{geos_entry};
 
 use crate::long_files::find_long;
-use crate::rescue::long_geos::find_long_geos;
 use arrayvec::ArrayVec;
 use command_faults::CommandFault;
 use d64_image::{MemDisk, Place, SECTORS};
 use damaged_files::{Reach, reach_file};
 use disk_layout::{Fault, MOST_BLOCKS, Slot};
-use geos_files::{GeosEntry, geos_entry, reach_geos};
+use geos_files::{GeosEntry, find_long_geos, geos_entry, reach_geos};
 use std::alloc::Global;
 
 /// An entry of a directory, and what can be reached of its file.

@@ -26,7 +26,7 @@ use Rattle.file_rescues.proofs.Pieced.{short-file}
 use Rattle.file_rescues.specs.Bytes.{file_bytes}
 use Rattle.file_rescues.specs.Long.{long_chain}
 use Rattle.file_rescues.specs.rescue.Geos.{cvt_bytes, leading}
-use Rattle.file_rescues.specs.rescue.LongGeos.{long_geos}
+use Rattle.geos_files.specs.Long.{long_geos}
 use Rattle.file_rescues.specs.rescue.Named.{cvt_name}
 use Rattle.file_rescues.specs.rescue.Rescues.{IsChainTaken, IsOfChain, IsReachedBy, IsReachedIn, IsRescued, IsTaken, bytes_by, is_on_disk}
 use Rattle.file_rescues.specs.declared.rescue.rescuing.Rescued.{Rescued}

@@ -3,7 +3,7 @@ use Rattle.std.proofs.Common.{◌≡◌, ◌≤◌, ◌+◌, ◌-◌, ◌*◌, �
 use Rattle.std.specs.Prelude.{Some, flat_map, slice_get}
 use Rattle.std.proofs.lemmas.Option.{slice_get-get_or}
 use Rattle.long_chains.specs.Chains.{data_in}
-use Rattle.file_rescues.specs.rescue.LongGeos.{bodies, body_in, last_data}
+use Rattle.file_rescues.specs.rescue.LongCvt.{bodies, body_in, last_data}
 
 -- the last sector's bytes came to those of the others
 pub data-all : (image old mid new part ns : List ℕ) → 1 ≤ length ns

@@ -1,7 +1,7 @@
 -- The bytes of the sectors so far.
 use Rattle.std.proofs.Common.{◌≡◌, ◌≤◌, ◌+◌, ◌*◌, ◌++◌, length, take}
 use Rattle.std.specs.Prelude.{flat_map}
-use Rattle.file_rescues.specs.rescue.LongGeos.{body_in}
+use Rattle.file_rescues.specs.rescue.LongCvt.{body_in}
 use Rattle.file_rescues.proofs.rescue.long_cvt.append_bodies.Given as goal
 
 abbrev pub invariant-loop-number : goal.invariant-loop-number

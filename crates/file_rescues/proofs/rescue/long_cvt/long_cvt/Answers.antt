@@ -5,7 +5,8 @@ use Rattle.std.proofs.lemmas.List.{length-drop, length-replicate, length-take}
 use Rattle.file_rescues.proofs.lemmas.rescue.Cvt.{joined-six, leading-some, signature-long}
 use Rattle.file_rescues.proofs.lemmas.rescue.LongCvt.{six-long}
 use Rattle.file_rescues.specs.rescue.Geos.{leading}
-use Rattle.file_rescues.specs.rescue.LongGeos.{are_records_named, bodies, info_in, long_cvt}
+use Rattle.geos_files.specs.Long.{are_records_named}
+use Rattle.file_rescues.specs.rescue.LongCvt.{bodies, info_in, long_cvt}
 use Rattle.file_rescues.proofs.rescue.long_cvt.long_cvt.Goals as goal
 
 pub returns-clause-ok : goal.returns-clause-ok

@@ -2,7 +2,7 @@
 use Rattle.std.proofs.Common.{Bool, ap, arith, length, sym, ◌∙◌}
 use Rattle.d64_image.specs.Memory.{disk_image}
 use Rattle.file_rescues.proofs.lemmas.rescue.Cvt.{if-taken, parts-rescued}
-use Rattle.file_rescues.specs.rescue.LongGeos.{if_taken}
+use Rattle.geos_files.specs.Long.{if_taken}
 use Rattle.file_rescues.proofs.rescue.rescuing.rescue.Goals as goal
 
 pub returns-then-find_long_geos-clause-ok : goal.returns-then-find_long_geos-clause-ok

@@ -2,8 +2,8 @@
 use Rattle.std.proofs.Common.{◌≡◌, ◌≤◌, ◌*◌, Some, length}
 use Rattle.std.specs.List.{AllByRecursion}
 use Rattle.long_chains.specs.Sectors.{HasSector}
-use Rattle.file_rescues.specs.rescue.LongGeos.{records_to}
-use Rattle.file_rescues.proofs.rescue.long_geos.add_records.Given as goal
+use Rattle.geos_files.specs.Long.{records_to}
+use Rattle.geos_files.proofs.long_files.add_records.Given as goal
 
 abbrev pub invariant-loop-number : goal.invariant-loop-number
 invariant-loop-number l = record {

@@ -1,14 +1,11 @@
 -- Files of GEOS with sectors past track 35, of images that have those tracks (GEOS: VLIR). What counts as a whole file is our own.
-use Rattle.std.specs.Prelude.{ℕ, zero, suc, ◌+◌, ◌*◌, ◌-◌, ◌&&◌, ◌++◌, Bool, false, true, List, [], ◌∷◌, None, Option, Some, drop}
-use Rattle.std.specs.Prelude.{flat_map, if◌then◌else◌, length, min, nat_eq, nat_le, replicate, slice_get, slice_index, slice_range, take}
+use Rattle.std.specs.Prelude.{ℕ, zero, suc, ◌+◌, ◌*◌, ◌-◌, ◌&&◌, ◌++◌, Bool, false, true, List, [], ◌∷◌, None, Option, Some}
+use Rattle.std.specs.Prelude.{if◌then◌else◌, length, min, nat_eq, nat_le, slice_get, slice_index, take}
 use Rattle.std.specs.List.{list_any}
 use Rattle.disk_layout.specs.declared.slot.Slot.{Slot}
-use Rattle.geos_files.specs.Cvt.{signature}
 use Rattle.geos_files.specs.Entries.{is_like_geos}
-use Rattle.long_chains.specs.Chains.{byte_in, chain_of, data_in}
-use Rattle.long_chains.specs.Sectors.{sector_at}
-use Rattle.file_rescues.specs.Long.{has_more_tracks}
-use Rattle.file_rescues.specs.rescue.Geos.{leading}
+use Rattle.long_chains.specs.Chains.{byte_in, chain_of, has_number}
+use Rattle.long_chains.specs.Sectors.{has_more_tracks, sector_at}
 
 -- these, if it is said that all was taken
 abbrev pub if_taken : Bool → List ℕ × List ℕ → Option (List ℕ × List ℕ)
@@ -92,26 +89,11 @@ past_only (Some parts) = if list_any is_past parts.0 then Some parts else None
 unfoldable pub long_geos : (image : List ℕ) → Slot → Option (List ℕ × List ℕ)
 long_geos image s = if has_more_tracks image && is_like_geos s then past_only (named_parts image s) else None
 
--- all bytes of a sector but its link
-abbrev pub body_in : (image : List ℕ) → (number : ℕ) → List ℕ
-body_in image n = slice_range image (256 * n + 2) (256 * n + 256)
+-- its sectors
+abbrev pub sectors_of : Option (List ℕ × List ℕ) → Option (List ℕ)
+sectors_of None = None
+sectors_of (Some parts) = Some parts.0
 
--- what a last sector has of its file
-abbrev pub last_data : (image : List ℕ) → Option ℕ → List ℕ
-last_data image None = []
-last_data image (Some n) = data_in image n
-
--- the bytes of the data of a file with these sectors: each whole, but the last one up to its last index
-abbrev pub bodies : (image : List ℕ) → List ℕ → List ℕ
-bodies image ns = flat_map (body_in image) (take (length ns - 1) ns) ++ last_data image (slice_get ns (length ns - 1))
-
--- the info block
-abbrev pub info_in : (image : List ℕ) → Option ℕ → List ℕ
-info_in image None = []
-info_in image (Some n) = body_in image n
-
--- such a file as a CVT
-unfoldable pub long_cvt : (image : List ℕ) → Slot → (sectors pairs : List ℕ) → List ℕ
-long_cvt image s ns pairs =
-    slice_range s.bytes 2 32 ++ (signature (are_records_named s) ++ (replicate 196 0
-    ++ (info_in image (slice_get ns 0) ++ (pairs ++ bodies image (drop (leading (are_records_named s)) ns)))))
+-- the file is one of GEOS with a sector past track 35, the image has all of it, and this sector is one of its own
+abbrev pub is_in_long_geos : (image : List ℕ) → Slot → (number : ℕ) → Bool
+is_in_long_geos image s n = has_number n (sectors_of (long_geos image s))

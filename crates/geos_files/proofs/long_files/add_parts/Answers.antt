@@ -2,8 +2,8 @@
 use Rattle.std.proofs.Common.{◌∙◌, ◌++◌, ◌∷◌, [], List, ℕ, ap, arith}
 use Rattle.std.proofs.lemmas.Bool.{eq-eqb}
 use Rattle.long_chains.proofs.Sizes.{few}
-use Rattle.file_rescues.proofs.lemmas.rescue.LongGeos.{named-chain, named-records, no-first, no-info}
-use Rattle.file_rescues.proofs.rescue.long_geos.add_parts.Goals as goal
+use Rattle.geos_files.proofs.Long.{named-chain, named-records, no-first, no-info}
+use Rattle.geos_files.proofs.long_files.add_parts.Goals as goal
 
 pub returns-in_default-clause-value : goal.returns-in_default-clause-value
 returns-in_default-clause-value c = no-info c.args.image.now c.args.slot.now c.in_default.ensures.value

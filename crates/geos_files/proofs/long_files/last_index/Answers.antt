@@ -1,7 +1,7 @@
 -- The last sector is one of the image's.
 use Rattle.std.proofs.Common.{arith, sym}
-use Rattle.file_rescues.proofs.lemmas.rescue.LongGeos.{one-inside}
-use Rattle.file_rescues.proofs.rescue.long_geos.last_index.Goals as goal
+use Rattle.geos_files.proofs.Long.{one-inside}
+use Rattle.geos_files.proofs.long_files.last_index.Goals as goal
 
 pub bounds-image-number : goal.bounds-image-number
 bounds-image-number c = omega (

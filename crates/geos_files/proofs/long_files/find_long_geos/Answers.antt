@@ -1,10 +1,10 @@
 -- The image has no more tracks, or the entry isn't one of GEOS; or the image has what the entry names, or hasn't.
 use Rattle.std.proofs.Common.{◌∙◌, Bool, List, ap, sym, ℕ}
 use Rattle.std.specs.List.{list_any}
-use Rattle.file_rescues.specs.rescue.LongGeos.{if_taken, is_past}
-use Rattle.file_rescues.proofs.lemmas.rescue.LongGeos.{named-past, no-tracks, not-like, not-named}
-use Rattle.file_rescues.proofs.rescue.long_geos.find_long_geos.Goals as goal
-use Rattle.file_rescues.proofs.rescue.long_geos.find_long_geos.Goals.{then-not-has_more_tracks-via-then-not-has_more_tracks, then-not-has_more_tracks-via-else-not-has_more_tracks+then-not-is_like_geos}
+use Rattle.geos_files.specs.Long.{if_taken, is_past}
+use Rattle.geos_files.proofs.Long.{named-past, no-tracks, not-like, not-named}
+use Rattle.geos_files.proofs.long_files.find_long_geos.Goals as goal
+use Rattle.geos_files.proofs.long_files.find_long_geos.Goals.{then-not-has_more_tracks-via-then-not-has_more_tracks, then-not-has_more_tracks-via-else-not-has_more_tracks+then-not-is_like_geos}
 
 pub returns-then-not-has_more_tracks-clause-value : goal.returns-then-not-has_more_tracks-clause-value
 returns-then-not-has_more_tracks-clause-value c = elim c.then-not-has_more_tracks.branch [

@@ -1,8 +1,8 @@
 -- The sectors so far are on tracks 1 to 35.
 use Rattle.std.proofs.Common.{◌≡◌, drop}
 use Rattle.std.specs.List.{list_any}
-use Rattle.file_rescues.specs.rescue.LongGeos.{is_past}
-use Rattle.file_rescues.proofs.rescue.long_geos.has_past.Given as goal
+use Rattle.geos_files.specs.Long.{is_past}
+use Rattle.geos_files.proofs.long_files.has_past.Given as goal
 
 abbrev pub invariant-loop-number : goal.invariant-loop-number
 invariant-loop-number l = record {

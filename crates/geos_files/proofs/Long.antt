@@ -7,11 +7,10 @@ use Rattle.std.proofs.lemmas.Option.{get_or_from_slice_get, slice_get_within}
 use Rattle.disk_layout.specs.declared.slot.Slot.{Slot}
 use Rattle.geos_files.specs.Entries.{is_like_geos}
 use Rattle.long_chains.specs.Chains.{byte_in, chain_of, if_ended}
-use Rattle.long_chains.specs.Sectors.{HasSector, sector_at}
+use Rattle.long_chains.specs.Sectors.{HasSector, has_more_tracks, sector_at}
 use Rattle.long_chains.proofs.Sizes.{few, inside}
-use Rattle.file_rescues.specs.Long.{has_more_tracks}
-use Rattle.file_rescues.specs.rescue.LongGeos.{are_records_named, at_most, behind, if_taken, is_past, long_geos, named_parts, parts_of, past_only}
-use Rattle.file_rescues.specs.rescue.LongGeos.{record_chain, records_to, with_nth, with_record, without_pairs}
+use Rattle.geos_files.specs.Long.{are_records_named, at_most, behind, if_taken, is_past, long_geos, named_parts, parts_of, past_only}
+use Rattle.geos_files.specs.Long.{record_chain, records_to, with_nth, with_record, without_pairs}
 
 -- what holds of each holds of one
 pub all-at : (P : ℕ → Type 0) (ns : List ℕ) (k n : ℕ) → AllByRecursion P ns → k < length ns → n ≡ get_or ns k n → P n

@@ -1,16 +1,15 @@
 //! Files of GEOS with sectors past track 35, of images that have those tracks.
-ghost use Rattle.std.specs.Prelude.{◌≡◌, ◌≤◌, ◌+◌, ◌++◌, ◌∷◌, ◌-◌, [], Some, length, min};
+ghost use Rattle.std.specs.Prelude.{◌≡◌, ◌≤◌, ◌+◌, ◌++◌, ◌∷◌, ◌-◌, [], Some, length, min, nat_eq};
 ghost use Rattle.std.specs.List.{AllByRecursion, list_any};
-ghost use Rattle.geos_files.specs.Entries as entries;
 ghost use Rattle.long_chains.specs.Chains.{chain_of, if_ended};
 ghost use Rattle.long_chains.specs.Sectors.{HasSector};
-ghost use Rattle.file_rescues.specs.rescue.LongGeos as specs;
-ghost use Rattle.file_rescues.specs.rescue.LongGeos.{at_most, if_taken, record_chain, records_to, with_record};
+ghost use Rattle.geos_files.specs.Long as specs;
+ghost use Rattle.geos_files.specs.Long.{at_most, if_taken, record_chain, records_to, with_record};
 
-use crate::long_files::has_more_tracks;
+use crate::entries::is_like_geos;
 use arrayvec::ArrayVec;
-use disk_layout::{DATA, EntryView, Slot};
-use long_chains::{MOST_SECTORS, long_chain, sector_at};
+use disk_layout::{DATA, Slot};
+use long_chains::{MOST_SECTORS, has_more_tracks, long_chain, sector_at};
 
 /// How many records a file has: two bytes of the record block for each.
 const RECORDS: usize = 127;
@@ -23,22 +22,6 @@ const MOST_OF_FILE: usize = 800;
 
 /// The number of the first sector past track 35.
 const FIRST_PAST: u16 = 683;
-
-/// Whether the entry is closed and of a type that GEOS writes: SEQ, PRG or USR, locked or not.
-fn is_plain(slot: &Slot) -> bool
-    ensures { result ≡ entries.is_closed_plain slot.now }
-{
-    matches!(EntryView::new(&slot.bytes).type_byte(), 129..=131 | 193..=195)
-}
-
-/// Whether the entry's type and its bytes 21 to 24 are those of a file of GEOS, on whatever tracks its blocks are.
-fn is_like_geos(slot: &Slot) -> bool
-    ensures { result ≡ entries.is_like_geos slot.now }
-{
-    let bytes = &slot.bytes;
-    let has_type = bytes[23] <= 1 && 1 <= bytes[24] && bytes[24] <= 15;
-    is_plain(slot) && has_type && !(bytes[21] == bytes[3] && bytes[22] == bytes[4])
-}
 
 /// Fills `chain` with the sectors of the record whose pair in the record block is this track and this sector: none if the track is 0.
 /// Returns whether its chain comes to its end.
@@ -222,7 +205,7 @@ fn has_past(sectors: &[u16]) -> bool
 /// them. Returns whether this is so.
 ///
 /// All of it is there if each chain comes to its end, each record has at most 255 sectors, and all together are at most 800.
-pub(crate) fn find_long_geos(
+pub fn find_long_geos(
     image: &[u8],
     slot: &Slot,
     sectors: &mut ArrayVec<u16, MOST_SECTORS>,
@@ -238,4 +221,22 @@ pub(crate) fn find_long_geos(
         return false;
     }
     add_parts(image, slot, sectors, pairs) && has_past(sectors.as_slice())
+}
+
+/// Whether this sector is one of these.
+fn is_among(number: u16, sectors: &[u16]) -> bool
+    ensures { result ≡ list_any (λ m. nat_eq m number) sectors.now }
+{
+    sectors.contains(&number)
+}
+
+/// Whether an entry's file is one of GEOS with a sector past track 35, of which the image has all, and this sector is one of its own.
+pub fn is_in_long_geos(image: &[u8], slot: &Slot, number: u16) -> bool
+    ensures { result ≡ specs.is_in_long_geos image.now slot.now number }
+{
+    let (mut sectors, mut pairs) = (ArrayVec::new(), ArrayVec::new());
+    if !find_long_geos(image, slot, &mut sectors, &mut pairs) {
+        return false;
+    }
+    is_among(number, sectors.as_slice())
 }

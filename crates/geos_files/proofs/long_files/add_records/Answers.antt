@@ -1,9 +1,9 @@
 -- One record more, or one whose chain has no end or too many sectors.
 use Rattle.std.proofs.Common.{◌∙◌, ◌≤◌, ◌+◌, ◌*◌, Bool, ap, arith, length, sym, refl}
 use Rattle.long_chains.proofs.Sizes.{few, inside}
-use Rattle.file_rescues.specs.rescue.LongGeos.{if_taken}
-use Rattle.file_rescues.proofs.lemmas.rescue.LongGeos.{none-there, records-next, records-none, second-byte}
-use Rattle.file_rescues.proofs.rescue.long_geos.add_records.Goals as goal
+use Rattle.geos_files.specs.Long.{if_taken}
+use Rattle.geos_files.proofs.Long.{none-there, records-next, records-none, second-byte}
+use Rattle.geos_files.proofs.long_files.add_records.Goals as goal
 
 pub overflow_mul-start : goal.overflow_mul-start
 overflow_mul-start c = omega (arith, few c.args.image.now c.args.block c.requires.block)
