@@ -17,7 +17,7 @@ use clap::{Arg, ArgAction, Command};
 use std::alloc::{AllocError, Global};
 
 /// What `--version` prints after the program's name: the version, and the day of its release.
-const VERSION: &str = "0.2.13 (2026-12-01)";
+const VERSION: &str = "0.2.14 (2026-12-01)";
 
 /// A command with this name, and what help says of it: in a line, and below its words.
 fn named<'a>(alloc: Global, name: &'a str, about: &'a str, more: &'a str) -> Command<'a>
