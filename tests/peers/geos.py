@@ -12,6 +12,7 @@ records, some of which are empty or missing. Of each disk:
   record's end, and `PRG` in the signature;
 - `put --type cvt` puts each CVT on a new disk under another name, and `extract` takes the same CVT out again, but for the name and the places
   in its first bytes; so does `geosread` of c1541, where it reads the file (above);
+- `geoswrite` of c1541 puts each CVT on a new disk, and `extract` takes the same CVT out again, but for the name and the places;
 - after up to three changes of a third of the disks, in the entries, the record blocks and the links, the files and the index are those of a
   reader in Python (tests/hostile/extract.py);
 - of another disk of 40 or 42 tracks, with files of GEOS, relative files and others on all tracks, some of them deleted, the files and
@@ -165,6 +166,21 @@ def put_back(program, folder, data, slot, what):
     (folder / "back").rmdir()
 
 
+def put_by_c1541(program, folder, data, what):
+    """Puts a CVT on a new disk by `geoswrite` of c1541: the same CVT comes out of that. A file without records at times lacks its data on
+    the disk that c1541 leaves, and isn't compared then."""
+    (folder / "one.cvt").write_bytes(data)
+    subprocess.run([program, "new", "new.d64", "--name", "DISK", "--id", "AB"], cwd=folder, capture_output=True)
+    subprocess.run(["c1541", "-attach", "new.d64", "-geoswrite", "one.cvt"], cwd=folder, capture_output=True)
+    ran = subprocess.run([program, "extract", "new.d64", "back"], cwd=folder, capture_output=True)
+    made = next((folder / "back").glob("*.cvt"))
+    if ran.returncode == 0 or data[21] == 1:
+        check(same_but_places(made.read_bytes(), data), f"{what}: the CVT that comes out of c1541's disk")
+    for it in (*(folder / "back").iterdir(), folder / "new.d64", folder / "one.cvt"):
+        it.unlink()
+    (folder / "back").rmdir()
+
+
 def compare(program, folder, image, number):
     """Compares the files of a disk with those of c1541 and cbmconvert."""
     path, out, theirs = folder / "geos.d64", folder / "out", folder / "theirs"
@@ -182,6 +198,7 @@ def compare(program, folder, image, number):
         what = f"image {number}: {made.name}"
         check(data == geos.cvt(image, slot), f"{what}: the reader's")
         put_back(program, folder, data, slot, what)
+        put_by_c1541(program, folder, data, what)
         check(without_places(image, slot) in converted, f"{what}: cbmconvert's")
         if slot[2] & 0xBF == 0x83 and not has_gap(image, slot):
             subprocess.run(["c1541", "-attach", path.name, "-geosread", name, "read.cvt"], cwd=folder, capture_output=True)
