@@ -2,7 +2,7 @@
 use Rattle.std.proofs.Common.{ℕ, ◌≡◌, ◌≤◌, ◌⊎◌, ◌∙◌, ⊎_elim, inl, inr, sym, ap, subst, le_refl, Result, Ok, Err, arith}
 use Rattle.std.proofs.Math.Nat.{le_trans}
 use Rattle.one_host.specs.Worlds.{World, OthersDid}
-use Rattle.one_host.specs.History.{HostHistory, HeldOnly, IsUntil, Until}
+use Rattle.one_host.specs.History.{HostHistory, HeldOnly, Since, Until}
 use Rattle.one_host.specs.Calls.{Steps}
 use Rattle.one_host.specs.declared.parts.Failure.{Failure}
 
@@ -36,44 +36,42 @@ module _ {H : Type 0} (S : HostHistory H) where
 pub none_before : (n : ℕ) (u v : World) → OthersDid u v → n ≤ u.hands → v.hands ≡ n → u.hands ≡ n
 none_before n u v o le is = omega (arith, o.count, le, is)
 
-pub found_until : (n : ℕ) (s u v : World) → OthersDid u v → IsUntil n s u → IsUntil n s v
-found_until n s u v o at = record {
+pub found_since : (n : ℕ) (A : World → Type 0) (u v : World) → OthersDid u v → Since n A u → Since n A v
+found_since n A u v o at = record {
   count = le_trans at.count o.count;
-  is = λ e. let before = none_before n u v o at.count e in o.obeyed (e ∙ sym before) ∙ at.is before;
+  is = λ e. let before = none_before n u v o at.count e in subst A (sym (o.obeyed (e ∙ sym before))) (at.is before);
 }
 
--- One call, from a world that is this unless others did something.
-module _ {H T : Type 0} (S : HostHistory H) (a b : H) (n : ℕ) (s : World) (at : IsUntil n s (S.world a))
+-- One call, from worlds with A on, unless others did something. What it makes has B.
+module _ {H T : Type 0} (S : HostHistory H) (a b : H) (n : ℕ) (A : World → Type 0) (at : Since n A (S.world a))
     (done : T → World → World → Type 0) (way : World → World → Type 0)
     (keeps : (x : T) (u v : World) → done x u v → v.hands ≡ u.hands)
     (keeps_way : (u v : World) → way u v → v.hands ≡ u.hands) where
-  pub after : (x : T) → Steps S a b done way (Ok x) → (n ≤ (S.world b).hands) × ((S.world b).hands ≡ n → done x s (S.world b))
-  after x c =
-      let f = found_until n s (S.world a) c.found c.others at in
+  pub after : (B : World → Type 0) (x : T) → ((u v : World) → A u → done x u v → B v) → Steps S a b done way (Ok x) → Since n B (S.world b)
+  after B x turns c =
+      let f = found_since n A (S.world a) c.found c.others at in
       let k = keeps x c.found (S.world b) c.ok in
-      (subst (λ m. n ≤ m) (sym k) f.count, λ e. subst (λ u. done x u (S.world b)) (f.is (sym k ∙ e)) c.ok)
+      record { count = subst (λ m. n ≤ m) (sym k) f.count; is = λ e. turns c.found (S.world b) (f.is (sym k ∙ e)) c.ok }
 
-  pub until_after : (t : World) (x : T) → ((v : World) → done x s v → v ≡ t) → Steps S a b done way (Ok x) → IsUntil n t (S.world b)
-  until_after t x only c = let f = after x c in record { count = f.0; is = λ e. only (S.world b) (f.1 e) }
+  module _ (P : World → Type 0) (before : (u : World) → A u → P u) (on_way : (u v : World) → A u → way u v → P v)
+      (on_done : (x : T) (u v : World) → A u → done x u v → P v) where
+    by_way : (u v : World) → Since n A u → way u v → Until n P v
+    by_way u v f c e = on_way u v (f.is (sym (keeps_way u v c) ∙ e)) c
 
-  module _ (P : World → Type 0) (before : P s) (on_way : (v : World) → way s v → P v) where
-    by_way : (u v : World) → IsUntil n s u → way u v → Until n P v
-    by_way u v f c e = on_way v (subst (λ x. way x v) (f.is (sym (keeps_way u v c) ∙ e)) c)
+    by_same : (u v : World) → Since n A u → v ≡ u → Until n P v
+    by_same u v f is e = subst P (sym is) (before u (f.is (ap (λ (w : World). w.hands) (sym is) ∙ e)))
 
-    by_same : (u v : World) → IsUntil n s u → v ≡ u → Until n P v
-    by_same u v f is e = subst P (sym (is ∙ f.is (ap (λ (w : World). w.hands) (sym is) ∙ e))) before
-
-    the_end : (r : Result T Failure) → ((x : T) (v : World) → done x s v → P v) → (c : Steps S a b done way r) → Until n P (S.world b)
-    the_end (Ok x) on_done c e = on_done x (S.world b) ((after x c).1 e)
-    the_end (Err x) on_done c e = ⊎_elim
-        (λ i. by_same c.found (S.world b) (found_until n s (S.world a) c.found c.others at) i e)
-        (λ i. by_way c.found (S.world b) (found_until n s (S.world a) c.found c.others at) i e)
+    the_end : (r : Result T Failure) → Steps S a b done way r → Until n P (S.world b)
+    the_end (Ok x) c = (after P x (on_done x) c).is
+    the_end (Err x) c = ⊎_elim
+        (by_same c.found (S.world b) (found_since n A (S.world a) c.found c.others at))
+        (by_way c.found (S.world b) (found_since n A (S.world a) c.found c.others at))
         c.err
 
-    pub moments : (r : Result T Failure) → ((x : T) (v : World) → done x s v → P v) → Steps S a b done way r → HeldOnly S a b (Until n P)
-    moments r on_done c =
-        let f = found_until n s (S.world a) c.found c.others at in
+    pub moments : (r : Result T Failure) → Steps S a b done way r → HeldOnly S a b (Until n P)
+    moments r c =
+        let f = found_since n A (S.world a) c.found c.others at in
         weaker S a b (λ w. OthersDid (S.world a) w ⊎ ((w ≡ S.world b) ⊎ way c.found w)) (Until n P)
-        (λ w. ⊎_elim (λ (o : OthersDid (S.world a) w). λ (e : w.hands ≡ n). subst P (sym ((found_until n s (S.world a) w o at).is e)) before)
-        (⊎_elim (λ (is : w ≡ S.world b). subst (Until n P) (sym is) (the_end r on_done c)) (by_way c.found w f)))
+        (λ w. ⊎_elim (λ (o : OthersDid (S.world a) w). λ (e : w.hands ≡ n). before w ((found_since n A (S.world a) w o at).is e))
+        (⊎_elim (λ (is : w ≡ S.world b). subst (Until n P) (sym is) (the_end r c)) (by_way c.found w f)))
         c.held

@@ -55,7 +55,7 @@ through f S = record {
 abbrev pub Until : ℕ → (World → Type 0) → World → Type 0
 Until n P w = w.hands ≡ n → P w
 
--- since then they have done so again, or the world is this one
-pub record IsUntil (n : ℕ) (s w : World) : Type 0 where
+-- the same, and it was so often at least
+pub record Since (n : ℕ) (P : World → Type 0) (w : World) : Type 0 where
   pub count : n ≤ w.hands
-  pub is : w.hands ≡ n → w ≡ s
+  pub is : Until n P w

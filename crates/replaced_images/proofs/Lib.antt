@@ -1,0 +1,3 @@
+pub mod Gave
+pub mod Paths
+pub mod Staged
