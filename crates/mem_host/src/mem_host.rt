@@ -1,5 +1,5 @@
 //! The system in memory.
-ghost use Rattle.std.specs.Prelude.{◌≡◌, ◌<◌, IfOk, IfSome, Some, string_bytes};
+ghost use Rattle.std.specs.Prelude.{◌≡◌, ◌<◌, ◌≤◌, IfOk, IfSome, Some, drop, length, string_bytes, take};
 ghost use Rattle.one_host.specs.Calls.{IsMade, IsMoved, IsRemoved, IsRenamed, IsSeen, IsSeenToLead, are_one, entry, folder_synced, heard, keeps_out, lengthened, printed, written};
 ghost use Rattle.one_host.specs.declared.parts.Entry.TheVariants.{Leads};
 ghost use Rattle.one_host.specs.Rights.{all_rights};
@@ -228,6 +228,22 @@ impl MemHost {
         }
     }
 
+    /// How many bytes a file has.
+    fn size_of(&self, file: Handle) -> u64
+        ensures { result ≡ length ((film.world self.now).files file.number).bytes.now }
+    {
+        bytes_of(self.moves.as_slice(), file.number).len() as u64
+    }
+
+    /// Copies bytes of a file from a place on, as far as there are any, and says how many.
+    fn read_from(&self, file: Handle, at: usize, to: &mut [u8]) -> usize
+        ensures within { result ≤ length to.new }
+        ensures sized { length to.new ≡ length to.old }
+        ensures copied { take result to.new ≡ take (length to.old) (drop at ((film.world self.now).files file.number).bytes.now) }
+    {
+        copy_from(bytes_of(self.moves.as_slice(), file.number), at, to)
+    }
+
     /// What had the first path gets the second one, at which nothing is.
     fn moving_of(&self, from: &str, to: &str) -> Result<Move, ErrorKind>
         ensures { IfOk result (λ what. IsMoved from.now to.now tt (film.world self.now) (acted (film.world self.now) what)) }
@@ -375,11 +391,6 @@ impl Host for MemHost {
         Ok(copy)
     }
 
-    fn is_mounted(&mut self, _alloc: Global, _path: &str) -> Result<bool, Failure> {
-        self.pass(About::Path)?;
-        Ok(false)
-    }
-
     fn open(&mut self, path: &str, _access: Access) -> Result<Handle, Failure> {
         self.pass(About::Path)?;
         let Some(file) = self.file_at(path) else {
@@ -434,16 +445,12 @@ impl Host for MemHost {
 
     fn size(&mut self, file: Handle) -> Result<u64, Failure> {
         self.pass(About::File(file))?;
-        Ok(bytes_of(self.moves.as_slice(), file.number).len() as u64)
+        Ok(self.size_of(file))
     }
 
     fn read_at(&mut self, file: Handle, at: u64, to: &mut [u8]) -> Result<usize, Failure> {
         self.pass(About::File(file))?;
-        Ok(copy_from(
-            bytes_of(self.moves.as_slice(), file.number),
-            at as usize,
-            to,
-        ))
+        Ok(self.read_from(file, at as usize, to))
     }
 
     fn write_at(&mut self, file: Handle, at: u64, bytes: &[u8]) -> Result<(), Failure> {

@@ -41,12 +41,6 @@ pub trait Host {
         ensures steps { Known history → Steps history self.old self.new
             (says (λ found w. entry w (string_bytes found) ≡ entry w path.now)) at_once result };
 
-    /// Whether the file at a path is mounted there by itself. False if the system doesn't say. (Linux: a line of
-    /// `/proc/self/mountinfo`.) Mounts aren't modelled.
-    fn is_mounted(&mut self, alloc: Global, path: &str) -> Result<bool, Failure>
-        requires { May rights Look path.now }
-        ensures { Known history → Steps history self.old self.new (says (λ _ _. Unit {0})) at_once result };
-
     /// Opens the file at a path. A file that is open already isn't opened a second time: it keeps its handle, its lock, and
     /// what it was opened for. (`open`, without `O_CREAT` and `O_TRUNC`, and `fstat`.)
     fn open(&mut self, path: &str, access: Access) -> Result<Handle, Failure>

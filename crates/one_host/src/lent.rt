@@ -29,10 +29,6 @@ impl<H: Host> Host for Lent<'_, H> {
         self.host.resolve(alloc, path)
     }
 
-    fn is_mounted(&mut self, alloc: Global, path: &str) -> Result<bool, Failure> {
-        self.host.is_mounted(alloc, path)
-    }
-
     fn open(&mut self, path: &str, access: Access) -> Result<Handle, Failure> {
         self.host.open(path, access)
     }

@@ -1,3 +1,4 @@
+pub mod Called
 pub mod Gave
 pub mod Paths
 pub mod Staged

@@ -1,17 +1,17 @@
 -- The three paths of an image differ, and are in one folder.
-use Rattle.std.proofs.Common.{◌≡◌, ℕ, List, [], ◌∷◌, ◌++◌, true, false, if◌then◌else◌, ◌==◌, refl, sym, ◌∙◌, ap, append_assoc}
-use Rattle.std.specs.Prelude.{bytes_eq, codes}
+use Rattle.std.proofs.Common.{◌≡◌, ℕ, List, [], ◌∷◌, ◌++◌, true, false, Bool, if◌then◌else◌, ◌==◌, refl, sym, ◌∙◌, ap, append_assoc}
+use Rattle.std.specs.Prelude.{bytes_eq, codes, ◌&&◌}
 use Rattle.std.proofs.lemmas.Bool.{eq-eqb}
 use Rattle.one_host.specs.Calls.{folder_of, folder_part}
 use Rattle.replaced_images.specs.Replaced.{log_of, making_of}
 
 pub same_bytes : (p : List ℕ) → bytes_eq p p ≡ true
 same_bytes [] = refl
-same_bytes (b ∷ p) = rw (eq-eqb b b refl) in same_bytes p
+same_bytes (b ∷ p) = ap (λ c. c && bytes_eq p p) (eq-eqb b b refl) ∙ same_bytes p
 
 longer : (p : List ℕ) (b : ℕ) (q : List ℕ) → bytes_eq p (p ++ b ∷ q) ≡ false
 longer [] b q = refl
-longer (a ∷ p) b q = rw (eq-eqb a a refl) in longer p b q
+longer (a ∷ p) b q = ap (λ c. c && bytes_eq p (p ++ b ∷ q)) (eq-eqb a a refl) ∙ longer p b q
 
 pub not_log : (path : List ℕ) → bytes_eq path (log_of path) ≡ false
 not_log path = longer path 45 (codes "log")

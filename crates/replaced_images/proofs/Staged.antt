@@ -110,7 +110,7 @@ names_log path i l image log w m v is =
 pub begins : (path : List ℕ) (i : ℕ) (old : List ℕ) (w : World) → Rests path i old w → (h : Handle) (v : World)
     → IsMade (making_of path) Regular h w v → Makes path i h.number (whole old) (whole []) (whole Nothing) v
 begins path i old w r h v is = subst (λ l. Makes path i l (whole old) (whole []) (whole Nothing) v) (sym is.1)
-    (subst (Makes path i w.used (whole old) (whole []) (whole Nothing)) (sym is.3) (record {
+    (subst (Makes path i w.used (whole old) (whole []) (whole Nothing)) (sym is.2.1) (record {
       has = record {
         led = if_not (bytes_eq path (making_of path)) _ (w.names path) (not_making path) ∙ r.led;
         image = ap (λ f. f.bytes) (if_not (i == w.used) _ (w.files i) i_old) ∙ r.image;

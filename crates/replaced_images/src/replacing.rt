@@ -48,6 +48,7 @@ fn name_log<H: Host>(host: &mut H, names: &Names) -> Result<(), Failure>
     requires to { May H.rights Replace names.now.log.now }
     requires look { May H.rights Look names.now.image.now }
     ensures any_moment { Known H.history → (n : ℕ) (logs : Logs) (i l : ℕ) (log old new : List ℕ) → GivesBeside logs log old new
+        → length old ≡ length new
         → Since n (Makes names.now.image.now i l (whole old) (whole log) (whole Nothing)) (H.history.world host.old)
         → HeldOnly H.history host.old host.new (Until n (Gives logs names.now.image.now old new)) }
     ensures ok { Known H.history → (n : ℕ) (i l : ℕ) (log old : List ℕ)
@@ -55,7 +56,8 @@ fn name_log<H: Host>(host: &mut H, names: &Names) -> Result<(), Failure>
         → OnOk result (Since n (Has names.now.image.now i l (whole old) (whole log) (whole (Leads l))) (H.history.world host.new)) }
 {
     host.rename(names.making, names.log)?;
-    host.sync_folder(names.image)
+    host.sync_folder(names.image)?;
+    Ok(())
 }
 
 /// Writes the image's file, and syncs it. The folder has a log that stands for the new image.
@@ -75,7 +77,8 @@ fn write_image<H: Host>(
         (H.history.world host.new)) }
 {
     host.write_at(image, 0, new)?;
-    host.sync(image)
+    host.sync(image)?;
+    Ok(())
 }
 
 /// Takes the log's name away, and syncs that.
@@ -91,7 +94,8 @@ fn unname_log<H: Host>(host: &mut H, names: &Names) -> Result<(), Failure>
         → OnOk result (Since n (Has names.now.image.now i l (whole new) (whole log) (whole Nothing)) (H.history.world host.new)) }
 {
     host.remove(names.log)?;
-    host.sync_folder(names.image)
+    host.sync_folder(names.image)?;
+    Ok(())
 }
 
 /// Puts new bytes in the place of an image's. `log` is a log that stands for them, whichever mix of both the image's file has.
@@ -124,5 +128,6 @@ pub fn replace<H: Host>(
     name_log(host, names)?;
     write_image(host, names, image, new)?;
     unname_log(host, names)?;
-    host.close(file)
+    host.close(file)?;
+    Ok(())
 }

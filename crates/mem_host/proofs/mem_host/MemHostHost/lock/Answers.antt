@@ -5,6 +5,7 @@ use Rattle.one_host.specs.declared.parts.Lock.TheVariants.{Free}
 use Rattle.mem_host.specs.Film.{film, theirs}
 use Rattle.mem_host.proofs.Filmed.{gave_up_so, made_it, refused, twice}
 use Rattle.mem_host.proofs.mem_host.MemHostHost.lock.Goals as goal
+use Rattle.mem_host.proofs.mem_host.MemHostHost.lock.Goals.{else-got, then-got}
 
 pub returns-in_err-pass : goal.returns-in_err-pass
 returns-in_err-pass c k = refused c.args.self.now c.pass.new.self _ _ _ _ c.from_residual.ensures c.in_err-pass.ensures

@@ -6,4 +6,4 @@ pub returns-in_err-pass : goal.returns-in_err-pass
 returns-in_err-pass c k = refused c.args.self.now c.pass.new.self _ _ _ _ c.from_residual.ensures c.in_err-pass.ensures
 
 pub returns : goal.returns
-returns c k = attempted c.args.self.now c.pass.new.self c.attempt.new.self _ _ _ _ c.in_ok-pass.ensures (if_ok_map c.making_of-what.result _ _ (λ v d. (d.0, d.2, d.3)) c.making_of-what.ensures) c.attempt.ensures
+returns c k = attempted c.args.self.now c.pass.new.self c.attempt.new.self _ _ _ _ c.in_ok-pass.ensures (if_ok_map c.making_of-what.result _ _ (λ v d. (d.0, d.2)) c.making_of-what.ensures) c.attempt.ensures
