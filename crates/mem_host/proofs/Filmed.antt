@@ -29,10 +29,6 @@ pub if_ok_map : {T E : Type 0} (r : Result T E) (P Q : T → Type 0) → ((x : T
 if_ok_map (Ok x) P Q f p = f x p
 if_ok_map (Err e) P Q f p = tt
 
-pub twice : (b : Bool) → not (not b) ≡ b
-twice true = refl
-twice false = refl
-
 module _ (a b : MemHost) where
   -- nothing changed
   pub stayed : (P : World → Type 0) → b.moves ≡ a.moves → P (film.world a) → HeldOnly film a b P

@@ -1,7 +1,8 @@
 //! The system in memory.
-ghost use Rattle.std.specs.Prelude.{◌≡◌, ◌<◌, ◌≤◌, IfOk, IfSome, Some, drop, length, string_bytes, take};
+ghost use Rattle.std.specs.Prelude.{◌≡◌, ◌<◌, ◌≤◌, IfOk, IfSome, Some, drop, if◌then◌else◌, length, not, string_bytes, take};
 ghost use Rattle.one_host.specs.Calls.{IsMade, IsMoved, IsRemoved, IsRenamed, IsSeen, IsSeenToLead, are_one, entry, folder_synced, heard, keeps_out, lengthened, printed, written};
 ghost use Rattle.one_host.specs.declared.parts.Entry.TheVariants.{Leads};
+ghost use Rattle.one_host.specs.declared.parts.Lock.TheVariants.{Free};
 ghost use Rattle.one_host.specs.Rights.{all_rights};
 ghost use Rattle.mem_host.specs.Film.{Attempts, Passes, film, theirs};
 ghost use Rattle.mem_host.specs.Moves.{acted};
@@ -75,6 +76,13 @@ fn taken_at(taken: Option<Taken>, number: usize) -> Lock
         Some(taken) if number == taken.number => taken.how,
         _ => Lock::Free,
     }
+}
+
+/// The lock that the program has after it has asked for one.
+fn chosen(got: bool, how: Lock) -> Lock
+    ensures { result ≡ if got then how else Free }
+{
+    if got { how } else { Lock::Free }
 }
 
 /// Whether two names lead to one file.
@@ -228,6 +236,13 @@ impl MemHost {
         }
     }
 
+    /// Whether the program would get a lock.
+    fn would_get(&self, file: Handle, how: Lock) -> bool
+        ensures { keeps_out (theirs self.now.taken file.number) how ≡ not result }
+    {
+        !keeps_out(taken_at(self.taken, file.number), how)
+    }
+
     /// How many bytes a file has.
     fn size_of(&self, file: Handle) -> u64
         ensures { result ≡ length ((film.world self.now).files file.number).bytes.now }
@@ -246,7 +261,7 @@ impl MemHost {
 
     /// What had the first path gets the second one, at which nothing is.
     fn moving_of(&self, from: &str, to: &str) -> Result<Move, ErrorKind>
-        ensures { IfOk result (λ what. IsMoved from.now to.now tt (film.world self.now) (acted (film.world self.now) what)) }
+        ensures { IfOk result (λ what. IsMoved from.now to.now (tt {0}) (film.world self.now) (acted (film.world self.now) what)) }
     {
         if entry_at(self.moves.as_slice(), to.as_bytes()) != Entry::Nothing {
             return Err(ErrorKind::AlreadyExists);
@@ -259,7 +274,7 @@ impl MemHost {
 
     /// A file gets another name, in the place of the file that had it.
     fn renaming_of(&self, from: &str, to: &str) -> Result<Move, ErrorKind>
-        ensures { IfOk result (λ what. IsRenamed from.now to.now tt (film.world self.now) (acted (film.world self.now) what)) }
+        ensures { IfOk result (λ what. IsRenamed from.now to.now (tt {0}) (film.world self.now) (acted (film.world self.now) what)) }
     {
         let found = entry_at(self.moves.as_slice(), from.as_bytes());
         if found == Entry::Nothing {
@@ -275,7 +290,7 @@ impl MemHost {
 
     /// The name of a file or a folder is taken away.
     fn removal_of(&self, path: &str) -> Result<Move, ErrorKind>
-        ensures { IfOk result (λ what. IsRemoved path.now tt (film.world self.now) (acted (film.world self.now) what)) }
+        ensures { IfOk result (λ what. IsRemoved path.now (tt {0}) (film.world self.now) (acted (film.world self.now) what)) }
     {
         if entry_at(self.moves.as_slice(), path.as_bytes()) == Entry::Nothing {
             return Err(ErrorKind::NotFound);
@@ -477,8 +492,8 @@ impl Host for MemHost {
 
     fn lock(&mut self, file: Handle, how: Lock) -> Result<bool, Failure> {
         self.pass(About::File(file))?;
-        let got = !keeps_out(taken_at(self.taken, file.number), how);
-        let lock = if got { how } else { Lock::Free };
+        let got = self.would_get(file, how);
+        let lock = chosen(got, how);
         self.attempt(Ok(Move::Locked(file.number, lock)), About::File(file))?;
         Ok(got)
     }

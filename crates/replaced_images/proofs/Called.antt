@@ -25,7 +25,7 @@ hands_of : (u v w : World) → v ≡ w → w.hands ≡ u.hands → v.hands ≡ u
 hands_of u v w is same = ap (λ (x : World). x.hands) is ∙ same
 
 none_on_way : (u v : World) → at_once u v → v.hands ≡ u.hands
-none_on_way u v no = absurd no
+none_on_way u v never = absurd never
 
 -- what a sync that failed leaves
 gives_on : (logs : Logs) (path old new : List ℕ) (u v : World) → ((left : Left) → MayLeave v left → MayLeave u left) → Gives logs path old new u
@@ -47,7 +47,7 @@ module _ {H : Type 0} (S : HostHistory H) (n : ℕ) (path : List ℕ) (i : ℕ) 
   pub make_moments : (logs : Logs) (old new : List ℕ) (a b : H) (q : List ℕ) → q ≡ making_of path → (r : Result Handle Failure) → Since n (Rests path i old) (S.world a)
       → Steps S a b (IsMade q Regular) at_once r → HeldOnly S a b (Until n (Gives logs path old new))
   make_moments logs old new a b q named r at c = moments S a b n (Rests path i old) at (IsMade (making_of path) Regular) at_once
-      (λ h u v d. hands_of u v _ d.2.1 refl) none_on_way (Gives logs path old new) (rests_gives logs old new) (λ u v _ no. absurd no)
+      (λ h u v d. hands_of u v _ d.2.1 refl) none_on_way (Gives logs path old new) (rests_gives logs old new) (λ u v _ never. absurd never)
       (λ h u v rests d. made_gives logs old new h.number (whole []) v (begins path i old u rests h v d)) r (subst (λ p. Steps S a b (IsMade p Regular) at_once r) named c)
 
   pub make_after : (old : List ℕ) (a b : H) (q : List ℕ) → q ≡ making_of path → (h : Handle) → Since n (Rests path i old) (S.world a)
@@ -123,7 +123,7 @@ module _ {H : Type 0} (S : HostHistory H) (n : ℕ) (path : List ℕ) (i : ℕ) 
         → Steps S a b (IsRenamed p q) at_once r → HeldOnly S a b (Until n (Gives logs path old new))
     rename_moments same p q from to r at c = moments S a b n (Makes path i l (whole old) (whole log) (whole Nothing)) at (IsRenamed (making_of path) (log_of path)) at_once
         (λ _ u v d. hands_of u v _ d.1 (hands_renamed u (making_of path) (log_of path) (are_one (entry u (making_of path)) (entry u (log_of path))))) none_on_way
-        (Gives logs path old new) (λ u m. gives_alone logs path old new i l u m.has.led m.has.name (inl m.has.image)) (λ u v _ no. absurd no)
+        (Gives logs path old new) (λ u m. gives_alone logs path old new i l u m.has.led m.has.name (inl m.has.image)) (λ u v _ never. absurd never)
         (λ _ u v m d. named_gives v (names_log path i l (whole old) (whole log) u m v d)) r
         (subst (λ y. Steps S a b (IsRenamed (making_of path) y) at_once r) to (subst (λ y. Steps S a b (IsRenamed y q) at_once r) from c))
       where
@@ -238,7 +238,7 @@ module _ {H : Type 0} (S : HostHistory H) (n : ℕ) (path : List ℕ) (i : ℕ) 
     pub remove_moments : (q : List ℕ) → q ≡ log_of path → {T : Type 0} (r : Result T Failure) → Since n (Named (whole new) (whole (Leads l))) (S.world a)
         → Steps S a b (IsRemoved q) at_once r → HeldOnly S a b (Until n (Gives logs path old new))
     remove_moments q named r at c = moments S a b n (Named (whole new) (whole (Leads l))) at (IsRemoved (log_of path)) at_once
-        (λ _ u v d. hands_of u v _ d.1 refl) none_on_way (Gives logs path old new) new_is (λ u v _ no. absurd no)
+        (λ _ u v d. hands_of u v _ d.1 refl) none_on_way (Gives logs path old new) new_is (λ u v _ never. absurd never)
         (λ _ u v h d. unnamed_is v (unnames path i l (whole new) (whole log) (whole (Leads l)) u h v d)) r
         (subst (λ p. Steps S a b (IsRemoved p) at_once r) named c)
 
@@ -264,7 +264,7 @@ module _ {H : Type 0} (S : HostHistory H) (n : ℕ) (path : List ℕ) (i : ℕ) 
     pub close_moments : (m : ℕ) {T : Type 0} (r : Result T Failure) → Since n (Named (whole new) (whole Nothing)) (S.world a)
         → Steps S a b (makes (λ w. locked w m Free)) at_once r → HeldOnly S a b (Until n (Gives logs path old new))
     close_moments m r at c = moments S a b n (Named (whole new) (whole Nothing)) at (makes (λ w. locked w m Free)) at_once
-        (λ _ u v d. hands_of u v _ d refl) none_on_way (Gives logs path old new) gone_is (λ u v _ no. absurd no)
+        (λ _ u v d. hands_of u v _ d refl) none_on_way (Gives logs path old new) gone_is (λ u v _ never. absurd never)
         (λ _ u v h d. gone_is v (closed m u v h d)) r c
 
     pub close_after : (m : ℕ) {T : Type 0} (x : T) → Since n (Named (whole new) (whole Nothing)) (S.world a)

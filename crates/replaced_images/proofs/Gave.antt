@@ -30,7 +30,7 @@ settled k x c is mix =
 pub entry_left : (w : World) (left : Left) → MayLeave w left → (p : List ℕ) (k : Kept Entry) → w.names p ≡ k → OneOf (λ was. left.names p ≡ was) k.now k.before
 entry_left w left may p k is = subst (λ (v : Kept Entry). OneOf (λ was. left.names p ≡ was) v.now v.before) is (may.names p)
 
-module _ (logs : Logs) (path : List ℕ) (i l : ℕ) (image log : Kept (List ℕ)) (name : Kept Entry) (w : World) (left : Left) (may : MayLeave w left)
+module _ (logs : Logs) (path : List ℕ) (i : ℕ) (w : World) (left : Left) (may : MayLeave w left)
     (led : w.names path ≡ whole (Leads i)) where
   stands : (given : List ℕ) (e : Entry) → left.names (log_of path) ≡ e → ByLog logs left (left.bytes i) e given → Stands logs path left given
   stands given e is by = record {
@@ -44,18 +44,18 @@ module _ (logs : Logs) (path : List ℕ) (i l : ℕ) (image log : Kept (List ℕ
   alone x is none = stands x Nothing none (sym (settled (w.files i).bytes x (left.bytes i) is (may.bytes i)))
 
   -- with the log it is the new one
-  pub logged : (f old new : List ℕ) → GivesBeside logs f old new → (w.files l).bytes ≡ whole f → IsMix new (old ∷ []) (left.bytes i)
+  pub logged : (l : ℕ) (f old new : List ℕ) → GivesBeside logs f old new → (w.files l).bytes ≡ whole f → IsMix new (old ∷ []) (left.bytes i)
       → left.names (log_of path) ≡ Leads l → Stands logs path left new
-  logged f old new gives is mix named = stands new (Leads l) named
-      (subst (λ c. logs c (left.bytes i) new) (sym (settled (w.files l).bytes f (left.bytes l) is (may.bytes l))) (gives (left.bytes i) mix))
+  logged l f old new gives is mix named = stands new (Leads l) named
+      (subst (λ c. logs c (left.bytes i) ≡ Some new) (sym (settled (w.files l).bytes f (left.bytes l) is (may.bytes l))) (gives (left.bytes i) mix))
 
-mix_of_old : (old new c : List ℕ) → c ≡ old → length old ≡ length new → IsMix new (old ∷ []) c
+pub mix_of_old : (old new c : List ℕ) → c ≡ old → length old ≡ length new → IsMix new (old ∷ []) c
 mix_of_old old new c is same = record {
   each = λ i. inr (inl (ap (λ l. slice_get l i) is));
   size = inr (omega (arith, ap length is));
 }
 
-mix_of_new : (old new c : List ℕ) → c ≡ new → IsMix new (old ∷ []) c
+pub mix_of_new : (old new c : List ℕ) → c ≡ new → IsMix new (old ∷ []) c
 mix_of_new old new c is = record {
   each = λ i. inl (inl (ap (λ l. slice_get l i) is));
   size = inl (omega (arith, ap length is));
@@ -73,7 +73,7 @@ module _ (logs : Logs) (path old new : List ℕ) (i l : ℕ) (w : World) where
     -- the log's name came, and the folder wasn't synced
     pub gives_named : length old ≡ length new → w.names (log_of path) ≡ turned (whole Nothing) (Leads l) → (w.files i).bytes ≡ whole old → Gives logs path old new w
     gives_named same name image left may = ⊎_elim
-        (λ (e : left.names (log_of path) ≡ Leads l). inr (logged logs path i l w left may led f old new gives log
+        (λ (e : left.names (log_of path) ≡ Leads l). inr (logged logs path i w left may led l f old new gives log
         (mix_of_old old new (left.bytes i) (settled (w.files i).bytes old (left.bytes i) image (may.bytes i)) same) e))
         (λ (e : left.names (log_of path) ≡ Nothing). inl (alone logs path i w left may led old image e))
         (entry_left w left may (log_of path) (turned (whole Nothing) (Leads l)) name)
@@ -82,12 +82,12 @@ module _ (logs : Logs) (path old new : List ℕ) (i l : ℕ) (w : World) where
     pub gives_unnamed : w.names (log_of path) ≡ turned (whole (Leads l)) Nothing → (w.files i).bytes ≡ whole new → Gives logs path old new w
     gives_unnamed name image left may = ⊎_elim
         (λ (e : left.names (log_of path) ≡ Nothing). inr (alone logs path i w left may led new image e))
-        (λ (e : left.names (log_of path) ≡ Leads l). inr (logged logs path i l w left may led f old new gives log
+        (λ (e : left.names (log_of path) ≡ Leads l). inr (logged logs path i w left may led l f old new gives log
         (mix_of_new old new (left.bytes i) (settled (w.files i).bytes new (left.bytes i) image (may.bytes i))) e))
         (entry_left w left may (log_of path) (turned (whole (Leads l)) Nothing) name)
 
     -- the log has its name
     pub gives_logged : w.names (log_of path) ≡ whole (Leads l) → ((c : List ℕ) → IsMix (w.files i).bytes.now (w.files i).bytes.before c → IsMix new (old ∷ []) c)
         → Gives logs path old new w
-    gives_logged name mixed left may = inr (logged logs path i l w left may led f old new gives log (mixed (left.bytes i) (may.bytes i))
+    gives_logged name mixed left may = inr (logged logs path i w left may led l f old new gives log (mixed (left.bytes i) (may.bytes i))
         (entry_left w left may (log_of path) (whole (Leads l)) name))

@@ -24,12 +24,14 @@ log_not_making path = longer (log_of path) 46 (codes "new")
 
 part_log : (seen path : List ℕ) → folder_part seen (path ++ codes "-log") ≡ folder_part seen path
 part_log seen [] = refl
-part_log seen (b ∷ path) = by_slash (b == 47)
+part_log seen (b ∷ path) = by_slash (b == 47) (part_log [] path) (part_log (seen ++ b ∷ []) path)
   where
-    by_slash : (s : Bool) → (if s then seen ++ b ∷ folder_part [] (path ++ codes "-log") else folder_part (seen ++ b ∷ []) (path ++ codes "-log"))
+    by_slash : (s : Bool) → folder_part [] (path ++ codes "-log") ≡ folder_part [] path
+        → folder_part (seen ++ b ∷ []) (path ++ codes "-log") ≡ folder_part (seen ++ b ∷ []) path
+        → (if s then seen ++ b ∷ folder_part [] (path ++ codes "-log") else folder_part (seen ++ b ∷ []) (path ++ codes "-log"))
         ≡ (if s then seen ++ b ∷ folder_part [] path else folder_part (seen ++ b ∷ []) path)
-    by_slash true = ap (λ (l : List ℕ). seen ++ b ∷ l) (part_log [] path)
-    by_slash false = part_log (seen ++ b ∷ []) path
+    by_slash true fresh more = ap (λ (l : List ℕ). seen ++ b ∷ l) fresh
+    by_slash false fresh more = more
 
 pub one_folder : (path : List ℕ) → bytes_eq (folder_of (log_of path)) (folder_of path) ≡ true
 one_folder path = ap (λ l. bytes_eq l (folder_of path)) (part_log [] path) ∙ same_bytes (folder_of path)

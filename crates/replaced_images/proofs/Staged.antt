@@ -1,6 +1,6 @@
 -- What each call makes of a stage.
 use Rattle.std.proofs.Common.{◌≡◌, ◌⊎◌, ℕ, ◌≤◌, ◌<◌, ◌+◌, ◌==◌, Bool, true, false, List, [], ◌∷◌, ◌++◌, length, if◌then◌else◌, refl, sym, ◌∙◌, ap, subst, inl, inr, arith}
-use Rattle.std.specs.Prelude.{bytes_eq, take, drop}
+use Rattle.std.specs.Prelude.{bytes_eq, take, drop, replicate, ◌-◌}
 use Rattle.std.proofs.lemmas.Bool.{eq-eqb, eqb-true}
 use Rattle.std.proofs.lemmas.List.{append-nil, drop_all}
 use Rattle.one_host.specs.Worlds.{IsMix, Kept, Left, MayLeave, OneOf, World, set_at, set_path}
@@ -59,7 +59,7 @@ module _ (path : List ℕ) (i l : ℕ) (image log : Kept (List ℕ)) (name : Kep
     other = h.other;
   }
 
-  pub unnames : Has path i l image log name w → (v : World) → IsRemoved (log_of path) tt w v → Has path i l image log (turned name Nothing) v
+  pub unnames : Has path i l image log name w → (v : World) → IsRemoved (log_of path) (tt {0}) w v → Has path i l image log (turned name Nothing) v
   unnames h v is = subst (Has path i l image log (turned name Nothing)) (sym is.1) (record {
     led = if_not (bytes_eq path (log_of path)) _ (w.names path) (not_log path) ∙ h.led;
     image = h.image;
@@ -88,7 +88,7 @@ module _ (path : List ℕ) (i l : ℕ) (image log : Kept (List ℕ)) (name : Kep
 
 -- a log in the making gets the name
 pub names_log : (path : List ℕ) (i l : ℕ) (image log : Kept (List ℕ)) (w : World) → Makes path i l image log (whole Nothing) w
-    → (v : World) → IsRenamed (making_of path) (log_of path) tt w v → Has path i l image log (turned (whole Nothing) (Leads l)) v
+    → (v : World) → IsRenamed (making_of path) (log_of path) (tt {0}) w v → Has path i l image log (turned (whole Nothing) (Leads l)) v
 names_log path i l image log w m v is =
     let h = m.has in
     let from : entry w (making_of path) ≡ Leads l = m.making in
@@ -152,4 +152,7 @@ folder_unsynced_leaves w path left may = record {
 
 -- what is put over as many bytes is there alone
 pub put_over : (old new : List ℕ) → length old ≤ length new → put old 0 new ≡ new
-put_over old new le = ap (λ (l : List ℕ). new ++ l) (drop_all (0 + length new) old (omega (arith, le))) ∙ append-nil new
+put_over old new le =
+    let none : 0 - length old ≡ 0 = omega arith in
+    ap (λ n. replicate n 0 ++ new ++ drop (0 + length new) old) none
+    ∙ ap (λ (l : List ℕ). new ++ l) (drop_all (0 + length new) old (omega (arith, le))) ∙ append-nil new

@@ -1,5 +1,5 @@
 -- What an image's folder stands for, and what a change of the image leaves of that at each moment. Our own.
-use Rattle.std.specs.Prelude.{◌≡◌, ◌⊎◌, ◌<◌, ℕ, List, [], ◌∷◌, ◌++◌, codes, false}
+use Rattle.std.specs.Prelude.{◌≡◌, ◌⊎◌, ◌<◌, ℕ, List, [], ◌∷◌, ◌++◌, codes, false, Option, Some}
 use Rattle.one_host.specs.Worlds.{IsMix, Kept, Left, MayLeave, World}
 use Rattle.one_host.specs.declared.parts.Entry.{Entry}
 use Rattle.one_host.specs.declared.parts.Entry.TheVariants.{Leads, Nothing, Nowhere}
@@ -11,19 +11,19 @@ log_of path = path ++ codes "-log"
 abbrev pub making_of : List ℕ → List ℕ
 making_of path = log_of path ++ codes ".new"
 
--- a log with these bytes stands for an image, beside an image's file with these bytes
-abbrev pub Logs : Type 1
-Logs = (log image given : List ℕ) → Type 0
+-- which image a log with these bytes stands for, beside an image's file with these bytes; None if it is refused
+abbrev pub Logs : Type 0
+Logs = (log image : List ℕ) → Option (List ℕ)
 
 -- It stands for the new image, whichever mix of the old one and the new one the image's file has.
 abbrev pub GivesBeside : Logs → (log old new : List ℕ) → Type 0
-GivesBeside logs log old new = (image : List ℕ) → IsMix new (old ∷ []) image → logs log image new
+GivesBeside logs log old new = (image : List ℕ) → IsMix new (old ∷ []) image → logs log image ≡ Some new
 
 -- what the image's file, and the entry of its log's name, stand for
 abbrev pub ByLog : Logs → Left → List ℕ → Entry → List ℕ → Type 0
 ByLog logs left image Nothing given = given ≡ image
 ByLog logs left image Nowhere given = ⊥
-ByLog logs left image (Leads n) given = logs (left.bytes n) image given
+ByLog logs left image (Leads n) given = logs (left.bytes n) image ≡ Some given
 
 -- after a power loss the folder stands for this image
 pub record Stands (logs : Logs) (path : List ℕ) (left : Left) (given : List ℕ) : Type 0 where
@@ -40,8 +40,8 @@ abbrev pub whole : {A : Type 0} → A → Kept A
 whole x = record { now = x; before = []; in_doubt = false }
 
 -- The image is in this file, has these bytes, and no log. All of that is synced.
-pub record Rests (path : List ℕ) (image : ℕ) (bytes : List ℕ) (w : World) : Type 0 where
-  pub led : w.names path ≡ whole (Leads image)
+pub record Rests (path : List ℕ) (file : ℕ) (bytes : List ℕ) (w : World) : Type 0 where
+  pub led : w.names path ≡ whole (Leads file)
   pub name : w.names (log_of path) ≡ whole Nothing
-  pub image : (w.files image).bytes ≡ whole bytes
-  pub used : image < w.used
+  pub image : (w.files file).bytes ≡ whole bytes
+  pub used : file < w.used

@@ -1,11 +1,8 @@
 use Rattle.std.proofs.Common.{refl, sym, ap, ◌∙◌, ◌≤◌, arith, le_refl}
-use Rattle.std.proofs.Common.{if◌then◌else◌}
 use Rattle.one_host.specs.Calls.{keeps_out, locked}
-use Rattle.one_host.specs.declared.parts.Lock.TheVariants.{Free}
 use Rattle.mem_host.specs.Film.{film, theirs}
-use Rattle.mem_host.proofs.Filmed.{gave_up_so, made_it, refused, twice}
+use Rattle.mem_host.proofs.Filmed.{gave_up_so, made_it, refused}
 use Rattle.mem_host.proofs.mem_host.MemHostHost.lock.Goals as goal
-use Rattle.mem_host.proofs.mem_host.MemHostHost.lock.Goals.{else-got, then-got}
 
 pub returns-in_err-pass : goal.returns-in_err-pass
 returns-in_err-pass c k = refused c.args.self.now c.pass.new.self _ _ _ _ c.from_residual.ensures c.in_err-pass.ensures
@@ -15,10 +12,6 @@ returns-in_err-attempt c k = gave_up_so c.args.self.now c.pass.new.self c.attemp
 
 pub returns : goal.returns
 returns c k =
-    let kept_out = ap (λ t. keeps_out (theirs t c.args.file.number) c.args.how) c.attempt.ensures.taken ∙ ap (λ t. keeps_out t c.args.how) (sym c.taken_at.ensures)
-    ∙ sym c.keeps_out-got.ensures ∙ sym (twice c.keeps_out-got.result) in
-    let chosen = elim c.if-got.branch [
-      | then-got w ↦ ap (locked (film.world c.pass.new.self) c.args.file.number) (w.lock-is ∙ sym (ap (λ b. if b then c.args.how else Free) w.if-got))
-      | else-got w ↦ ap (locked (film.world c.pass.new.self) c.args.file.number) (w.lock-is ∙ sym (ap (λ b. if b then c.args.how else Free) w.if-got))
-    ] in
-    made_it c.args.self.now c.pass.new.self c.attempt.new.self _ _ _ _ c.in_ok-pass.ensures (kept_out, chosen) c.in_ok-attempt.ensures
+    let kept_out = ap (λ t. keeps_out (theirs t c.args.file.number) c.args.how) c.attempt.ensures.taken ∙ c.would_get-got.ensures in
+    made_it c.args.self.now c.pass.new.self c.attempt.new.self _ _ _ _ c.in_ok-pass.ensures
+    (kept_out, ap (locked (film.world c.pass.new.self) c.args.file.number) c.chosen-lock.ensures) c.in_ok-attempt.ensures
