@@ -19,6 +19,7 @@ pub record HadBeen (moves : List Move) (t : ℕ) (w : World) : Type 0 where
   pub within : s ≤ length moves
   pub is : w ≡ world_of (take s moves)
 
+-- the lock that others have on a file
 abbrev pub theirs : Option Taken → ℕ → Lock
 theirs None n = Free
 theirs (Some t) n = if n == t.number then t.how else Free
@@ -26,6 +27,7 @@ theirs (Some t) n = if n == t.number then t.how else Free
 pub all_taken : (moves : List Move) (s : ℕ) → length moves ≤ s → world_of (take s moves) ≡ world_of moves
 all_taken moves s le = ap world_of (take_all s moves le)
 
+-- the history of systems in memory
 abbrev pub film : HostHistory MemHost
 film = record {
   known = true;

@@ -22,6 +22,7 @@ empty = record {
   hands = 0;
 }
 
+-- the world after one thing more was done
 abbrev pub acted : World → Move → World
 acted w (move.Made n path kind mode) = record (entered w path.items (Leads n)) {
   files = set_at w.files n (record { kind = kind; mode = mode; bytes = record { now = []; before = []; in_doubt = false } });
@@ -39,5 +40,6 @@ acted w (move.Printed stream text) = printed w stream text.items
 acted w move.Stayed = w
 acted w (move.Meddled path e) = record (entered w path.items e) { hands = suc w.hands }
 
+-- the world after all of this was done
 abbrev pub world_of : List Move → World
 world_of moves = fold acted empty moves

@@ -25,19 +25,19 @@ pub struct Taken {
     pub how: Lock,
 }
 
-/// What somebody else does before a call.
+/// What another program or a person does before a call.
 #[derive(Drop)]
 pub struct Hand {
     /// How many calls come before.
     pub calls: usize,
-    /// The path that he lets lead elsewhere.
+    /// The path that is made to lead elsewhere.
     pub path: Vec<u8>,
     /// Where it leads then.
     pub entry: Entry,
 }
 
 /// A system in memory, with each world that it had. Its maker chooses which call fails, which lock others have, and what
-/// somebody else does. It fails too where memory is refused, and where a call asks for what isn't there.
+/// others do. It fails too where memory is refused, and where a call asks for what isn't there.
 #[derive(Drop)]
 pub struct MemHost {
     alloc: Global,
@@ -118,7 +118,7 @@ impl MemHost {
         self.taken = taken;
     }
 
-    /// Somebody else will do this.
+    /// Another program or a person will do this.
     pub fn lend_a_hand(&mut self, hand: Hand)
         ensures moves { self.new.moves ≡ self.old.moves }
     {
@@ -157,7 +157,7 @@ impl MemHost {
         Ok(())
     }
 
-    /// Somebody else does what he will before this call.
+    /// Another program or a person does before this call what is planned.
     fn meddle(&mut self, about: About) -> Result<(), Failure>
         ensures { Passes self.old self.new result }
     {

@@ -26,6 +26,6 @@ pub enum Move {
     Printed(Stream, Vec<u8>),
     /// Nothing changed.
     Stayed,
-    /// Somebody else let a path lead there.
+    /// Others let a path lead there.
     Meddled(Vec<u8>, Entry),
 }

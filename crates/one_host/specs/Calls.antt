@@ -55,6 +55,7 @@ doubted k = record { now = k.now; before = k.before; in_doubt = true }
 
 -- **Files.**
 
+-- a file with other bytes
 abbrev pub with_bytes : World → ℕ → Kept (List ℕ) → World
 with_bytes w n bytes = record w { files = set_at w.files n (record (w.files n) { bytes = bytes }) }
 
@@ -66,12 +67,15 @@ put old at bytes = take at old ++ replicate (at - length old) 0 ++ bytes ++ drop
 abbrev pub ended : List ℕ → ℕ → List ℕ
 ended old n = take n old ++ replicate (n - length old) 0
 
+-- a file that has these bytes now
 abbrev pub changed : World → ℕ → List ℕ → World
 changed w n bytes = with_bytes w n (turned (w.files n).bytes bytes)
 
+-- bytes were written into a file
 abbrev pub written : World → ℕ → ℕ → List ℕ → World
 written w n at bytes = changed w n (put (w.files n).bytes.now at bytes)
 
+-- a file was ended after so many bytes
 abbrev pub lengthened : World → ℕ → ℕ → World
 lengthened w n size = changed w n (ended (w.files n).bytes.now size)
 
@@ -80,9 +84,11 @@ abbrev pub half_changed : ℕ → (List ℕ → List ℕ) → World → World �
 half_changed n change w v = (part : List ℕ) × IsMix (change (w.files n).bytes.now) ((w.files n).bytes.now ∷ []) part
     × (v ≡ changed w n part)
 
+-- a file was synced
 abbrev pub synced : World → ℕ → World
 synced w n = with_bytes w n (brought (w.files n).bytes)
 
+-- a sync of a file has failed
 abbrev pub unsynced : World → ℕ → World
 unsynced w n = with_bytes w n (doubted (w.files n).bytes)
 
@@ -98,17 +104,20 @@ AreRead n at room to count w = (w.files n).bytes.in_doubt ≡ false
 
 -- **Names.**
 
+-- a path leads there now
 abbrev pub entered : World → List ℕ → Entry → World
 entered w path e = record w { names = set_path w.names path (turned (w.names path) e) }
 
+-- what a path leads to now
 abbrev pub entry : World → List ℕ → Entry
 entry w path = (w.names path).now
 
--- the folder in which the file at a path stands: its bytes up to the last slash, and with it
+-- the bytes of a path up to the last slash, and with it, where these bytes were seen since the slash before
 abbrev pub folder_part : List ℕ → List ℕ → List ℕ
 folder_part seen [] = []
 folder_part seen (b ∷ path) = if b == 47 then seen ++ b ∷ folder_part [] path else folder_part (seen ++ b ∷ []) path
 
+-- the folder in which the file at a path stands
 abbrev pub folder_of : List ℕ → List ℕ
 folder_of path = folder_part [] path
 
@@ -116,9 +125,11 @@ folder_of path = folder_part [] path
 abbrev pub in_folder : (Kept Entry → Kept Entry) → World → List ℕ → World
 in_folder f w path = record w { names = λ q. if bytes_eq (folder_of q) (folder_of path) then f (w.names q) else w.names q }
 
+-- the names in a folder were synced
 abbrev pub folder_synced : World → List ℕ → World
 folder_synced w path = in_folder brought w path
 
+-- a sync of a folder has failed
 abbrev pub folder_unsynced : World → List ℕ → World
 folder_unsynced w path = in_folder doubted w path
 
@@ -133,6 +144,7 @@ made w path of_kind mode = record (entered w path (Leads w.used)) {
 abbrev pub IsMade : List ℕ → Kind → Handle → World → World → Type 0
 IsMade path of_kind h w v = (entry w path ≡ Nothing) × (h.number ≡ w.used) × ((mode : ℕ) × (v ≡ made w path of_kind mode))
 
+-- a folder was made where nothing was
 abbrev pub IsFolderMade : {T : Type 0} → List ℕ → T → World → World → Type 0
 IsFolderMade path _ w v = (entry w path ≡ Nothing) × ((mode : ℕ) × (v ≡ made w path kind.Folder mode))
 
@@ -149,6 +161,7 @@ moved w from to = entered (entered w to (entry w from)) from Nothing
 abbrev pub renamed : World → List ℕ → List ℕ → World
 renamed w from to = if are_one (entry w from) (entry w to) then w else moved w from to
 
+-- a file that was there was renamed
 abbrev pub IsRenamed : {T : Type 0} → List ℕ → List ℕ → T → World → World → Type 0
 IsRenamed from to _ w v = (entry w from ≢ Nothing) × (v ≡ renamed w from to)
 
@@ -160,6 +173,7 @@ IsMoved from to _ w v = (entry w to ≡ Nothing) × (v ≡ moved w from to)
 abbrev pub has_both : List ℕ → List ℕ → World → World → Type 0
 has_both from to w v = (entry w to ≡ Nothing) × (v ≡ entered w to (entry w from))
 
+-- a name that led somewhere was taken away
 abbrev pub IsRemoved : {T : Type 0} → List ℕ → T → World → World → Type 0
 IsRemoved path _ w v = (entry w path ≢ Nothing) × (v ≡ entered w path Nothing)
 
@@ -177,6 +191,7 @@ IsSeenToLead path n false w = entry w path ≢ Leads n
 
 -- **Locks.**
 
+-- a file is locked so by this program
 abbrev pub locked : World → ℕ → Lock → World
 locked w n how = record w { locks = set_at w.locks n how }
 
@@ -197,6 +212,7 @@ IsAnswered n how theirs got w v = (keeps_out theirs how ≡ not got) × (v ≡ l
 abbrev pub heard : World → ℕ → List ℕ → World
 heard w count to = record w { heard = w.heard ++ take count to; ended = w.ended || (count == 0) }
 
+-- a text was printed on a stream
 abbrev pub printed : World → Stream → List ℕ → World
 printed w Output text = record w { said = w.said ++ text }
 printed w Errors text = record w { warned = w.warned ++ text }

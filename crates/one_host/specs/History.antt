@@ -4,6 +4,7 @@ use Rattle.one_host.specs.Worlds.{World}
 use Rattle.one_host.specs.declared.parts.Failure.{Failure}
 use Rattle.one_host.specs.declared.parts.Lock.{Lock}
 
+-- the history of the hosts of a type
 pub record HostHistory (H : Type 0) : Type 1 where
   -- whether anything is known; of the real system nothing is
   pub known : Bool

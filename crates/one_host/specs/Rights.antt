@@ -29,6 +29,7 @@ pub record Rights : Type 0 where
 abbrev pub May : Rights → Use → List ℕ → Type 0
 May rights how path = rights.may how path ≡ true
 
+-- all is allowed
 abbrev pub all_rights : Rights
 all_rights = record { may = λ _ _. true; leads = λ _ _. true }
 

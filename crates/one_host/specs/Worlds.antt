@@ -19,6 +19,7 @@ pub record File : Type 0 where
   pub mode : ℕ
   pub bytes : Kept (List ℕ)
 
+-- what a system has at a moment
 pub record World : Type 0 where
   -- the files by their numbers, and how many numbers were given so far
   pub files : ℕ → File
@@ -36,10 +37,11 @@ pub record World : Type 0 where
   -- how often somebody else changed a file or a name. Programs that only take locks, or read, don't count
   pub hands : ℕ
 
--- one file, or one name, in the place of that which was there
+-- another file in the place of the one that has this number
 abbrev pub set_at : {A : Type 0} → (ℕ → A) → ℕ → A → ℕ → A
 set_at f n x m = if m == n then x else f m
 
+-- the same for a name
 abbrev pub set_path : {A : Type 0} → (List ℕ → A) → List ℕ → A → List ℕ → A
 set_path f p x q = if bytes_eq q p then x else f q
 
@@ -53,7 +55,7 @@ abbrev pub OneOf : {A : Type 0} → (A → Type 0) → A → List A → Type 0
 OneOf P now [] = P now
 OneOf P now (x ∷ before) = P now ⊎ OneOf P x before
 
--- A place of a file reads as in these bytes. Behind their end zeros may have come.
+-- A place of a file reads as in these bytes. After their end zeros may have come.
 abbrev pub Shows : List ℕ → ℕ → Option ℕ → Type 0
 Shows bytes i x = (x ≡ slice_get bytes i) ⊎ ((length bytes ≤ i) × (x ≡ Some 0))
 

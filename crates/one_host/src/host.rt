@@ -123,7 +123,7 @@ pub trait Host {
             (λ w v. v ≡ unsynced w file.number) result };
 
     /// Lets those people read and write a file who may do so with a file of which the system said this, as far as it allows
-    /// that, and nobody else. (`fchown` and `fchmod`. Errors aren't told.) Nothing is said of the mode that it gets.
+    /// that, and nobody else. (`fchown` and `fchmod`. No error of these is returned.) Nothing is said of the mode that it gets.
     fn guard_as(&mut self, file: Handle, like: &Attributes) -> Result<(), Failure>
         ensures { Known history → Steps history self.old self.new (λ _. IsGuarded file.number) at_once result };
 
@@ -133,7 +133,7 @@ pub trait Host {
         ensures { Known history → Steps history self.old self.new
             (IsAnswered file.number how (history.others self.new file.number)) (λ w v. v ≡ locked w file.number Free) result };
 
-    /// Closes a file. Its lock goes, and what was written stays as it is, synced or not. (`close`. Errors aren't told.)
+    /// Closes a file. Its lock goes, and what was written stays as it is, synced or not. (`close`. Its error isn't returned.)
     fn close(&mut self, file: Handle) -> Result<(), Failure>
         ensures { Known history → Steps history self.old self.new (makes (λ w. locked w file.number Free)) at_once result };
 

@@ -4,10 +4,11 @@ use Rattle.one_host.specs.Worlds.{IsMix, Kept, Left, MayLeave, World}
 use Rattle.one_host.specs.declared.parts.Entry.{Entry}
 use Rattle.one_host.specs.declared.parts.Entry.TheVariants.{Leads, Nothing, Nowhere}
 
--- the path of an image's log, and that of a log in the making
+-- the path of an image's log
 abbrev pub log_of : List ℕ → List ℕ
 log_of path = path ++ codes "-log"
 
+-- the path of a log in the making
 abbrev pub making_of : List ℕ → List ℕ
 making_of path = log_of path ++ codes ".new"
 

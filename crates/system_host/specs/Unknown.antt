@@ -6,6 +6,7 @@ use Rattle.one_host.specs.declared.parts.Entry.TheVariants.{Nothing}
 use Rattle.one_host.specs.declared.parts.Kind.TheVariants.{Regular}
 use Rattle.one_host.specs.declared.parts.Lock.TheVariants.{Free}
 
+-- any world
 abbrev pub no_world : World
 no_world = record {
   files = λ _. record { kind = Regular; mode = 0; bytes = record { now = []; before = []; in_doubt = false } };
@@ -19,6 +20,7 @@ no_world = record {
   hands = 0;
 }
 
+-- a history that says nothing
 abbrev pub unknown : {H : Type 0} → HostHistory H
 unknown = record {
   known = false;

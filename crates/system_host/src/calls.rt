@@ -106,10 +106,7 @@ pub(crate) fn filled(file: &File, at: u64, to: &mut [u8]) -> io::Result<usize>
 {
     let mut count = 0usize;
     for _ in 0..to.len() {
-        let Some(place) = at.checked_add(count as u64) else {
-            return Ok(count);
-        };
-        match file.read_at(&mut to[count..], place) {
+        match file.read_at(&mut to[count..], at.saturating_add(count as u64)) {
             Ok(0) => return Ok(count),
             Ok(more) => count += more,
             Err(error) if error.kind() == ErrorKind::Interrupted => {}
