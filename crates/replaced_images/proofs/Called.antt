@@ -21,14 +21,14 @@ none_past [] j is = omega arith
 none_past (x ∷ xs) zero is = absurd (cc is)
 none_past (x ∷ xs) (suc j) is = omega (arith, none_past xs j is)
 
-hands_of : (u v w : World) → v ≡ w → w.hands ≡ u.hands → v.hands ≡ u.hands
+pub hands_of : (u v w : World) → v ≡ w → w.hands ≡ u.hands → v.hands ≡ u.hands
 hands_of u v w is same = ap (λ (x : World). x.hands) is ∙ same
 
 none_on_way : (u v : World) → at_once u v → v.hands ≡ u.hands
 none_on_way u v never = absurd never
 
 -- what a sync that failed leaves
-gives_on : (logs : Logs) (path old new : List ℕ) (u v : World) → ((left : Left) → MayLeave v left → MayLeave u left) → Gives logs path old new u
+pub gives_on : (logs : Logs) (path old new : List ℕ) (u v : World) → ((left : Left) → MayLeave v left → MayLeave u left) → Gives logs path old new u
     → Gives logs path old new v
 gives_on logs path old new u v less gives left may = gives left (less left may)
 

@@ -1,11 +1,11 @@
 //! The log of the new image is made first, and its name is the commit.
-ghost use Rattle.std.specs.Prelude.{◌≡◌, [], ◌∷◌, ℕ, List, IfOk, OnOk, length};
+ghost use Rattle.std.specs.Prelude.{◌≡◌, ◌<◌, ◌*◌, ℕ, List, IfOk, OnOk, drop, length, take};
 ghost use Rattle.one_host.specs.Calls.{turned};
 ghost use Rattle.one_host.specs.History.{HeldOnly, Known, Since, Until};
 ghost use Rattle.one_host.specs.Rights.{Look, Make, May, Remove, Replace};
 ghost use Rattle.one_host.specs.declared.parts.Entry.TheVariants.{Leads, Nothing};
 ghost use Rattle.replaced_images.specs.Replaced.{Gives, GivesBeside, Logs, Rests, log_of, making_of, whole};
-ghost use Rattle.replaced_images.specs.Stages.{Has, Makes};
+ghost use Rattle.replaced_images.specs.Stages.{Has, Makes, Partly};
 
 use one_host::{Failure, Handle, Host};
 
@@ -60,13 +60,45 @@ fn name_log<H: Host>(host: &mut H, names: &Names) -> Result<(), Failure>
     Ok(())
 }
 
-/// Writes the image's file, and syncs it. The folder has a log that stands for the new image.
+/// A sector of an image.
+fn sector(image: &[u8], index: usize) -> &[u8]
+    requires sized { length image.now ≡ 174848 }
+    requires within { index < 683 }
+    ensures { result.now ≡ take 256 (drop (256 * index) image.now) }
+{
+    &image[256 * index..256 * index + 256]
+}
+
+/// Writes the sectors of the image's file. The folder has a log that stands for the new image.
+fn write_sectors<H: Host>(
+    host: &mut H,
+    names: &Names,
+    image: Handle,
+    new: &[u8],
+) -> Result<(), Failure>
+    requires sized { length new.now ≡ 174848 }
+    ensures any_moment { Known H.history → (n : ℕ) (logs : Logs) (l : ℕ) (log old : List ℕ) → GivesBeside logs log old new.now
+        → length old ≡ length new.now
+        → Since n (Has names.now.image.now image.number l (whole old) (whole log) (whole (Leads l))) (H.history.world host.old)
+        → HeldOnly H.history host.old host.new (Until n (Gives logs names.now.image.now old new.now)) }
+    ensures ok { Known H.history → (n : ℕ) (l : ℕ) (log old : List ℕ) → length old ≡ length new.now
+        → Since n (Has names.now.image.now image.number l (whole old) (whole log) (whole (Leads l))) (H.history.world host.old)
+        → OnOk result (Since n (Partly names.now.image.now image.number l old new.now log 174848) (H.history.world host.new)) }
+{
+    for k in 0..683usize {
+        host.write_at(image, (256 * k) as u64, sector(new, k))?;
+    }
+    Ok(())
+}
+
+/// Writes the image's file, and syncs it.
 fn write_image<H: Host>(
     host: &mut H,
     names: &Names,
     image: Handle,
     new: &[u8],
 ) -> Result<(), Failure>
+    requires sized { length new.now ≡ 174848 }
     ensures any_moment { Known H.history → (n : ℕ) (logs : Logs) (l : ℕ) (log old : List ℕ) → GivesBeside logs log old new.now
         → length old ≡ length new.now
         → Since n (Has names.now.image.now image.number l (whole old) (whole log) (whole (Leads l))) (H.history.world host.old)
@@ -76,7 +108,7 @@ fn write_image<H: Host>(
         → OnOk result (Since n (Has names.now.image.now image.number l (whole new.now) (whole log) (whole (Leads l)))
         (H.history.world host.new)) }
 {
-    host.write_at(image, 0, new)?;
+    write_sectors(host, names, image, new)?;
     host.sync(image)?;
     Ok(())
 }
@@ -108,6 +140,7 @@ pub fn replace<H: Host>(
     log: &[u8],
     new: &[u8],
 ) -> Result<(), Failure>
+    requires sized { length new.now ≡ 174848 }
     requires log { names.now.log.now ≡ log_of names.now.image.now }
     requires making { names.now.making.now ≡ making_of names.now.image.now }
     requires make { May H.rights Make names.now.making.now }

@@ -105,7 +105,7 @@ pub(crate) fn filled(file: &File, at: u64, to: &mut [u8]) -> io::Result<usize>
     ensures within { IfOk result (λ count. count ≤ length to.new) }
 {
     let mut count = 0usize;
-    for _ in 0..to.len() {
+    for _turn in 0..to.len() {
         match file.read_at(&mut to[count..], at.saturating_add(count as u64)) {
             Ok(0) => return Ok(count),
             Ok(more) => count += more,

@@ -3,6 +3,8 @@
 
 #[cfg(test)]
 mod tests {
+    ghost use Rattle.std.specs.Prelude.{◌≡◌, IfOk, length};
+
     use mem_host::{Hand, MemHost, Move, Taken};
     use one_host::{Access, Entry, Found, Handle, Host, Kind, Lock, Owned};
     use replaced_images::{Names, replace};
@@ -18,47 +20,60 @@ mod tests {
 
     const IMAGE: Handle = Handle { number: 0 };
 
-    /// A folder with an image, where so many calls pass.
+    /// An image of which each byte is this one.
+    fn image(alloc: Global, byte: u8) -> Result<Vec<u8>, Fail>
+        ensures { IfOk result (λ image. length image.items ≡ 174848) }
+    {
+        let mut image = Vec::new(alloc);
+        image.resize(174848, byte)?;
+        Ok(image)
+    }
+
+    /// A folder with an image of ones, where so many calls pass.
     fn host(alloc: Global, calls: usize) -> Result<MemHost, Fail> {
         let path = b"a.d64".to_vec(alloc)?;
         let beside = b"a.d64".to_vec(alloc)?;
         let moves = vec![in alloc;
             Move::Made(0, path, Kind::Regular, 0o644),
-            Move::Changed(0, b"old".to_vec(alloc)?),
+            Move::Changed(0, image(alloc, 1)?),
             Move::Synced(0),
             Move::FolderSynced(beside),
         ]?;
         Ok(MemHost::new(alloc, moves, Vec::new(alloc), calls))
     }
 
-    /// The bytes of a file of three.
-    fn three<H: Host>(host: &mut H, file: Handle) -> Result<[u8; 3], Fail> {
-        let mut bytes = [0; 3];
-        match host.read_at(file, 0, &mut bytes) {
-            Ok(_) => Ok(bytes),
-            Err(_) => Ok([0; 3]),
-        }
+    /// The first and the last byte of an image's file.
+    fn ends<H: Host>(host: &mut H, file: Handle) -> [u8; 2] {
+        let mut first = [0; 1];
+        let mut last = [0; 1];
+        let _ = host.read_at(file, 0, &mut first);
+        let _ = host.read_at(file, 174847, &mut last);
+        [first[0], last[0]]
     }
 
     #[test]
     fn image_is_replaced(rt: HostRuntime) -> Result<(), Fail> {
         let mut host = Owned {
-            host: host(rt.alloc(), 100)?,
+            host: host(rt.alloc(), 1000)?,
         };
-        assert!(rt; replace(&mut host, &NAMES, IMAGE, b"log", b"new").is_ok());
-        assert!(rt; three(&mut host, IMAGE)? == *b"new");
+        let new = image(rt.alloc(), 2)?;
+        assert!(rt; replace(&mut host, &NAMES, IMAGE, b"log", new.as_slice()).is_ok());
+        assert!(rt; ends(&mut host, IMAGE) == [2, 2]);
         assert!(rt; matches!(host.look(NAMES.log), Ok(Found::Nothing)));
         Ok(())
     }
 
+    // a change makes 693 calls: four for the log, two for its name, 683 sectors and a sync, two for the end of the log, and it
+    // is closed
     #[test]
-    fn each_call_fails_in_turn(rt: HostRuntime) -> Result<(), Fail> {
-        for calls in 0..11 {
+    fn calls_fail_in_turn(rt: HostRuntime) -> Result<(), Fail> {
+        let new = image(rt.alloc(), 2)?;
+        for calls in [0, 1, 2, 3, 4, 5, 6, 7, 350, 689, 690, 691, 692] {
             let mut host = host(rt.alloc(), calls)?;
-            assert!(rt; replace(&mut host, &NAMES, IMAGE, b"log", b"new").is_err());
+            assert!(rt; replace(&mut host, &NAMES, IMAGE, b"log", new.as_slice()).is_err());
         }
-        let mut host = host(rt.alloc(), 11)?;
-        assert!(rt; replace(&mut host, &NAMES, IMAGE, b"log", b"new").is_ok());
+        let mut host = host(rt.alloc(), 693)?;
+        assert!(rt; replace(&mut host, &NAMES, IMAGE, b"log", new.as_slice()).is_ok());
         Ok(())
     }
 
@@ -72,7 +87,7 @@ mod tests {
         });
         assert!(rt; matches!(host.leads("a.d64", IMAGE), Ok(true)));
         assert!(rt; matches!(host.leads("a.d64", IMAGE), Ok(false)));
-        assert!(rt; three(&mut host, IMAGE)? == *b"old");
+        assert!(rt; ends(&mut host, IMAGE) == [1, 1]);
         Ok(())
     }
 
@@ -95,18 +110,20 @@ mod tests {
             assert!(rt; false);
             return Ok(());
         };
-        assert!(rt; host.write_at(file, 0, b"old").is_ok());
+        let old = image(rt.alloc(), 1)?;
+        let new = image(rt.alloc(), 2)?;
+        assert!(rt; host.write_at(file, 0, old.as_slice()).is_ok());
         assert!(rt; matches!(host.open("a.d64", Access::Read), Ok(again) if again == file));
         assert!(rt; matches!(host.lock(file, Lock::Alone), Ok(true)));
-        assert!(rt; replace(&mut host, &NAMES, file, b"log", b"new").is_ok());
-        assert!(rt; three(&mut host, file)? == *b"new");
-        assert!(rt; matches!(host.size(file), Ok(3)));
+        assert!(rt; replace(&mut host, &NAMES, file, b"log", new.as_slice()).is_ok());
+        assert!(rt; ends(&mut host, file) == [2, 2]);
+        assert!(rt; matches!(host.size(file), Ok(174848)));
         assert!(rt; matches!(host.leads("a.d64", file), Ok(true)));
         assert!(rt; matches!(host.look("a.d64-log"), Ok(Found::Nothing)));
         assert!(rt; host.rename("a.d64", "b.d64").is_ok());
         assert!(rt; matches!(host.leads("b.d64", file), Ok(true)));
         assert!(rt; host.remove("b.d64").is_ok());
-        assert!(rt; three(&mut host, file)? == *b"new");
+        assert!(rt; ends(&mut host, file) == [2, 2]);
         assert!(rt; host.close(file).is_ok());
         assert!(rt; host.size(file).is_err());
         Ok(())
