@@ -59,8 +59,9 @@ pub trait Host {
         requires { May rights Make path.now }
         ensures { Known history → Steps history self.old self.new (IsFolderMade path.now) at_once result };
 
-    /// Gives what stands at a path another name, in the place of the file that had it. Nobody finds neither at the second
-    /// path; a power loss may take either name back until the folder is synced. (`rename`.)
+    /// Gives what stands at a path another name, in the place of the file that had it. At each moment the second path leads to
+    /// the one file or to the other. Until the folder is synced, a power loss may take either name back, each on its own.
+    /// (`rename`.)
     fn rename(&mut self, from: &str, to: &str) -> Result<(), Failure>
         requires from { May rights Remove from.now }
         requires to { May rights Replace to.now }
