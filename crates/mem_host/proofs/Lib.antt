@@ -1,0 +1,2 @@
+pub mod Filmed
+pub mod Played

@@ -1,0 +1,2 @@
+pub mod Film
+pub mod Moves

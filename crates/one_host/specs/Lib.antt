@@ -1,0 +1,4 @@
+pub mod Calls
+pub mod History
+pub mod Rights
+pub mod Worlds

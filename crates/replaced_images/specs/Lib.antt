@@ -1,0 +1,2 @@
+pub mod Replaced
+pub mod Stages

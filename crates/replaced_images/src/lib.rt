@@ -1,0 +1,6 @@
+//! An image that takes the place of another, all or nothing.
+#![tactic(auto)]
+
+mod replacing;
+
+pub use replacing::{Names, replace};
