@@ -22,6 +22,7 @@ from spec_files import ends_head  # noqa: E402
 # the rows of the table, by the headings of crates.txt
 KINDS = {
     "Product": "the product",
+    "System": "the system as one value",
     "Tests": "tests",
     "Tools": "tools, examples",
     "Example": "tools, examples",
@@ -97,7 +98,7 @@ def figures(shows):
     refused, seen = (sum(1 for it in mutants if it.tried and it.tried.word == word) for word in ("refused", "seen"))
     for_rows = sum(1 for it in mutants if it.row)
     return [
-        (r"(?:\| (?:the product|tests|tools, examples|the simulator) \|[^\n]*\n)+", printed),
+        (r"(?:\| (?:the product|the system as one value|tests|tools, examples|the simulator) \|[^\n]*\n)+", printed),
         (r"Beside a line of the product's code stand [^\n]*\n",
          f"Beside a line of the product's code stand {contract / code:.1f} lines of contracts, {definitions / code:.1f} of definitions and "
          f"{proofs / code:.1f} of proofs.\n"),
