@@ -167,14 +167,15 @@ def put_back(program, folder, data, slot, what):
 
 
 def put_by_c1541(program, folder, data, what):
-    """Puts a CVT on a new disk by `geoswrite` of c1541: the same CVT comes out of that. A file without records at times lacks its data on
-    the disk that c1541 leaves, and isn't compared then."""
+    """Puts a CVT on a new disk by `geoswrite` of c1541: the same CVT comes out of that. If the file has no records, c1541 at times leaves a
+    disk without the file's data, of which `check` finds the map wrong; such a disk isn't compared."""
     (folder / "one.cvt").write_bytes(data)
     subprocess.run([program, "new", "new.d64", "--name", "DISK", "--id", "AB"], cwd=folder, capture_output=True)
     subprocess.run(["c1541", "-attach", "new.d64", "-geoswrite", "one.cvt"], cwd=folder, capture_output=True)
-    ran = subprocess.run([program, "extract", "new.d64", "back"], cwd=folder, capture_output=True)
+    checked = subprocess.run([program, "check", "new.d64"], cwd=folder, capture_output=True)
+    subprocess.run([program, "extract", "new.d64", "back"], cwd=folder, capture_output=True)
     made = next((folder / "back").glob("*.cvt"))
-    if ran.returncode == 0 or data[21] == 1:
+    if checked.returncode == 0 or data[21] == 1:
         check(same_but_places(made.read_bytes(), data), f"{what}: the CVT that comes out of c1541's disk")
     for it in (*(folder / "back").iterdir(), folder / "new.d64", folder / "one.cvt"):
         it.unlink()
