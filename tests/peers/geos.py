@@ -289,7 +289,11 @@ def look_longer(program, folder, draw, number):
 def main(given):
     need("c1541", "cbmconvert")
     draw = random.Random(given.seed)
-    with tempfile.TemporaryDirectory() as name, tempfile.TemporaryDirectory() as work:
+    with (
+        tempfile.TemporaryDirectory() as name,
+        tempfile.TemporaryDirectory() as work,
+        tempfile.TemporaryDirectory() as apart,
+    ):
         for number in range(given.amount):
             at(number + 1)
             disk = Drawn(draw)
@@ -304,7 +308,7 @@ def main(given):
                     check(True, "")
                 except taken_out.Differs as error:
                     check(False, f"image {number}, hurt: {error}")
-            look_longer(given.program, Path(work), draw, number)
+            look_longer(given.program, Path(apart), draw, number)
 
 
 if __name__ == "__main__":
