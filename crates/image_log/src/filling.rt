@@ -100,8 +100,9 @@ fn make_block(
     upto
 }
 
-/// Makes the blocks of a commit that stands from this place on, of the touched sectors. Returns how many there are.
-pub(crate) fn fill(
+/// Makes the blocks of a commit that stands from this place on, of the touched sectors. Returns how many there are, 46 at most.
+/// The blocks of the room after these may have any bytes then. `now` has the 683 sectors as they are.
+pub fn fill(
     room: &mut [[u8; 4096]],
     now: &[[u8; 256]],
     touched: &[bool; SECTORS],

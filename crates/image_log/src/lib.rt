@@ -21,6 +21,7 @@ mod salvaging;
 mod touched_disk;
 
 pub use blocks::BLOCK;
+pub use filling::fill;
 pub use image_log::ImageLog;
 pub use life::beginning::begin;
 pub use life::host_folder::HostFolder;

@@ -9,6 +9,8 @@ mod scripts;
 
 pub use batches::{BatchSource, MOST_LINES};
 pub use logged::batching::serve_batches;
+pub use logged::handling::handle_batch;
+pub use logged::keeping::take_changes;
 pub use logged::reporting::BatchReplies;
 pub use logged::room::Room;
 pub use scripts::ScriptBatches;

@@ -17,7 +17,7 @@ fn handle_line(session: &mut Session<TouchedDisk<MemDisk>>, line: &[u8]) -> Repl
 }
 
 /// Handles these lines one after another. The list has their replies then, and no others.
-pub(crate) fn handle_batch(
+pub fn handle_batch(
     session: &mut Session<TouchedDisk<MemDisk>>,
     lines: &[ArrayVec<u8, 40>],
     replies: &mut Vec<Reply>,

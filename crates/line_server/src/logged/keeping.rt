@@ -9,7 +9,7 @@ use std::io;
 
 /// Copies each marked sector of the image of now into the kept image, which is the one committed last. Returns which of
 /// them changed.
-fn take_changes(
+pub fn take_changes(
     kept: &mut [[u8; 256]],
     now: &[[u8; 256]],
     marked: &[bool; SECTORS],
