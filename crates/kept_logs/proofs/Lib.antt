@@ -1,0 +1,4 @@
+pub mod Blocks
+pub mod Bytes
+pub mod Calls
+pub mod Commits
