@@ -1,5 +1,5 @@
 -- The bytes of one file in a world. Our own.
-use Rattle.std.specs.Prelude.{◌≡◌, ◌≤◌, ◌+◌, ◌==◌, ℕ, List, [], false, length}
+use Rattle.std.specs.Prelude.{◌≡◌, ◌≤◌, ◌+◌, ◌==◌, ℕ, List, [], false, length, slice_index}
 use Rattle.one_host.specs.Worlds.{IsMix, World}
 use Rattle.image_log.specs.Files.{Mixed}
 
@@ -37,3 +37,20 @@ pub record Has (v : World) (n : ℕ) (bytes : List ℕ) (w : World) : Type 0 whe
   pub only : OnlyFile v n w
   pub safe : IsSafe n w
   pub is : bytes_in w n ≡ bytes
+
+-- the file is new: it has no bytes, and never had any
+pub record IsEmpty (n : ℕ) (w : World) : Type 0 where
+  pub safe : IsSafe n w
+  pub none : bytes_in w n ≡ []
+
+-- w is the world v, but the file has zeros, as many as a log has bytes; it may not be synced
+pub record IsLaid (v : World) (n : ℕ) (w : World) : Type 0 where
+  pub only : OnlyFile v n w
+  pub sure : (w.files n).bytes.in_doubt ≡ false
+  pub size : length (bytes_in w n) ≡ 4198400
+  pub zeros : (i : ℕ) → slice_index (bytes_in w n) i ≡ 0
+
+-- the same, and it is synced
+pub record IsLaidOut (v : World) (n : ℕ) (w : World) : Type 0 where
+  pub laid : IsLaid v n w
+  pub safe : IsSafe n w

@@ -43,3 +43,8 @@ pub record IsCommitted (v : World) (l m : KeptLog) (start now : Image) (w : Worl
   pub file : log_file m ≡ log_file l
   pub only : OnlyFile v (log_file l) w
   pub stands : Stands m start now w
+
+-- w is the world v, but the log is there, and begins with this image
+pub record IsBegun (v : World) (l : KeptLog) (image : Image) (w : World) : Type 0 where
+  pub only : OnlyFile v (log_file l) w
+  pub stands : Stands l image image w

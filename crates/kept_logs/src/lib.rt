@@ -2,6 +2,9 @@
 #![tactic(auto)]
 
 mod appending;
+mod laying_out;
+mod log_room;
 mod logs;
 
+pub use log_room::BlockRoom;
 pub use logs::KeptLog;

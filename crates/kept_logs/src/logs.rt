@@ -2,6 +2,8 @@
 ghost use Rattle.std.specs.Prelude.{◌≡◌, ◌≤◌, length};
 
 use crate::appending::append;
+use crate::laying_out::lay_out;
+use crate::log_room::BlockRoom;
 use image_log::{BLOCK, BLOCKS, MOST, fill, none_touched};
 use one_host::{Failure, Handle, Host};
 
@@ -20,7 +22,37 @@ impl KeptLog {
     ghost use Rattle.std.specs.Prelude.{◌↔◌, ◌+◌, ℕ, IfOk, false};
     ghost use Rattle.d64_image.specs.Images.{Image};
     ghost use Rattle.one_host.specs.History.{HeldOnly, Known, Since, Tells, Until};
-    ghost use Rattle.kept_logs.specs.Logs.{Commits, IsCommitted, MayCommit, log_end, log_file};
+    ghost use Rattle.kept_logs.specs.Files.{IsEmpty, OnlyFile};
+    ghost use Rattle.kept_logs.specs.Logs.{Commits, IsBegun, IsCommitted, MayCommit, log_end, log_file};
+
+    /// Makes a log in this file, which was just made, in this room: zeros, synced, and then the image as its base, synced. At an
+    /// error the file is no log yet, or one with this base.
+    pub fn begin<H: Host>(
+        host: &mut H,
+        file: Handle,
+        room: BlockRoom,
+        image: &[[u8; 256]],
+    ) -> Result<KeptLog, Failure>
+        requires sized { length image.now ≡ 683 }
+        ensures any_moment { Known H.history → (n : ℕ) → Since n (IsEmpty file.number) (H.history.world host.old)
+            → HeldOnly H.history host.old host.new (Until n (OnlyFile (H.history.world host.old) file.number)) }
+        ensures ok { Known H.history → (n : ℕ) → Since n (IsEmpty file.number) (H.history.world host.old)
+            → IfOk result (λ log. Since n (IsBegun (H.history.world host.old) log image.now) (H.history.world host.new)) }
+        ensures file { IfOk result (λ log. log_file log ≡ file.number) }
+        // it takes a commit
+        ensures room { IfOk result (λ log. log_end log + 46 ≤ 1024) }
+        ensures told { Known H.history → Tells H.history host.old host.new result }
+    {
+        let BlockRoom { mut blocks } = room;
+        lay_out(host, file)?;
+        let n = fill(&mut blocks, image, &[true; 683], 0);
+        append(host, file, 0, blocks[..n].as_flattened())?;
+        Ok(KeptLog {
+            file,
+            end: n,
+            room: blocks,
+        })
+    }
 
     /// Whether it is too full for one more commit, whatever sectors that has.
     pub fn is_full(&self) -> bool
