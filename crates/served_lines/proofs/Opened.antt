@@ -88,8 +88,11 @@ module _ (s : Shop) (start : Image) (disk : MemDisk) (session : View Memory) (ke
   -- the calls
   module _ {H : Type 0} (S : HostHistory H) (a b : H) (n : ℕ) (is : v ≡ S.world a) (since : Since n (Stands log start image) (S.world a)) where
     pub may : Since n (MayCommit log start kept (touched_of session.disk) (image_of session.disk)) (S.world a)
-    may = record { count = since.count; is = λ e. subst (MayCommit log start kept (touched_of session.disk) (image_of session.disk)) is
-        (may_open (subst (Stands log start image) (sym is) (since.is e))) }
+    may = record {
+      count = since.count;
+      is = λ e. subst (MayCommit log start kept (touched_of session.disk) (image_of session.disk)) is
+          (may_open (subst (Stands log start image) (sym is) (since.is e)));
+    }
 
     pub opening_held : HeldOnly S a b (Until n (Commits (S.world a) log start kept (image_of session.disk))) → HeldOnly S a b (Until n (Answers s image v (log_file log)))
     opening_held held = weaker S a b (Until n (Commits (S.world a) log start kept (image_of session.disk))) (Until n (Answers s image v (log_file log)))
@@ -182,8 +185,11 @@ module _ (s : Shop) (start image : Image) (v : World) (session : View Memory) (k
               ∙ ap (λ l. l ++ (g.awaits.begun ++ bytes_left j)) (ap (λ l. (v.heard ++ l) ++ g.handled) (append-nil q.handled) ∙ append_assoc v.heard q.handled g.handled)
               ∙ append_assoc v.heard all (g.awaits.begun ++ bytes_left j);
           over = ⊎_elim
-              (λ (x : (w.ended ≡ true) × (bytes_left j ≡ [])). inl (x.0, subst (λ (l : List ℕ). LacksLf (g.awaits.begun ++ l)) (sym x.1)
-              (subst LacksLf (sym (append-nil g.awaits.begun)) g.awaits.lacks)))
+              (λ (x : (w.ended ≡ true) × (bytes_left j ≡ [])). inl (
+                x.0,
+                subst (λ (l : List ℕ). LacksLf (g.awaits.begun ++ l)) (sym x.1)
+                    (subst LacksLf (sym (append-nil g.awaits.begun)) g.awaits.lacks),
+              ))
               (λ long. inr long) over.1;
           said = ap (λ (x : World). x.said) g.only.is ∙ q.at_rest.said ∙ ap (λ ls. v.said ++ report (replies (start_of s) [] ls)) (sym same);
           stands = subst (λ (x : Image). Stands log start x w) q.at_rest.kept_is stands_heard;

@@ -162,7 +162,7 @@ module _ {H : Type 0} (S : HostHistory H) (a b : H) (n : ℕ) (v : World) (first
         (λ u w p d. (
           λ before begun. reads_on v j k before u (taken before u (p.0 before begun)) all count to line left true w d.1 (λ e. cc e),
           (let more = ap (λ (y : World). length y.heard) d.1 ∙ length-append u.heard (take count to) in
-          omega (arith, more, p.1, length-take-le count to d.0, some)),
+              omega (arith, more, p.1, length-take-le count to d.0, some)),
         )) steps
 
 -- nothing was brought for as long as can be counted

@@ -11,7 +11,7 @@ use Rattle.served_lines.specs.declared.reading.LineInput.{LineInput}
 abbrev pub line_kept : LineInput → List ℕ
 line_kept i = i.line.items
 
--- the bytes that were read last, and what stands behind them
+-- the room for what is read: the bytes that were read last, and what was there before
 abbrev pub bytes_read : LineInput → List ℕ
 bytes_read i = i.bytes.items
 

@@ -17,7 +17,7 @@ use Rattle.served_lines.specs.Readings.{Awaits}
 use Rattle.served_lines.specs.Services.{OnlyService}
 use Rattle.served_lines.specs.declared.reading.LineInput.{LineInput}
 
--- Lines were answered, and the log stands for the shop after them. What was read behind them is `more`.
+-- These lines were answered, and the log stands for the shop after them. Then `more` was taken of the input.
 pub record Rests (s : Shop) (start : Image) (v : World) (session : View Memory) (kept : Image) (log : KeptLog) (input : LineInput)
     (handled more : List ℕ) (w : World) : Type 0 where
   pub only : OnlyService v (log_file log) w

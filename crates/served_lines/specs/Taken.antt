@@ -4,8 +4,8 @@ use Rattle.line_text.specs.scripts.Lines.{lines}
 use Rattle.line_server.specs.Batches.{AreSame}
 use Rattle.line_server.specs.Read.{AreWhole, LacksLf}
 
--- Of the bytes of a line that began, and these after it, whole lines were taken, of which these texts were kept. They begin a
--- further line, of which this was kept.
+-- The bytes of a line that has begun, and these bytes after it, have whole lines, of which these texts were kept. A further line begins
+-- after them, of which this was kept.
 pub record TakesLines (raw bytes kept : List ℕ) (texts : List (List ℕ)) : Type 0 where
   pub handled : List ℕ
   pub begun : List ℕ

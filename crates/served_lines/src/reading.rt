@@ -37,7 +37,7 @@ fn drop_cr(line: &mut ArrayVec<u8, 40>)
     }
 }
 
-/// Takes one byte: an LF ends the line, which joins the others without one CR before that. Of a line 40 bytes are kept.
+/// Takes one byte. An LF ends the line, which joins the others without one CR before the LF. The first 40 bytes of a line are kept.
 fn take_byte(byte: u8, line: &mut ArrayVec<u8, 40>, lines: &mut Vec<ArrayVec<u8, 40>>)
     requires room { length lines.old.items < vec_capacity lines.old }
     ensures lf { byte ≡ 10 → (line.new.items ≡ []) × (texts_of lines.new.items ≡ texts_of lines.old.items ++ without_cr line.old.items ∷ []) }
@@ -54,11 +54,7 @@ fn take_byte(byte: u8, line: &mut ArrayVec<u8, 40>, lines: &mut Vec<ArrayVec<u8,
 
 /// Takes the lines of these bytes, in place of those that the list had, and what begins one after them. Returns how many bytes it
 /// took: all, or those of 512 lines.
-fn take_lines(
-    bytes: &[u8],
-    line: &mut ArrayVec<u8, 40>,
-    lines: &mut Vec<ArrayVec<u8, 40>>,
-) -> usize
+fn take_lines(bytes: &[u8], line: &mut ArrayVec<u8, 40>, lines: &mut Vec<ArrayVec<u8, 40>>) -> usize
     requires room { 512 ≤ vec_capacity lines.old }
     ensures within { result ≤ length bytes.now }
     ensures all { length lines.new.items < 512 → result ≡ length bytes.now }

@@ -14,7 +14,8 @@ const DAY: &[u8] = b"1,1,S,101,40\n1,2,I,101,5\r\n1,2,I,101,5\nnonsense\n1,3,I,1
 
 const TOLD: &[u8] = b"1,1,DONE,40\n1,2,DONE,35\n1,2,DONE,35\n30,SYNTAX ERROR,00,00\n";
 
-/// How many calls make a log: its name, a length and a sync, 41 times zeros, and then the base, with a sync behind each.
+/// So many calls make a log: one makes its file, two give it a length and sync that, 41 write zeros and one syncs them, one writes the
+/// base and one syncs that.
 const BEGUN: usize = 47;
 
 /// A disk with a shop.

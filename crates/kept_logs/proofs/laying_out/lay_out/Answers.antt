@@ -21,22 +21,22 @@ pub loop-k-init : goal.loop-k-init
 loop-k-init g c = record {
   told = λ known. (c.in_ok-sync.ensures known).told ∙ (c.in_ok-set_size.ensures known).told;
   any_moment = λ known k since.
-    let S = g.H.Host.history in
-    let v = S.world c.args.host.now in
-    let n = c.args.file.number in
-    let h0 = c.args.host.now in
-    let h1 = c.set_size.new.self in
-    let h2 = c.sync.new.self in
-    joined S h0 h1 h2 (Until k (OnlyFile v n)) (size_moments v n S h0 h1 k (starts k v n since) 4198400 refl _ (c.set_size.ensures known))
-    (sync_moments v n S h1 h2 k (size_after v n S h0 h1 k (starts k v n since) 4198400 refl _ (c.in_ok-set_size.ensures known)) _ (c.sync.ensures known));
+      let S = g.H.Host.history in
+      let v = S.world c.args.host.now in
+      let n = c.args.file.number in
+      let h0 = c.args.host.now in
+      let h1 = c.set_size.new.self in
+      let h2 = c.sync.new.self in
+      joined S h0 h1 h2 (Until k (OnlyFile v n)) (size_moments v n S h0 h1 k (starts k v n since) 4198400 refl _ (c.set_size.ensures known))
+      (sync_moments v n S h1 h2 k (size_after v n S h0 h1 k (starts k v n since) 4198400 refl _ (c.in_ok-set_size.ensures known)) _ (c.sync.ensures known));
   so_far = λ known k since.
-    let S = g.H.Host.history in
-    let v = S.world c.args.host.now in
-    let n = c.args.file.number in
-    let h0 = c.args.host.now in
-    let h1 = c.set_size.new.self in
-    let h2 = c.sync.new.self in
-    laid_of S h2 k v n (sync_after v n S h1 h2 k (size_after v n S h0 h1 k (starts k v n since) 4198400 refl _ (c.in_ok-set_size.ensures known)) _ (c.in_ok-sync.ensures known));
+      let S = g.H.Host.history in
+      let v = S.world c.args.host.now in
+      let n = c.args.file.number in
+      let h0 = c.args.host.now in
+      let h1 = c.set_size.new.self in
+      let h2 = c.sync.new.self in
+      laid_of S h2 k v n (sync_after v n S h1 h2 k (size_after v n S h0 h1 k (starts k v n since) 4198400 refl _ (c.in_ok-set_size.ensures known)) _ (c.in_ok-sync.ensures known));
 }
 
 pub returns-in_err-write_at-clause-any_moment : goal.returns-in_err-write_at-clause-any_moment
@@ -58,30 +58,30 @@ pub loop-k-preserved : goal.loop-k-preserved
 loop-k-preserved g c = record {
   told = λ known. (c.in_ok-write_at.ensures known).told ∙ c.loop-k.invariant.told known;
   any_moment = λ known k since.
-    let S = g.H.Host.history in
-    let v = S.world c.args.host.now in
-    let n = c.args.file.number in
-    let h0 = c.args.host.now in
-    let h1 = c.set_size.new.self in
-    let h2 = c.sync.new.self in
-    let hk = c.loop-k.host in
-    let hw = c.write_at.new.self in
-    let at = 102400 * c.loop-k.k in
-    let le : 102400 * c.loop-k.k + 102400 ≤ 4198400 = omega (arith, c.loop-k-test.true) in
-    joined S h0 hk hw (Until k (OnlyFile v n)) (c.loop-k.invariant.any_moment known k since)
-    (zero_moments v n S hk hw k (c.loop-k.invariant.so_far known k since) at 102400 le _ (c.write_at.ensures known));
+      let S = g.H.Host.history in
+      let v = S.world c.args.host.now in
+      let n = c.args.file.number in
+      let h0 = c.args.host.now in
+      let h1 = c.set_size.new.self in
+      let h2 = c.sync.new.self in
+      let hk = c.loop-k.host in
+      let hw = c.write_at.new.self in
+      let at = 102400 * c.loop-k.k in
+      let le : 102400 * c.loop-k.k + 102400 ≤ 4198400 = omega (arith, c.loop-k-test.true) in
+      joined S h0 hk hw (Until k (OnlyFile v n)) (c.loop-k.invariant.any_moment known k since)
+      (zero_moments v n S hk hw k (c.loop-k.invariant.so_far known k since) at 102400 le _ (c.write_at.ensures known));
   so_far = λ known k since.
-    let S = g.H.Host.history in
-    let v = S.world c.args.host.now in
-    let n = c.args.file.number in
-    let h0 = c.args.host.now in
-    let h1 = c.set_size.new.self in
-    let h2 = c.sync.new.self in
-    let hk = c.loop-k.host in
-    let hw = c.write_at.new.self in
-    let at = 102400 * c.loop-k.k in
-    let le : 102400 * c.loop-k.k + 102400 ≤ 4198400 = omega (arith, c.loop-k-test.true) in
-    zero_after v n S hk hw k (c.loop-k.invariant.so_far known k since) at 102400 le _ (c.in_ok-write_at.ensures known);
+      let S = g.H.Host.history in
+      let v = S.world c.args.host.now in
+      let n = c.args.file.number in
+      let h0 = c.args.host.now in
+      let h1 = c.set_size.new.self in
+      let h2 = c.sync.new.self in
+      let hk = c.loop-k.host in
+      let hw = c.write_at.new.self in
+      let at = 102400 * c.loop-k.k in
+      let le : 102400 * c.loop-k.k + 102400 ≤ 4198400 = omega (arith, c.loop-k-test.true) in
+      zero_after v n S hk hw k (c.loop-k.invariant.so_far known k since) at 102400 le _ (c.in_ok-write_at.ensures known);
 }
 
 pub returns-in_err-sync-2-clause-any_moment : goal.returns-in_err-sync-2-clause-any_moment

@@ -104,35 +104,35 @@ pub loop-preserved : goal.loop-preserved
 loop-preserved g c = record {
   file = c.in_ok-log-2.ensures.file ∙ c.loop.invariant.file;
   any_moment = λ known n s start disk opened shop since.
-    let S = g.H.Host.history in
-    let v = S.world c.args.host.now in
-    let h0 = c.args.host.now in
-    let hl = c.loop.host in
-    let hg = c.give_lines.new.host in
-    let so_far = c.loop.invariant.so_far known n s start disk opened shop since in
-    let held = c.give_lines.ensures.any_moment known n so_far.count in
-    let hb = c.serve_batch.new.host in
-    joined S h0 hg hb (Until n (Answers s (disk_image disk) v (log_file c.args.log)))
-    (joined S h0 hl hg (Until n (Answers s (disk_image disk) v (log_file c.args.log))) (c.loop.invariant.any_moment known n s start disk opened shop since)
-    (heard_held s start (disk_image disk) v c.loop.session c.loop.room.kept.items c.loop.log c.loop.room.input c.give_lines.new.self S hl hg n (log_file c.args.log) c.loop.invariant.file so_far held))
-    (subst (λ m. HeldOnly S hg hb (Until n (Answers s (disk_image disk) v m))) c.loop.invariant.file
-    (c.serve_batch.ensures.any_moment known n s start (disk_image disk) v c.give_lines.new.self
-    (pend s start (disk_image disk) v c.loop.session c.loop.room.kept.items c.loop.log c.loop.room.input c.give_lines.new.self S hl hg n (log_file c.args.log) c.loop.invariant.file so_far held
-    (texts_of c.give_lines.new.lines.items) c.in_ok-give_lines.field-0 (c.in_ok-give_lines.ensures.ok known n so_far.count)
-    c.as_mut_slice-in-loop.result.now c.as_mut_slice-in-loop.ensures.value (texts_of c.as_slice.result.now) (ap texts_of c.as_slice.ensures.value))));
+      let S = g.H.Host.history in
+      let v = S.world c.args.host.now in
+      let h0 = c.args.host.now in
+      let hl = c.loop.host in
+      let hg = c.give_lines.new.host in
+      let so_far = c.loop.invariant.so_far known n s start disk opened shop since in
+      let held = c.give_lines.ensures.any_moment known n so_far.count in
+      let hb = c.serve_batch.new.host in
+      joined S h0 hg hb (Until n (Answers s (disk_image disk) v (log_file c.args.log)))
+      (joined S h0 hl hg (Until n (Answers s (disk_image disk) v (log_file c.args.log))) (c.loop.invariant.any_moment known n s start disk opened shop since)
+      (heard_held s start (disk_image disk) v c.loop.session c.loop.room.kept.items c.loop.log c.loop.room.input c.give_lines.new.self S hl hg n (log_file c.args.log) c.loop.invariant.file so_far held))
+      (subst (λ m. HeldOnly S hg hb (Until n (Answers s (disk_image disk) v m))) c.loop.invariant.file
+      (c.serve_batch.ensures.any_moment known n s start (disk_image disk) v c.give_lines.new.self
+      (pend s start (disk_image disk) v c.loop.session c.loop.room.kept.items c.loop.log c.loop.room.input c.give_lines.new.self S hl hg n (log_file c.args.log) c.loop.invariant.file so_far held
+      (texts_of c.give_lines.new.lines.items) c.in_ok-give_lines.field-0 (c.in_ok-give_lines.ensures.ok known n so_far.count)
+      c.as_mut_slice-in-loop.result.now c.as_mut_slice-in-loop.ensures.value (texts_of c.as_slice.result.now) (ap texts_of c.as_slice.ensures.value))));
   so_far = λ known n s start disk opened shop since.
-    let S = g.H.Host.history in
-    let v = S.world c.args.host.now in
-    let h0 = c.args.host.now in
-    let hl = c.loop.host in
-    let hg = c.give_lines.new.host in
-    let so_far = c.loop.invariant.so_far known n s start disk opened shop since in
-    let held = c.give_lines.ensures.any_moment known n so_far.count in
-    let hb = c.serve_batch.new.host in
-    subst (λ (k : Image). Since n (Serves s start (disk_image disk) v c.serve_batch.new.session k c.in_ok-log-2.log c.give_lines.new.self) (S.world hb))
-    (sym (with_items_is c.loop.room.kept c.serve_batch.new.kept (c.serve_batch.auto.kept ∙ c.as_mut_slice-in-loop.ensures.len)))
-    (c.in_ok-log-2.ensures.ok known n s start (disk_image disk) v c.give_lines.new.self
-    (pend s start (disk_image disk) v c.loop.session c.loop.room.kept.items c.loop.log c.loop.room.input c.give_lines.new.self S hl hg n (log_file c.args.log) c.loop.invariant.file so_far held
-    (texts_of c.give_lines.new.lines.items) c.in_ok-give_lines.field-0 (c.in_ok-give_lines.ensures.ok known n so_far.count)
-    c.as_mut_slice-in-loop.result.now c.as_mut_slice-in-loop.ensures.value (texts_of c.as_slice.result.now) (ap texts_of c.as_slice.ensures.value)));
+      let S = g.H.Host.history in
+      let v = S.world c.args.host.now in
+      let h0 = c.args.host.now in
+      let hl = c.loop.host in
+      let hg = c.give_lines.new.host in
+      let so_far = c.loop.invariant.so_far known n s start disk opened shop since in
+      let held = c.give_lines.ensures.any_moment known n so_far.count in
+      let hb = c.serve_batch.new.host in
+      subst (λ (k : Image). Since n (Serves s start (disk_image disk) v c.serve_batch.new.session k c.in_ok-log-2.log c.give_lines.new.self) (S.world hb))
+      (sym (with_items_is c.loop.room.kept c.serve_batch.new.kept (c.serve_batch.auto.kept ∙ c.as_mut_slice-in-loop.ensures.len)))
+      (c.in_ok-log-2.ensures.ok known n s start (disk_image disk) v c.give_lines.new.self
+      (pend s start (disk_image disk) v c.loop.session c.loop.room.kept.items c.loop.log c.loop.room.input c.give_lines.new.self S hl hg n (log_file c.args.log) c.loop.invariant.file so_far held
+      (texts_of c.give_lines.new.lines.items) c.in_ok-give_lines.field-0 (c.in_ok-give_lines.ensures.ok known n so_far.count)
+      c.as_mut_slice-in-loop.result.now c.as_mut_slice-in-loop.ensures.value (texts_of c.as_slice.result.now) (ap texts_of c.as_slice.ensures.value)));
 }
