@@ -18,7 +18,7 @@ from spec_files import TOP  # noqa: E402
 # how the crates under a heading of crates.txt are called
 NAMES = {
     "Product": r"(?!tests?_|example_)",
-    "System": r"\w+_host$|replaced_images$",
+    "System": r"\w+_host$|replaced_images$|kept_logs$|served_lines$",
     "Tests": r"tests_",
     "Tools": r"test_|benchmarks$",
     "Example": r"example_",

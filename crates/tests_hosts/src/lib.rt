@@ -4,6 +4,9 @@
 ghost use Rattle.std.specs.Prelude.{◌≡◌, IfOk, length};
 
 #[cfg(test)]
+mod services;
+
+#[cfg(test)]
 mod tests {
     use mem_host::{Hand, MemHost, Move, Taken};
     use one_host::{Access, Entry, Found, Handle, Host, Kind, Lock, Owned};

@@ -1,0 +1,2 @@
+pub mod Files
+pub mod Logs

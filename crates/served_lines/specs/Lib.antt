@@ -1,0 +1,5 @@
+pub mod Printings
+pub mod Readings
+pub mod Services
+pub mod Steps
+pub mod Taken
