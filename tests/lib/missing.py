@@ -2,6 +2,7 @@
 layout and docs/KEEPERS.md."""
 
 from drawn import PLACES, SIZE, Disk
+from geos import ALL, long_parts
 
 # what the drive reports for an error byte (the D64 layout)
 ERRORS = {2: "20", 3: "21", 4: "22", 5: "23", 6: "24", 7: "25", 8: "26", 9: "27", 10: "28", 11: "29", 15: "74"}
@@ -40,10 +41,19 @@ def whole_chain(tracks, link):
     return chain
 
 
+def all_sectors(tracks, slot):
+    """The sectors of a closed file, by how many come before each: all those of a file of GEOS with one past track 35, if the image has all
+    of it; the chain of any other one, if it comes to its end."""
+    parts = long_parts(tracks, slot)
+    if parts:
+        return [ALL[place] for place in parts[0]]
+    return whole_chain(tracks, (slot[3], slot[4])) if slot[2] >= 128 else []
+
+
 def past_lines(tracks, errors, disk):
     """The lines of the sectors past track 35 that weren't read, and of those that several files have."""
     slots = [disk.sector(place)[at:at + 32] for place in disk.directory for at in range(0, 256, 32)] if disk.has_directory else []
-    chains = [whole_chain(tracks, (slot[3], slot[4])) if slot[2] >= 128 else [] for slot in slots if slot[2]]
+    chains = [all_sectors(tracks, slot) for slot in slots if slot[2]]
     unread, shared = "", ""
     for number, (track, sector) in enumerate(PAST, SIZE // 256):
         names = [f' "{entry.name}"' for entry, chain in zip(disk.entries, chains) if number in chain] if chains else []
