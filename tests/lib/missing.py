@@ -42,12 +42,11 @@ def whole_chain(tracks, link):
 
 
 def all_sectors(tracks, slot):
-    """The sectors of a closed file, by how many come before each: all those of a file of GEOS with one past track 35, if the image has all
-    of it; the chain of any other one, if it comes to its end."""
+    """The sectors of a closed file, by how many come before each: its chain, if that comes to its end, and all those of a file of GEOS with
+    one past track 35, if the image has all of it."""
     parts = long_parts(tracks, slot)
-    if parts:
-        return [ALL[place] for place in parts[0]]
-    return whole_chain(tracks, (slot[3], slot[4])) if slot[2] >= 128 else []
+    chain = whole_chain(tracks, (slot[3], slot[4])) if slot[2] >= 128 else []
+    return {*chain, *(ALL[place] for place in (parts[0] if parts else []))}
 
 
 def past_lines(tracks, errors, disk):
