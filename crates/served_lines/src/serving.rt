@@ -140,7 +140,7 @@ fn serve_open<H: Host>(
 /// line in whatever a power loss leaves of the log then; and nothing is done but to the log's file, the input and the output.
 ///
 /// `Open`: nothing was read, written or printed. `Host`: a call failed. `Full`: the log has no room for one more commit. `NotTaken`:
-/// standard output took nothing.
+/// standard output took nothing. `TooMany`: 2^64 - 1 batches were served.
 pub fn serve<H: Host>(
     disk: MemDisk,
     host: &mut H,
