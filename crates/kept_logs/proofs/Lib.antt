@@ -4,3 +4,4 @@ pub mod Calls
 pub mod Commits
 pub mod LaidOut
 pub mod Begun
+pub mod Marked

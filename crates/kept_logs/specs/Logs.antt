@@ -1,10 +1,10 @@
 -- A log in a file of a world, and what a commit makes of it. Our own.
-use Rattle.std.specs.Prelude.{◌≡◌, ◌<◌, ℕ, Bool, List}
+use Rattle.std.specs.Prelude.{◌≡◌, ◌<◌, ℕ, Bool, List, true}
 use Rattle.d64_image.specs.Images.{Image}
 use Rattle.one_host.specs.Worlds.{World}
 use Rattle.image_log.specs.Blocks.{block_at, first_commit}
 use Rattle.image_log.specs.Marks.{Covers}
-use Rattle.image_log.specs.Recovered.{IsLeft, IsLog, base_of, recovered}
+use Rattle.image_log.specs.Recovered.{IsLeft, IsLog, base_of, is_marked, recovered}
 use Rattle.kept_logs.specs.Files.{IsSafe, Leaves, OnlyFile, bytes_in}
 use Rattle.kept_logs.specs.declared.logs.KeptLog.{KeptLog}
 
@@ -48,3 +48,10 @@ pub record IsCommitted (v : World) (l m : KeptLog) (start now : Image) (w : Worl
 pub record IsBegun (v : World) (l : KeptLog) (image : Image) (w : World) : Type 0 where
   pub only : OnlyFile v (log_file l) w
   pub stands : Stands l image image w
+
+-- w is the world v, but the log in this file is marked, and stands for this image. A power loss leaves it so.
+pub record IsMarked (v : World) (n : ℕ) (now : Image) (w : World) : Type 0 where
+  pub only : OnlyFile v n w
+  pub safe : IsSafe n w
+  pub mark : is_marked (bytes_in w n) ≡ true
+  pub image : recovered (bytes_in w n) ≡ now

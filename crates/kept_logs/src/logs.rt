@@ -23,7 +23,7 @@ impl KeptLog {
     ghost use Rattle.d64_image.specs.Images.{Image};
     ghost use Rattle.one_host.specs.History.{HeldOnly, Known, Since, Tells, Until};
     ghost use Rattle.kept_logs.specs.Files.{IsEmpty, OnlyFile};
-    ghost use Rattle.kept_logs.specs.Logs.{Commits, IsBegun, IsCommitted, MayCommit, log_end, log_file};
+    ghost use Rattle.kept_logs.specs.Logs.{Commits, IsBegun, IsCommitted, IsMarked, MayCommit, Stands, log_end, log_file};
 
     /// Makes a log in this file, which was just made, in this room: zeros, synced, and then the image as its base, synced. At an
     /// error the file is no log yet, or one with this base.
@@ -96,5 +96,20 @@ impl KeptLog {
             end: end + n,
             room,
         })
+    }
+
+    /// Marks that from here on the image is copied into its own file. The log is over, and its file is given back. At an error the
+    /// file has the mark or not; it stands for the image in any case.
+    pub fn mark<H: Host>(self, host: &mut H) -> Result<Handle, Failure>
+        ensures any_moment { Known H.history → (n : ℕ) (start now : Image) → Since n (Stands self start now) (H.history.world host.old)
+            → HeldOnly H.history host.old host.new (Until n (Commits (H.history.world host.old) self start now now)) }
+        ensures ok { Known H.history → (n : ℕ) (start now : Image) → Since n (Stands self start now) (H.history.world host.old)
+            → IfOk result (λ file. Since n (IsMarked (H.history.world host.old) file.number now) (H.history.world host.new)) }
+        ensures file { IfOk result (λ file. file.number ≡ log_file self) }
+        ensures told { Known H.history → Tells H.history host.old host.new result }
+    {
+        let KeptLog { file, .. } = self;
+        append(host, file, BLOCK * BLOCKS, &[1])?;
+        Ok(file)
     }
 }

@@ -1,9 +1,8 @@
 -- The calls of a change, each from its stage to the next.
-use Rattle.std.proofs.Common.{◌≡◌, ◌⊎◌, ℕ, zero, suc, ◌≤◌, Bool, true, false, List, [], ◌∷◌, length, Option, Some, None, slice_get, Result, Ok, if◌then◌else◌, refl, sym, ◌∙◌, ap, subst, inl, inr, ⊎_elim, le_refl, arith}
-use Rattle.std.proofs.lemmas.Option.{slice_get_past}
-use Rattle.one_host.specs.Worlds.{IsMix, Kept, Left, MayLeave, Shows, World}
+use Rattle.std.proofs.Common.{◌≡◌, ℕ, zero, suc, ◌≤◌, Bool, true, false, List, [], ◌∷◌, length, None, slice_get, Result, Ok, if◌then◌else◌, refl, sym, ◌∙◌, ap, subst, inl, inr, arith}
+use Rattle.one_host.specs.Worlds.{IsMix, Kept, Left, MayLeave, World}
 use Rattle.one_host.specs.History.{HeldOnly, HostHistory, Since, Until}
-use Rattle.one_host.specs.Calls.{IsMade, IsRemoved, IsRenamed, Steps, are_one, at_once, brought, changed, entry, folder_synced, folder_unsynced, half_changed, locked, makes, moved, put, synced, turned, unsynced, written}
+use Rattle.one_host.specs.Calls.{IsMade, IsRemoved, IsRenamed, Steps, are_one, at_once, brought, entry, folder_synced, folder_unsynced, half_changed, locked, makes, moved, put, synced, turned, unsynced, written}
 use Rattle.one_host.specs.declared.parts.Entry.{Entry}
 use Rattle.one_host.specs.declared.parts.Entry.TheVariants.{Leads, Nothing}
 use Rattle.one_host.specs.declared.parts.Failure.{Failure}
@@ -11,10 +10,10 @@ use Rattle.one_host.specs.declared.parts.Handle.{Handle}
 use Rattle.one_host.specs.declared.parts.Kind.TheVariants.{Regular}
 use Rattle.one_host.specs.declared.parts.Lock.TheVariants.{Free}
 use Rattle.one_host.proofs.Moments.{after, moments}
-use Rattle.replaced_images.specs.Replaced.{Gives, GivesBeside, Logs, Rests, log_of, making_of, whole}
+use Rattle.replaced_images.specs.Replaced.{Always, Gives, GivesBeside, Logs, Rests, log_of, making_of, whole}
 use Rattle.replaced_images.specs.Stages.{Has, Makes}
-use Rattle.replaced_images.proofs.Gave.{gives_alone, gives_logged, gives_named, gives_unnamed, mix_of_new, mix_of_old, settled}
-use Rattle.replaced_images.proofs.Staged.{begins, folder_settles, folder_unsynced_leaves, image_becomes, making_becomes, making_settles, names_log, put_over, unnames, unsynced_leaves}
+use Rattle.replaced_images.proofs.Gave.{gives_alone, gives_of, gives_logged, gives_named, gives_unnamed, mix_of_new, mix_of_old, settled}
+use Rattle.replaced_images.proofs.Staged.{begins, folder_settles, folder_unsynced_leaves, making_becomes, making_settles, names_log, unnames, unsynced_leaves}
 
 none_past : (xs : List ℕ) (j : ℕ) → slice_get xs j ≡ None → length xs ≤ j
 none_past [] j is = omega arith
@@ -31,6 +30,10 @@ none_on_way u v never = absurd never
 pub gives_on : (logs : Logs) (path old new : List ℕ) (u v : World) → ((left : Left) → MayLeave v left → MayLeave u left) → Gives logs path old new u
     → Gives logs path old new v
 gives_on logs path old new u v less gives left may = gives left (less left may)
+
+pub always_on : (logs : Logs) (path new : List ℕ) (u v : World) → ((left : Left) → MayLeave v left → MayLeave u left) → Always logs path new u
+    → Always logs path new v
+always_on logs path new u v less always left may = always left (less left may)
 
 module _ {H : Type 0} (S : HostHistory H) (n : ℕ) (path : List ℕ) (i : ℕ) where
   -- **The log is made.**
@@ -115,7 +118,7 @@ module _ {H : Type 0} (S : HostHistory H) (n : ℕ) (path : List ℕ) (i : ℕ) 
 
     -- the image's file has any mix of both
     pub logged_gives : (image : Kept (List ℕ)) → ((c : List ℕ) → IsMix image.now image.before c → IsMix new (old ∷ []) c) → (u : World)
-        → Named image (whole (Leads l)) u → Gives logs path old new u
+        → Named image (whole (Leads l)) u → Always logs path new u
     logged_gives image mixed u h = gives_logged logs path old new i l u log gives h.log h.led h.name
         (λ c. subst (λ (k : Kept (List ℕ)). IsMix k.now k.before c → IsMix new (old ∷ []) c) (sym h.image) (mixed c))
 
@@ -155,83 +158,20 @@ module _ {H : Type 0} (S : HostHistory H) (n : ℕ) (path : List ℕ) (i : ℕ) 
     pub named_is : length old ≡ length new → (v : World) → Named (whole old) (turned (whole Nothing) (Leads l)) v → Gives logs path old new v
     named_is same v h = gives_named logs path old new i l v log gives h.log h.led same h.name h.image
 
+    pub old_always : length old ≡ length new → (v : World) → Named (whole old) (whole (Leads l)) v → Always logs path new v
+    old_always same = logged_gives (whole old) (λ c m. mix_of_old old new c (settled (whole old) old c refl m) same)
+
     pub old_is : length old ≡ length new → (v : World) → Named (whole old) (whole (Leads l)) v → Gives logs path old new v
-    old_is same = logged_gives (whole old) (λ c m. mix_of_old old new c (settled (whole old) old c refl m) same)
+    old_is same v h = gives_of logs path old new v (old_always same v h)
 
     pub new_is : (v : World) → Named (whole new) (whole (Leads l)) v → Gives logs path old new v
-    new_is = logged_gives (whole new) (λ c m. mix_of_new old new c (settled (whole new) new c refl m))
+    new_is v h = gives_of logs path old new v (logged_gives (whole new) (λ c m. mix_of_new old new c (settled (whole new) new c refl m)) v h)
 
     pub unnamed_is : (v : World) → Named (whole new) (turned (whole (Leads l)) Nothing) v → Gives logs path old new v
     unnamed_is v h = gives_unnamed logs path old new i l v log gives h.log h.led h.name h.image
 
     pub gone_is : (v : World) → Named (whole new) (whole Nothing) v → Gives logs path old new v
     gone_is v h = gives_alone logs path old new i l v h.led h.name (inr h.image)
-
-    -- the image's file is written
-    abbrev mixed : Kept (List ℕ)
-    mixed = turned (whole old) new
-
-    mixed_is : (v : World) → Named mixed (whole (Leads l)) v → Gives logs path old new v
-    mixed_is = logged_gives mixed (λ c m. m)
-
-    overwritten : length old ≡ length new → (u v : World) → Named (whole old) (whole (Leads l)) u → v ≡ written u i 0 new → Named mixed (whole (Leads l)) v
-    overwritten same u v h is = subst (λ bytes. Named (turned (whole old) bytes) (whole (Leads l)) v) (put_over old new (omega (arith, same)))
-        (subst (Named (turned (whole old) (put old 0 new)) (whole (Leads l))) (sym is)
-        (image_becomes path i l (whole old) (whole log) (whole (Leads l)) u (λ k. turned k (put k.now 0 new)) h))
-
-    shown : length old ≡ length new → (part c : List ℕ) → IsMix (put old 0 new) (old ∷ []) part → (j : ℕ) → Shows part j (slice_get c j)
-        → Shows new j (slice_get c j) ⊎ Shows old j (slice_get c j)
-    shown same part c half j = ⊎_elim
-        (λ (e : slice_get c j ≡ slice_get part j). subst (λ x. Shows new j x ⊎ Shows old j x) (sym e) (by_half (slice_get part j) (half.each j)))
-        (λ (z : (length part ≤ j) × (slice_get c j ≡ Some 0)). inl (inr (⊎_elim (past z.0 new refl) (past z.0 old same) (by_half (slice_get part j) (half.each j)), z.1)))
-      where
-        by_half : (x : Option ℕ) → Shows (put old 0 new) j x ⊎ Shows old j x → Shows new j x ⊎ Shows old j x
-        by_half x = subst (λ l. Shows (put old 0 new) j x ⊎ Shows old j x → Shows l j x ⊎ Shows old j x) (put_over old new (omega (arith, same))) (λ s. s)
-
-        past : length part ≤ j → (xs : List ℕ) → length xs ≡ length new → Shows xs j (slice_get part j) → length new ≤ j
-        past le xs is = ⊎_elim
-            (λ (e : slice_get part j ≡ slice_get xs j). omega (arith, is, none_past xs j (sym e ∙ slice_get_past part j le)))
-            (λ (z : (length xs ≤ j) × (slice_get part j ≡ Some 0)). omega (arith, is, z.0))
-
-    -- a part that is a mix, and the old bytes, make no other mixes
-    remixed : length old ≡ length new → (part c : List ℕ) → IsMix (put old 0 new) (old ∷ []) part → IsMix part (old ∷ []) c → IsMix new (old ∷ []) c
-    remixed same part c half m = record {
-      each = λ j. ⊎_elim (λ (s : Shows part j (slice_get c j)). shown same part c half j s) (λ (s : Shows old j (slice_get c j)). inr s) (m.each j);
-      size = inr (⊎_elim (λ (s : length c ≤ length part). ⊎_elim (λ (t : length part ≤ length (put old 0 new)). omega (arith, s, t, same, ap length (put_over old new (omega (arith, same)))))
-          (λ (t : length part ≤ length old). omega (arith, s, t)) half.size) (λ (s : length c ≤ length old). s) m.size);
-    }
-
-    pub image_moments : length old ≡ length new → {T : Type 0} (r : Result T Failure) → Since n (Named (whole old) (whole (Leads l))) (S.world a)
-        → Steps S a b (makes (λ w. written w i 0 new)) (half_changed i (λ was. put was 0 new)) r → HeldOnly S a b (Until n (Gives logs path old new))
-    image_moments same r at c = moments S a b n (Named (whole old) (whole (Leads l))) at (makes (λ w. written w i 0 new)) (half_changed i (λ was. put was 0 new))
-        (λ _ u v d. hands_of u v _ d refl) (λ u v d. hands_of u v _ d.2 refl) (Gives logs path old new) (old_is same)
-        (λ u v h d. logged_gives (turned (whole old) d.0) (λ c. remixed same d.0 c (half_of u h d.0 d.1)) v
-        (subst (Named (turned (whole old) d.0) (whole (Leads l))) (sym d.2) (image_becomes path i l (whole old) (whole log) (whole (Leads l)) u (λ k. turned k d.0) h)))
-        (λ _ u v h d. mixed_is v (overwritten same u v h d)) r c
-      where
-        half_of : (u : World) → Named (whole old) (whole (Leads l)) u → (part : List ℕ) → IsMix (put (u.files i).bytes.now 0 new) ((u.files i).bytes.now ∷ []) part
-            → IsMix (put old 0 new) (old ∷ []) part
-        half_of u h part = subst (λ (k : Kept (List ℕ)). IsMix (put (u.files i).bytes.now 0 new) ((u.files i).bytes.now ∷ []) part → IsMix (put k.now 0 new) (k.now ∷ []) part) h.image (λ m. m)
-
-    pub image_after : length old ≡ length new → {T : Type 0} (x : T) → Since n (Named (whole old) (whole (Leads l))) (S.world a)
-        → Steps S a b (makes (λ w. written w i 0 new)) (half_changed i (λ was. put was 0 new)) (Ok x) → Since n (Named mixed (whole (Leads l))) (S.world b)
-    image_after same x at c = after S a b n (Named (whole old) (whole (Leads l))) at (makes (λ w. written w i 0 new)) (half_changed i (λ was. put was 0 new))
-        (λ _ u v d. hands_of u v _ d refl) (λ u v d. hands_of u v _ d.2 refl) (Named mixed (whole (Leads l))) x (λ u v h d. overwritten same u v h d) c
-
-    image_synced : (u v : World) → Named mixed (whole (Leads l)) u → v ≡ synced u i → Named (whole new) (whole (Leads l)) v
-    image_synced u v h is = subst (Named (whole new) (whole (Leads l))) (sym is) (image_becomes path i l mixed (whole log) (whole (Leads l)) u brought h)
-
-    pub image_sync_moments : {T : Type 0} (r : Result T Failure) → Since n (Named mixed (whole (Leads l))) (S.world a)
-        → Steps S a b (makes (λ w. synced w i)) (λ w v. v ≡ unsynced w i) r → HeldOnly S a b (Until n (Gives logs path old new))
-    image_sync_moments r at c = moments S a b n (Named mixed (whole (Leads l))) at (makes (λ w. synced w i)) (λ w v. v ≡ unsynced w i)
-        (λ _ u v d. hands_of u v _ d refl) (λ u v d. hands_of u v _ d refl) (Gives logs path old new) mixed_is
-        (λ u v h d. subst (Gives logs path old new) (sym d) (gives_on logs path old new u (unsynced u i) (unsynced_leaves u i) (mixed_is u h)))
-        (λ _ u v h d. new_is v (image_synced u v h d)) r c
-
-    pub image_sync_after : {T : Type 0} (x : T) → Since n (Named mixed (whole (Leads l))) (S.world a)
-        → Steps S a b (makes (λ w. synced w i)) (λ w v. v ≡ unsynced w i) (Ok x) → Since n (Named (whole new) (whole (Leads l))) (S.world b)
-    image_sync_after x at c = after S a b n (Named mixed (whole (Leads l))) at (makes (λ w. synced w i)) (λ w v. v ≡ unsynced w i)
-        (λ _ u v d. hands_of u v _ d refl) (λ u v d. hands_of u v _ d refl) (Named (whole new) (whole (Leads l))) x (λ u v h d. image_synced u v h d) c
 
     -- **The log goes.**
 

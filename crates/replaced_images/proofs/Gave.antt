@@ -1,11 +1,10 @@
 -- What a power loss leaves in each stage stands for the old image or the new one.
-use Rattle.std.proofs.Common.{◌≡◌, ◌⊎◌, ℕ, suc, ◌≤◌, ◌<◌, List, [], ◌∷◌, length, Option, Some, None, slice_get, refl, sym, ◌∙◌, ap, subst, inl, inr, ⊎_elim, arith}
-use Rattle.one_host.specs.Worlds.{IsMix, Kept, Left, MayLeave, OneOf, Shows, World}
+use Rattle.std.proofs.Common.{◌≡◌, ◌⊎◌, ℕ, suc, ◌≤◌, ◌<◌, List, [], ◌∷◌, length, Some, slice_get, refl, sym, ap, subst, inl, inr, ⊎_elim, arith}
+use Rattle.one_host.specs.Worlds.{IsMix, Kept, Left, MayLeave, OneOf, World}
 use Rattle.one_host.specs.declared.parts.Entry.{Entry}
 use Rattle.one_host.specs.declared.parts.Entry.TheVariants.{Leads, Nothing}
 use Rattle.one_host.specs.Calls.{turned}
-use Rattle.replaced_images.specs.Replaced.{ByLog, Gives, GivesBeside, Logs, Stands, log_of, whole}
-use Rattle.replaced_images.specs.Stages.{Has}
+use Rattle.replaced_images.specs.Replaced.{Always, ByLog, Gives, GivesBeside, Logs, Stands, log_of, whole}
 
 -- two lists that read alike at each place are one
 alike : (c xs : List ℕ) → length c ≤ length xs → ((i : ℕ) → i < length xs → slice_get c i ≡ slice_get xs i) → c ≡ xs
@@ -86,8 +85,22 @@ module _ (logs : Logs) (path old new : List ℕ) (i l : ℕ) (w : World) where
         (mix_of_new old new (left.bytes i) (settled (w.files i).bytes new (left.bytes i) image (may.bytes i))) e))
         (entry_left w left may (log_of path) (turned (whole (Leads l)) Nothing) name)
 
-    -- the log has its name
+    -- the log has its name: it is the new one
     pub gives_logged : w.names (log_of path) ≡ whole (Leads l) → ((c : List ℕ) → IsMix (w.files i).bytes.now (w.files i).bytes.before c → IsMix new (old ∷ []) c)
-        → Gives logs path old new w
-    gives_logged name mixed left may = inr (logged logs path i w left may led l f old new gives log (mixed (left.bytes i) (may.bytes i))
-        (entry_left w left may (log_of path) (whole (Leads l)) name))
+        → Always logs path new w
+    gives_logged name mixed left may = logged logs path i w left may led l f old new gives log (mixed (left.bytes i) (may.bytes i))
+        (entry_left w left may (log_of path) (whole (Leads l)) name)
+
+-- an image that it stands for in any case is one of two
+pub gives_of : (logs : Logs) (path old new : List ℕ) (w : World) → Always logs path new w → Gives logs path old new w
+gives_of logs path old new w always left may = inr (always left may)
+
+pub always_of : (logs : Logs) (path new : List ℕ) (w : World) → Gives logs path new new w → Always logs path new w
+always_of logs path new w gives left may = ⊎_elim (λ s. s) (λ s. s) (gives left may)
+
+-- a log that stands for the new image beside a mix does so beside the new one
+pub gives_new : (logs : Logs) (log old new : List ℕ) → length old ≡ length new → GivesBeside logs log old new → GivesBeside logs log new new
+gives_new logs log old new same gives c mix = gives c (record {
+  each = λ i. ⊎_elim (λ s. inl s) (λ s. inl s) (mix.each i);
+  size = ⊎_elim (λ s. inl s) (λ s. inl s) mix.size;
+})

@@ -1,10 +1,10 @@
 -- What each call makes of a stage.
-use Rattle.std.proofs.Common.{◌≡◌, ◌⊎◌, ℕ, ◌≤◌, ◌<◌, ◌+◌, ◌==◌, Bool, true, false, List, [], ◌∷◌, ◌++◌, length, if◌then◌else◌, refl, sym, ◌∙◌, ap, subst, inl, inr, arith}
-use Rattle.std.specs.Prelude.{bytes_eq, take, drop, replicate, ◌-◌}
+use Rattle.std.proofs.Common.{◌≡◌, ℕ, ◌≤◌, ◌+◌, ◌==◌, Bool, true, false, List, [], ◌++◌, length, if◌then◌else◌, refl, sym, ◌∙◌, ap, subst, arith}
+use Rattle.std.specs.Prelude.{bytes_eq, drop, replicate, ◌-◌}
 use Rattle.std.proofs.lemmas.Bool.{eq-eqb, eqb-true}
 use Rattle.std.proofs.lemmas.List.{append-nil, drop_all}
-use Rattle.one_host.specs.Worlds.{IsMix, Kept, Left, MayLeave, OneOf, World, set_at, set_path}
-use Rattle.one_host.specs.Calls.{IsMade, IsRemoved, IsRenamed, are_one, brought, changed, doubted, entered, entry, folder_of, folder_synced, folder_unsynced, in_folder, made, moved, put, renamed, turned, unsynced, with_bytes}
+use Rattle.one_host.specs.Worlds.{IsMix, Kept, Left, MayLeave, OneOf, World}
+use Rattle.one_host.specs.Calls.{IsMade, IsRemoved, IsRenamed, are_one, brought, doubted, entry, folder_of, folder_synced, folder_unsynced, moved, put, turned, unsynced, with_bytes}
 use Rattle.one_host.specs.declared.parts.Entry.{Entry}
 use Rattle.one_host.specs.declared.parts.Entry.TheVariants.{Leads, Nothing}
 use Rattle.one_host.specs.declared.parts.Handle.{Handle}

@@ -1,5 +1,5 @@
 -- The sectors of the image's file, one after another.
-use Rattle.std.proofs.Common.{◌≡◌, ◌⊎◌, ℕ, ◌≤◌, ◌+◌, Bool, true, false, List, [], ◌∷◌, length, Result, Ok, if◌then◌else◌, refl, sym, ◌∙◌, ap, subst, inl, inr, arith}
+use Rattle.std.proofs.Common.{◌≡◌, ℕ, ◌≤◌, ◌+◌, List, [], ◌∷◌, length, Result, Ok, if◌then◌else◌, refl, sym, ◌∙◌, ap, subst, inl}
 use Rattle.std.specs.Prelude.{take, drop}
 use Rattle.one_host.specs.Worlds.{IsMix, Kept, World}
 use Rattle.one_host.specs.History.{HeldOnly, HostHistory, Since, Until}
@@ -7,9 +7,9 @@ use Rattle.one_host.specs.Calls.{Steps, brought, half_changed, makes, put, synce
 use Rattle.one_host.specs.declared.parts.Entry.TheVariants.{Leads}
 use Rattle.one_host.specs.declared.parts.Failure.{Failure}
 use Rattle.one_host.proofs.Moments.{after, moments}
-use Rattle.replaced_images.specs.Replaced.{Gives, GivesBeside, Logs, whole}
+use Rattle.replaced_images.specs.Replaced.{Always, GivesBeside, Logs, whole}
 use Rattle.replaced_images.specs.Stages.{AreWithin, Has, IsWithin, Partly}
-use Rattle.replaced_images.proofs.Called.{gives_on, hands_of, logged_gives}
+use Rattle.replaced_images.proofs.Called.{always_on, hands_of, logged_gives}
 use Rattle.replaced_images.proofs.Pieces.{all_written, mix_of_within, mixed_within, old_within, put_begun, put_within}
 use Rattle.replaced_images.proofs.Staged.{image_becomes, unsynced_leaves}
 
@@ -22,7 +22,7 @@ module _ {H : Type 0} (S : HostHistory H) (n : ℕ) (path : List ℕ) (i : ℕ) 
   abbrev Part : ℕ → World → Type 0
   Part = Partly path i l old new log
 
-  pub part_gives : (at : ℕ) (u : World) → Part at u → Gives logs path old new u
+  pub part_gives : (at : ℕ) (u : World) → Part at u → Always logs path new u
   part_gives at u p = logged_gives S n path i logs l log old new gives a b p.kept
       (λ c m. mix_of_within old new same c (mixed_within old new same p.kept.now p.kept.before p.within c m)) u p.has
 
@@ -39,7 +39,7 @@ module _ {H : Type 0} (S : HostHistory H) (n : ℕ) (path : List ℕ) (i : ℕ) 
     begun = put_begun old new same at m p.kept.now le (now_within old new p.kept.now p.kept.before p.within) p.begun;
   }
 
-  halfway : (at m : ℕ) → at + m ≤ length new → (u v : World) → Part at u → half_changed i (λ was. put was at (take m (drop at new))) u v → Gives logs path old new v
+  halfway : (at m : ℕ) → at + m ≤ length new → (u v : World) → Part at u → half_changed i (λ was. put was at (take m (drop at new))) u v → Always logs path new v
   halfway at m le u v p d = logged_gives S n path i logs l log old new gives a b (turned p.kept d.0)
       (λ c x. mix_of_within old new same c (mixed_within old new same d.0 (p.kept.now ∷ p.kept.before) (part, p.within) c x)) v
       (subst (Has path i l (turned p.kept d.0) (whole log) (whole (Leads l))) (sym d.2)
@@ -56,9 +56,9 @@ module _ {H : Type 0} (S : HostHistory H) (n : ℕ) (path : List ℕ) (i : ℕ) 
 
   -- a piece is written
   pub piece_moments : (at m : ℕ) → at + m ≤ length new → (bytes : List ℕ) → bytes ≡ take m (drop at new) → {T : Type 0} (r : Result T Failure) → Since n (Part at) (S.world a)
-      → Steps S a b (makes (λ w. written w i at bytes)) (half_changed i (λ was. put was at bytes)) r → HeldOnly S a b (Until n (Gives logs path old new))
+      → Steps S a b (makes (λ w. written w i at bytes)) (half_changed i (λ was. put was at bytes)) r → HeldOnly S a b (Until n (Always logs path new))
   piece_moments at m le bytes are r since c = moments S a b n (Part at) since (makes (λ w. written w i at (take m (drop at new)))) (half_changed i (λ was. put was at (take m (drop at new))))
-      (λ _ u v d. hands_of u v _ d refl) (λ u v d. hands_of u v _ d.2 refl) (Gives logs path old new) (part_gives at)
+      (λ _ u v d. hands_of u v _ d refl) (λ u v d. hands_of u v _ d.2 refl) (Always logs path new) (part_gives at)
       (halfway at m le) (λ _ u v p d. part_gives (at + m) v (goes_on at m le u v p d)) r
       (subst (λ x. Steps S a b (makes (λ w. written w i at x)) (half_changed i (λ was. put was at x)) r) are c)
 
@@ -80,10 +80,10 @@ module _ {H : Type 0} (S : HostHistory H) (n : ℕ) (path : List ℕ) (i : ℕ) 
       (subst (Has path i l (brought p.kept) (whole log) (whole (Leads l))) (sym is) (image_becomes path i l p.kept (whole log) (whole (Leads l)) u brought p.has))
 
   pub last_moments : (at : ℕ) → length new ≤ at → {T : Type 0} (r : Result T Failure) → Since n (Part at) (S.world a)
-      → Steps S a b (makes (λ w. synced w i)) (λ w v. v ≡ unsynced w i) r → HeldOnly S a b (Until n (Gives logs path old new))
+      → Steps S a b (makes (λ w. synced w i)) (λ w v. v ≡ unsynced w i) r → HeldOnly S a b (Until n (Always logs path new))
   last_moments at le r since c = moments S a b n (Part at) since (makes (λ w. synced w i)) (λ w v. v ≡ unsynced w i)
-      (λ _ u v d. hands_of u v _ d refl) (λ u v d. hands_of u v _ d refl) (Gives logs path old new) (part_gives at)
-      (λ u v p d. subst (Gives logs path old new) (sym d) (gives_on logs path old new u (unsynced u i) (unsynced_leaves u i) (part_gives at u p)))
+      (λ _ u v d. hands_of u v _ d refl) (λ u v d. hands_of u v _ d refl) (Always logs path new) (part_gives at)
+      (λ u v p d. subst (Always logs path new) (sym d) (always_on logs path new u (unsynced u i) (unsynced_leaves u i) (part_gives at u p)))
       (λ _ u v p d. logged_gives S n path i logs l log old new gives a b (whole new)
       (λ c m. mix_of_within old new same c (mixed_within old new same new [] (new_within) c m)) v (all_synced at le u v p d)) r c
     where

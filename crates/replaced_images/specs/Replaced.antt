@@ -36,6 +36,10 @@ pub record Stands (logs : Logs) (path : List ℕ) (left : Left) (given : List �
 abbrev pub Gives : Logs → (path old new : List ℕ) → World → Type 0
 Gives logs path old new w = (left : Left) → MayLeave w left → Stands logs path left old ⊎ Stands logs path left new
 
+-- whatever a power loss leaves at this moment, the folder stands for this image
+abbrev pub Always : Logs → (path given : List ℕ) → World → Type 0
+Always logs path given w = (left : Left) → MayLeave w left → Stands logs path left given
+
 -- what was synced since it changed
 abbrev pub whole : {A : Type 0} → A → Kept A
 whole x = record { now = x; before = []; in_doubt = false }

@@ -3,4 +3,4 @@
 
 mod replacing;
 
-pub use replacing::{Names, replace};
+pub use replacing::{Names, land, replace};

@@ -4,7 +4,7 @@ ghost use Rattle.one_host.specs.Calls.{turned};
 ghost use Rattle.one_host.specs.History.{HeldOnly, Known, Since, Until};
 ghost use Rattle.one_host.specs.Rights.{Look, Make, May, Remove, Replace};
 ghost use Rattle.one_host.specs.declared.parts.Entry.TheVariants.{Leads, Nothing};
-ghost use Rattle.replaced_images.specs.Replaced.{Gives, GivesBeside, Logs, Rests, log_of, making_of, whole};
+ghost use Rattle.replaced_images.specs.Replaced.{Always, Gives, GivesBeside, Logs, Rests, log_of, making_of, whole};
 ghost use Rattle.replaced_images.specs.Stages.{Has, Makes, Partly};
 
 use one_host::{Failure, Handle, Host};
@@ -80,7 +80,7 @@ fn write_sectors<H: Host>(
     ensures any_moment { Known H.history → (n : ℕ) (logs : Logs) (l : ℕ) (log old : List ℕ) → GivesBeside logs log old new.now
         → length old ≡ length new.now
         → Since n (Has names.now.image.now image.number l (whole old) (whole log) (whole (Leads l))) (H.history.world host.old)
-        → HeldOnly H.history host.old host.new (Until n (Gives logs names.now.image.now old new.now)) }
+        → HeldOnly H.history host.old host.new (Until n (Always logs names.now.image.now new.now)) }
     ensures ok { Known H.history → (n : ℕ) (l : ℕ) (log old : List ℕ) → length old ≡ length new.now
         → Since n (Has names.now.image.now image.number l (whole old) (whole log) (whole (Leads l))) (H.history.world host.old)
         → OnOk result (Since n (Partly names.now.image.now image.number l old new.now log 174848) (H.history.world host.new)) }
@@ -102,7 +102,7 @@ fn write_image<H: Host>(
     ensures any_moment { Known H.history → (n : ℕ) (logs : Logs) (l : ℕ) (log old : List ℕ) → GivesBeside logs log old new.now
         → length old ≡ length new.now
         → Since n (Has names.now.image.now image.number l (whole old) (whole log) (whole (Leads l))) (H.history.world host.old)
-        → HeldOnly H.history host.old host.new (Until n (Gives logs names.now.image.now old new.now)) }
+        → HeldOnly H.history host.old host.new (Until n (Always logs names.now.image.now new.now)) }
     ensures ok { Known H.history → (n : ℕ) (l : ℕ) (log old : List ℕ) → length old ≡ length new.now
         → Since n (Has names.now.image.now image.number l (whole old) (whole log) (whole (Leads l))) (H.history.world host.old)
         → OnOk result (Since n (Has names.now.image.now image.number l (whole new.now) (whole log) (whole (Leads l)))
@@ -127,6 +127,28 @@ fn unname_log<H: Host>(host: &mut H, names: &Names) -> Result<(), Failure>
 {
     host.remove(names.log)?;
     host.sync_folder(names.image)?;
+    Ok(())
+}
+
+/// Writes an image into its file, where a log with its name stands for it, and takes the log away. Unless somebody else changes a
+/// file or a name, a power loss at any moment, and an error, leave a folder that stands for the image. `Ok`: the image's file has it,
+/// there is no log, and all of that is synced.
+pub fn land<H: Host>(host: &mut H, names: &Names, image: Handle, new: &[u8]) -> Result<(), Failure>
+    requires sized { length new.now ≡ 174848 }
+    requires log { names.now.log.now ≡ log_of names.now.image.now }
+    requires remove { May H.rights Remove names.now.log.now }
+    requires look { May H.rights Look names.now.image.now }
+    ensures any_moment { Known H.history → (n : ℕ) (logs : Logs) (l : ℕ) (log old : List ℕ) → GivesBeside logs log old new.now
+        → length old ≡ length new.now
+        → Since n (Has names.now.image.now image.number l (whole old) (whole log) (whole (Leads l))) (H.history.world host.old)
+        → HeldOnly H.history host.old host.new (Until n (Always logs names.now.image.now new.now)) }
+    ensures ok { Known H.history → (n : ℕ) (l : ℕ) (log old : List ℕ) → length old ≡ length new.now
+        → Since n (Has names.now.image.now image.number l (whole old) (whole log) (whole (Leads l))) (H.history.world host.old)
+        → OnOk result (Since n (Has names.now.image.now image.number l (whole new.now) (whole log) (whole Nothing))
+        (H.history.world host.new)) }
+{
+    write_image(host, names, image, new)?;
+    unname_log(host, names)?;
     Ok(())
 }
 
@@ -159,8 +181,7 @@ pub fn replace<H: Host>(
 {
     let file = make_log(host, names, log)?;
     name_log(host, names)?;
-    write_image(host, names, image, new)?;
-    unname_log(host, names)?;
+    land(host, names, image, new)?;
     host.close(file)?;
     Ok(())
 }

@@ -14,7 +14,7 @@ use Rattle.line_text.specs.scripts.Lines.{lines}
 use Rattle.host_session.specs.session.Standing.{View}
 use Rattle.host_session.specs.shop.Shop.{IsSettled, Shop, start_of}
 use Rattle.image_log.specs.Marks.{Covers}
-use Rattle.image_log.specs.Recovered.{recovered}
+use Rattle.image_log.specs.Recovered.{base_of, recovered}
 use Rattle.image_log.specs.Touched.{touched_of}
 use Rattle.kept_logs.specs.Files.{Leaves}
 use Rattle.kept_logs.specs.Logs.{Commits, IsCommitted, MayCommit, Stands, log_file, log_in}
@@ -41,9 +41,11 @@ report_append (x ∷ xs) ys = ap (λ (l : List ℕ). reply_text x ++ codes "\n" 
     ∙ sym (append_assoc (reply_text x ++ codes "\n") (report xs) (report ys))
 
 -- what a power loss leaves of a log that is synced
-pub left_alone : (l : KeptLog) (start now : Image) (w : World) → Stands l start now w → (P : Image → Type 0) → P now → Leaves (log_file l) (λ c. P (recovered c)) w
+pub left_alone : (l : KeptLog) (start now : Image) (w : World) → Stands l start now w → (P : Image → Type 0) → P now
+    → Leaves (log_file l) (λ c. (base_of c ≡ start) × P (recovered c)) w
 left_alone l start now w s P p c mix =
-    subst P (sym (ap recovered (alone (log_in w l) c (subst (λ (b : List (List ℕ)). IsMix (log_in w l) b c) s.safe.before mix)) ∙ s.image)) p
+    let is = alone (log_in w l) c (subst (λ (b : List (List ℕ)). IsMix (log_in w l) b c) s.safe.before mix) in
+    (ap base_of is ∙ s.base, subst P (sym (ap recovered is ∙ s.image)) p)
 
 -- all replies to these lines
 pub all_replies : (s : Shop) (ls : List (List ℕ)) → first_replies s ls (length ls) ≡ report (replies (start_of s) [] ls)
@@ -107,7 +109,7 @@ module _ (s : Shop) (start image : Image) (v : World) (old new : View Memory) (k
     all_whole = whole_two before more p.at_rest.whole p.whole
 
     -- while the log is written
-    pub commit_answers : (w : World) → Commits u log start kept (image_of new.disk) w → Answers s image v (log_file log) w
+    pub commit_answers : (w : World) → Commits u log start kept (image_of new.disk) w → Answers s start image v (log_file log) w
     commit_answers w c = record {
       only = after_file v (log_file log) u w p.at_rest.only c.only;
       handled = all;
@@ -117,7 +119,7 @@ module _ (s : Shop) (start image : Image) (v : World) (old new : View Memory) (k
       told = length (lines before);
       unsaid = [];
       said = append-nil w.said ∙ ap (λ (x : World). x.said) c.only.rest ∙ p.at_rest.said ∙ ap (λ l. v.said ++ l) (sym said_before);
-      left = λ x mix. inr (holds x (c.leaves x mix).image);
+      left = λ x mix. ((c.leaves x mix).base, inr (holds x (c.leaves x mix).image));
     }
       where
         holds : (x : List ℕ) → (recovered x ≡ kept) ⊎ (recovered x ≡ image_of new.disk) → HoldsFirst s (lines all) (length (lines before)) (recovered x)
@@ -133,7 +135,7 @@ module _ (s : Shop) (start image : Image) (v : World) (old new : View Memory) (k
 
     -- once it is written
     module _ (m : KeptLog) (w : World) (c : IsCommitted u log m start (image_of new.disk) w) where
-      pub said_answers : (text : List ℕ) → text ≡ report answers → (y : World) → OnlySaid w text y → Answers s image v (log_file log) y
+      pub said_answers : (text : List ℕ) → text ≡ report answers → (y : World) → OnlySaid w text y → Answers s start image v (log_file log) y
       said_answers text is y o = record {
         only = after_said v (log_file log) w y (after_file v (log_file log) u w p.at_rest.only c.only) (take o.count text) o.is;
         handled = all;
@@ -149,8 +151,8 @@ module _ (s : Shop) (start image : Image) (v : World) (old new : View Memory) (k
             ∙ ap (λ l. l ++ report answers) p.at_rest.said
             ∙ append_assoc v.said (report (replies (start_of s) [] (lines before))) (report answers)
             ∙ ap (λ l. v.said ++ l) (sym said_all ∙ sym (all_replies s (lines all)));
-        left = subst (λ n. Leaves n (λ x. StandsForFirst s image (lines all) (length (lines all)) (recovered x)) y) c.file
-            (subst (λ (z : World). Leaves (log_file m) (λ x. StandsForFirst s image (lines all) (length (lines all)) (recovered x)) z) (sym o.is)
+        left = subst (λ n. Leaves n (λ x. (base_of x ≡ start) × StandsForFirst s image (lines all) (length (lines all)) (recovered x)) y) c.file
+            (subst (λ (z : World). Leaves (log_file m) (λ x. (base_of x ≡ start) × StandsForFirst s image (lines all) (length (lines all)) (recovered x)) z) (sym o.is)
             (left_alone m start (image_of new.disk) w c.stands (StandsForFirst s image (lines all) (length (lines all)))
             (inr (all_lines s (lines all) (length (lines all)) (image_of new.disk) (omega arith) rests_now.rests))));
       }
@@ -190,8 +192,8 @@ module _ (s : Shop) (start image : Image) (v : World) (old new : View Memory) (k
     pub may : Since n (MayCommit log start kept (touched_of new.disk) (image_of new.disk)) (S.world a)
     may = record { count = since.count; is = λ e. may_commit (S.world a) (since.is e) }
 
-    pub commit_held : HeldOnly S a b (Until n (Commits (S.world a) log start kept (image_of new.disk))) → HeldOnly S a b (Until n (Answers s image v (log_file log)))
-    commit_held held = weaker S a b (Until n (Commits (S.world a) log start kept (image_of new.disk))) (Until n (Answers s image v (log_file log)))
+    pub commit_held : HeldOnly S a b (Until n (Commits (S.world a) log start kept (image_of new.disk))) → HeldOnly S a b (Until n (Answers s start image v (log_file log)))
+    commit_held held = weaker S a b (Until n (Commits (S.world a) log start kept (image_of new.disk))) (Until n (Answers s start image v (log_file log)))
         (λ w m e. commit_answers (S.world a) (since.is (sym (same_hands (S.world a) (log_file log) w (m e).only) ∙ e)) w (m e)) held
 
     module _ (m : KeptLog) (committed : Since n (IsCommitted (S.world a) log m start (image_of new.disk)) (S.world b)) (text : List ℕ)
@@ -199,8 +201,8 @@ module _ (s : Shop) (start image : Image) (v : World) (old new : View Memory) (k
       pend : (S.world b).hands ≡ n → Pends s start image v old kept log input texts (S.world a)
       pend e = since.is (sym (same_hands (S.world a) (log_file log) (S.world b) (committed.is e).only) ∙ e)
 
-      pub print_held : HeldOnly S b d (Until n (OnlySaid (S.world b) text)) → HeldOnly S b d (Until n (Answers s image v (log_file log)))
-      print_held held = weaker S b d (Until n (OnlySaid (S.world b) text)) (Until n (Answers s image v (log_file log)))
+      pub print_held : HeldOnly S b d (Until n (OnlySaid (S.world b) text)) → HeldOnly S b d (Until n (Answers s start image v (log_file log)))
+      print_held held = weaker S b d (Until n (OnlySaid (S.world b) text)) (Until n (Answers s start image v (log_file log)))
           (λ y o e.
           let e2 : (S.world b).hands ≡ n = sym (ap (λ (x : World). x.hands) (o e).is) ∙ e in
           said_answers (S.world a) (pend e2) m (S.world b) (committed.is e2) text (is (few (S.world a) (pend e2) le)) y (o e)) held

@@ -12,7 +12,7 @@ use Rattle.line_text.specs.scripts.Lines.{lines}
 use Rattle.host_session.specs.session.Standing.{View}
 use Rattle.host_session.specs.shop.Shop.{IsSettled, IsShop, Shop, start_of}
 use Rattle.image_log.specs.Marks.{Covers}
-use Rattle.image_log.specs.Recovered.{recovered}
+use Rattle.image_log.specs.Recovered.{base_of, recovered}
 use Rattle.image_log.specs.Touched.{touched_of}
 use Rattle.kept_logs.specs.Files.{Leaves}
 use Rattle.kept_logs.specs.Logs.{Commits, IsCommitted, MayCommit, Stands, log_file}
@@ -51,7 +51,7 @@ module _ (s : Shop) (start : Image) (disk : MemDisk) (session : View Memory) (ke
   }
 
   -- while the log is written
-  pub opening_answers : (w : World) → Commits v log start kept (image_of session.disk) w → Answers s image v (log_file log) w
+  pub opening_answers : (w : World) → Commits v log start kept (image_of session.disk) w → Answers s start image v (log_file log) w
   opening_answers w c = record {
     only = after_file v (log_file log) v w (service_none v (log_file log)) c.only;
     handled = [];
@@ -61,7 +61,7 @@ module _ (s : Shop) (start : Image) (disk : MemDisk) (session : View Memory) (ke
     told = 0;
     unsaid = [];
     said = ap (λ (x : World). x.said ++ []) c.only.rest;
-    left = λ x mix. holds x (c.leaves x mix).image;
+    left = λ x mix. ((c.leaves x mix).base, holds x (c.leaves x mix).image);
   }
     where
       holds : (x : List ℕ) → (recovered x ≡ kept) ⊎ (recovered x ≡ image_of session.disk) → StandsForFirst s image [] 0 (recovered x)
@@ -94,8 +94,8 @@ module _ (s : Shop) (start : Image) (disk : MemDisk) (session : View Memory) (ke
           (may_open (subst (Stands log start image) (sym is) (since.is e)));
     }
 
-    pub opening_held : HeldOnly S a b (Until n (Commits (S.world a) log start kept (image_of session.disk))) → HeldOnly S a b (Until n (Answers s image v (log_file log)))
-    opening_held held = weaker S a b (Until n (Commits (S.world a) log start kept (image_of session.disk))) (Until n (Answers s image v (log_file log)))
+    pub opening_held : HeldOnly S a b (Until n (Commits (S.world a) log start kept (image_of session.disk))) → HeldOnly S a b (Until n (Answers s start image v (log_file log)))
+    opening_held held = weaker S a b (Until n (Commits (S.world a) log start kept (image_of session.disk))) (Until n (Answers s start image v (log_file log)))
         (λ w m e. opening_answers w (subst (λ (x : World). Commits x log start kept (image_of session.disk) w) (sym is) (m e))) held
 
     pub begun : (m : KeptLog) (next : Image) → (Covers (touched_of session.disk) kept (image_of session.disk) → next ≡ image_of session.disk) → (input : LineInput)
@@ -111,7 +111,7 @@ module _ (s : Shop) (start : Image) (disk : MemDisk) (session : View Memory) (ke
 
 -- what is read before a batch
 module _ (s : Shop) (start image : Image) (v : World) (session : View Memory) (kept : Image) (log : KeptLog) (i j : LineInput) where
-  pub heard_answers : (u : World) → Serves s start image v session kept log i u → (w : World) → OnlyHeard u w → Answers s image v (log_file log) w
+  pub heard_answers : (u : World) → Serves s start image v session kept log i u → (w : World) → OnlyHeard u w → Answers s start image v (log_file log) w
   heard_answers u q w h = record {
     only = after_heard v (log_file log) u w q.at_rest.only h;
     handled = q.handled;
@@ -125,7 +125,7 @@ module _ (s : Shop) (start image : Image) (v : World) (session : View Memory) (k
     told = length (lines q.handled);
     unsaid = [];
     said = append-nil w.said ∙ ap (λ (x : World). x.said) h.is ∙ q.at_rest.said ∙ ap (λ l. v.said ++ l) (sym (all_replies s (lines q.handled)));
-    left = subst (λ (x : World). Leaves (log_file log) (λ c. StandsForFirst s image (lines q.handled) (length (lines q.handled)) (recovered c)) x) (sym h.is)
+    left = subst (λ (x : World). Leaves (log_file log) (λ c. (base_of c ≡ start) × StandsForFirst s image (lines q.handled) (length (lines q.handled)) (recovered c)) x) (sym h.is)
         (left_alone log start kept u q.at_rest.stands (StandsForFirst s image (lines q.handled) (length (lines q.handled)))
         (inr (all_lines s (lines q.handled) (length (lines q.handled)) kept (omega arith)
         (subst (λ (x : Image). IsSettled x (shop_behind s (lines q.handled))) (sym q.at_rest.kept_is) q.at_rest.rests.rests))));
@@ -203,9 +203,9 @@ module _ (s : Shop) (start image : Image) (v : World) (session : View Memory) (k
     was : (w : World) → OnlyHeard (S.world a) w → w.hands ≡ n → (S.world a).hands ≡ n
     was w o e = sym (ap (λ (x : World). x.hands) o.is) ∙ e
 
-    pub heard_held : HeldOnly S a b (Until n (Answers s image v k))
-    heard_held = weaker S a b (Until n (OnlyHeard (S.world a))) (Until n (Answers s image v k))
-        (λ w m e. subst (λ m. Answers s image v m w) file (heard_answers (S.world a) (since.is (was w (m e) e)) w (m e))) held
+    pub heard_held : HeldOnly S a b (Until n (Answers s start image v k))
+    heard_held = weaker S a b (Until n (OnlyHeard (S.world a))) (Until n (Answers s start image v k))
+        (λ w m e. subst (λ m. Answers s start image v m w) file (heard_answers (S.world a) (since.is (was w (m e) e)) w (m e))) held
 
     module _ (texts : List (List ℕ)) (some : Bool) (goes : Since n (GoesOn (S.world a) i j texts some) (S.world b)) where
       before : (S.world b).hands ≡ n → Serves s start image v session kept log i (S.world a)

@@ -5,7 +5,7 @@ use Rattle.one_host.specs.Worlds.{World}
 use Rattle.request_cards.specs.Ledgers.{replies, report}
 use Rattle.line_text.specs.scripts.Lines.{lines}
 use Rattle.host_session.specs.shop.Shop.{IsSettled, Shop, start_of}
-use Rattle.image_log.specs.Recovered.{recovered}
+use Rattle.image_log.specs.Recovered.{base_of, recovered}
 use Rattle.kept_logs.specs.Files.{Leaves}
 use Rattle.kept_logs.specs.Logs.{Stands, log_file}
 use Rattle.kept_logs.specs.declared.logs.KeptLog.{KeptLog}
@@ -26,9 +26,9 @@ StandsForFirst s image ls least c = ((c ≡ image) × (least ≡ 0)) ⊎ HoldsFi
 abbrev pub first_replies : Shop → List (List ℕ) → ℕ → List ℕ
 first_replies s ls count = report (take count (replies (start_of s) [] ls))
 
--- A moment of a service that began in the world v, with the shop s of this image, over a log in this file. Each reply of which a byte
+-- A moment of a service that began in the world v, with the shop s of this image, over a log with this base in this file. Each reply of which a byte
 -- was printed is one of the first `told`; and whatever a power loss leaves of the log has at least the lines of these.
-pub record Answers (s : Shop) (image : Image) (v : World) (n : ℕ) (w : World) : Type 0 where
+pub record Answers (s : Shop) (start image : Image) (v : World) (n : ℕ) (w : World) : Type 0 where
   pub only : OnlyService v n w
   -- the lines that were read, each with its LF, and what was read after them
   pub handled : List ℕ
@@ -38,7 +38,7 @@ pub record Answers (s : Shop) (image : Image) (v : World) (n : ℕ) (w : World) 
   pub told : ℕ
   pub unsaid : List ℕ
   pub said : w.said ++ unsaid ≡ v.said ++ first_replies s (lines handled) told
-  pub left : Leaves n (λ c. StandsForFirst s image (lines handled) told (recovered c)) w
+  pub left : Leaves n (λ c. (base_of c ≡ start) × StandsForFirst s image (lines handled) told (recovered c)) w
 
 -- The service has ended with its input: all lines that were read were answered, and the log stands for the shop after them.
 pub record HasServed (s : Shop) (start : Image) (v : World) (now : Image) (log : KeptLog) (w : World) : Type 0 where

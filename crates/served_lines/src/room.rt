@@ -9,7 +9,7 @@ use line_server::MOST_LINES;
 use request_cards::Reply;
 use std::alloc::{AllocError, Global};
 
-/// Memory for what is read, for 512 lines and their replies, and for the image that was committed last: about 270 kB.
+/// Memory for what is read, for 512 lines and their replies, and for the image that was committed last: about 250 kB.
 #[derive(Drop)]
 pub struct ServiceRoom {
     pub(crate) input: LineInput,

@@ -80,7 +80,7 @@ fn serve_batch<H: Host>(
     ensures text { length text.new ≡ 22528 }
     ensures any_moment { Known H.history → (n : ℕ) (s : Shop) (start image : Image) (v : World) (input : LineInput)
         → Since n (Pends s start image v session.old kept.old log input (texts_of lines.now)) (H.history.world host.old)
-        → HeldOnly H.history host.old host.new (Until n (Answers s image v (log_file log))) }
+        → HeldOnly H.history host.old host.new (Until n (Answers s start image v (log_file log))) }
     ensures ok { Known H.history → (n : ℕ) (s : Shop) (start image : Image) (v : World) (input : LineInput)
         → Since n (Pends s start image v session.old kept.old log input (texts_of lines.now)) (H.history.world host.old)
         → IfOk result (λ more. Since n (Serves s start image v session.new kept.new more input) (H.history.world host.new)) }
@@ -104,7 +104,7 @@ fn serve_open<H: Host>(
 ) -> Result<KeptLog, ServiceFault>
     ensures any_moment { Known H.history → (n : ℕ) (s : Shop) (start : Image) (disk : MemDisk) → HasOpened disk session.old room.old.kept.items
         → IsShop (disk_image disk) s → Since n (Stands log start (disk_image disk)) (H.history.world host.old)
-        → HeldOnly H.history host.old host.new (Until n (Answers s (disk_image disk) (H.history.world host.old) (log_file log))) }
+        → HeldOnly H.history host.old host.new (Until n (Answers s start (disk_image disk) (H.history.world host.old) (log_file log))) }
     ensures ok { Known H.history → (n : ℕ) (s : Shop) (start : Image) (disk : MemDisk) → HasOpened disk session.old room.old.kept.items
         → IsShop (disk_image disk) s → Since n (Stands log start (disk_image disk)) (H.history.world host.old)
         → IfOk result (λ more. Since n (HasServed s start (H.history.world host.old) (image_of session.new.disk) more) (H.history.world host.new)) }
@@ -140,7 +140,7 @@ fn serve_open<H: Host>(
 /// line in whatever a power loss leaves of the log then; and nothing is done but to the log's file, the input and the output.
 ///
 /// `Open`: nothing was read, written or printed. `Host`: a call failed. `Full`: the log has no room for one more commit. `NotTaken`:
-/// standard output took nothing.
+/// standard output took nothing. `TooMany`: 2^64 - 1 batches were served.
 pub fn serve<H: Host>(
     disk: MemDisk,
     host: &mut H,
@@ -149,7 +149,7 @@ pub fn serve<H: Host>(
 ) -> Result<(MemDisk, KeptLog), (ServiceFault, MemDisk)>
     ensures any_moment { Known H.history → (n : ℕ) (s : Shop) (start : Image) → IsShop (disk_image disk) s
         → Since n (Stands log start (disk_image disk)) (H.history.world host.old)
-        → HeldOnly H.history host.old host.new (Until n (Answers s (disk_image disk) (H.history.world host.old) (log_file log))) }
+        → HeldOnly H.history host.old host.new (Until n (Answers s start (disk_image disk) (H.history.world host.old) (log_file log))) }
     ensures ok { Known H.history → (n : ℕ) (s : Shop) (start : Image) → IsShop (disk_image disk) s
         → Since n (Stands log start (disk_image disk)) (H.history.world host.old)
         → IfOk result (λ done. Since n (HasServed s start (H.history.world host.old) (disk_image done.0) done.1) (H.history.world host.new)) }

@@ -1,12 +1,12 @@
 -- Each exit by the calls before it.
-use Rattle.std.proofs.Common.{◌≡◌, ℕ, List, [], arith, subst, length, ◌≤◌, Some, refl}
+use Rattle.std.proofs.Common.{[], arith, subst}
 use Rattle.one_host.specs.History.{Since}
 use Rattle.one_host.specs.Calls.{brought, put, turned}
-use Rattle.one_host.specs.declared.parts.Entry.TheVariants.{Leads, Nothing}
+use Rattle.one_host.specs.declared.parts.Entry.TheVariants.{Nothing}
 use Rattle.one_host.proofs.Moments.{joined}
 use Rattle.one_host.specs.History.{Until}
-use Rattle.replaced_images.specs.Replaced.{Gives, Logs, log_of, making_of, whole}
-use Rattle.replaced_images.specs.Stages.{Has, Makes}
+use Rattle.replaced_images.specs.Replaced.{Gives, whole}
+use Rattle.replaced_images.specs.Stages.{Makes}
 use Rattle.replaced_images.proofs.Called.{make_after, make_moments, settle_after, settle_moments, sync_after, sync_moments, write_after, write_moments}
 use Rattle.replaced_images.proofs.Staged.{put_over}
 use Rattle.replaced_images.proofs.replacing.make_log.Goals as goal

@@ -1,12 +1,10 @@
 -- Each exit by the calls before it.
-use Rattle.std.proofs.Common.{◌≡◌, ℕ, List, [], arith, subst, length, ◌≤◌, Some, refl}
-use Rattle.one_host.specs.History.{Since}
-use Rattle.one_host.specs.Calls.{brought, put, turned}
+use Rattle.std.proofs.Common.{Some, refl}
+use Rattle.one_host.specs.Calls.{turned}
 use Rattle.one_host.specs.declared.parts.Entry.TheVariants.{Leads, Nothing}
 use Rattle.one_host.proofs.Moments.{joined}
 use Rattle.one_host.specs.History.{Until}
-use Rattle.replaced_images.specs.Replaced.{Gives, Logs, log_of, making_of, whole}
-use Rattle.replaced_images.specs.Stages.{Has, Makes}
+use Rattle.replaced_images.specs.Replaced.{Gives, whole}
 use Rattle.replaced_images.proofs.Called.{folder_after, folder_moments, gone_is, remove_after, remove_moments, unnamed_is}
 use Rattle.replaced_images.proofs.replacing.unname_log.Goals as goal
 

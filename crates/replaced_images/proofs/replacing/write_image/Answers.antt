@@ -1,8 +1,8 @@
 -- Each exit by the calls before it.
-use Rattle.std.proofs.Common.{◌≡◌, ◌≤◌, ◌+◌, ◌*◌, ℕ, length, Some, arith, refl, subst}
-use Rattle.one_host.specs.History.{Since, Until}
+use Rattle.std.proofs.Common.{◌≤◌, length, Some, arith, refl}
+use Rattle.one_host.specs.History.{Until}
 use Rattle.one_host.proofs.Moments.{joined}
-use Rattle.replaced_images.specs.Replaced.{Gives}
+use Rattle.replaced_images.specs.Replaced.{Always}
 use Rattle.replaced_images.proofs.Written.{last_after, last_moments}
 use Rattle.replaced_images.proofs.replacing.write_image.Goals as goal
 
@@ -16,7 +16,7 @@ returns-in_err-sync-clause-any_moment g c k n logs l log old gives same at =
     let h1 = c.write_sectors.new.host in
     let h2 = c.sync.new.self in
     let le : length c.args.new.now ≤ 174848 = omega (arith, c.requires.sized) in
-    joined S h0 h1 h2 (Until n (Gives logs path old new)) (c.write_sectors.ensures.any_moment k n logs l log old gives same at)
+    joined S h0 h1 h2 (Until n (Always logs path new)) (c.write_sectors.ensures.any_moment k n logs l log old gives same at)
     (last_moments S n path i logs l log old new gives same h1 h2 174848 le _ (c.in_ok-write_sectors.ensures.ok k n l log old same at) (c.sync.ensures k))
 
 pub returns-clause-any_moment : goal.returns-clause-any_moment
@@ -29,7 +29,7 @@ returns-clause-any_moment g c k n logs l log old gives same at =
     let h1 = c.write_sectors.new.host in
     let h2 = c.sync.new.self in
     let le : length c.args.new.now ≤ 174848 = omega (arith, c.requires.sized) in
-    joined S h0 h1 h2 (Until n (Gives logs path old new)) (c.write_sectors.ensures.any_moment k n logs l log old gives same at)
+    joined S h0 h1 h2 (Until n (Always logs path new)) (c.write_sectors.ensures.any_moment k n logs l log old gives same at)
     (last_moments S n path i logs l log old new gives same h1 h2 174848 le _ (c.in_ok-write_sectors.ensures.ok k n l log old same at) (c.sync.ensures k))
 
 pub returns-clause-ok : goal.returns-clause-ok

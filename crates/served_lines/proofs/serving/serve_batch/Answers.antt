@@ -29,7 +29,7 @@ returns-in_err-print_whole-clause-any_moment g c known n s start image v input s
     let is = subst (λ (rs : List Reply). length rs ≤ 512 → text ≡ report rs) c.as_slice.ensures.value c.write_replies-end.ensures.report in
     let few : length (texts_of c.args.lines.now) ≤ 512 = omega (arith, length-map c.args.lines.now (λ (l : ArrayVec ℕ). l.items), c.requires.few) in
     let committed = c.in_ok-log.ensures.ok known n start (may s start image v c.args.session.now c.handle_batch.new.session c.args.kept.now c.args.log input (texts_of c.args.lines.now) c.handle_batch.new.replies.items c.handle_batch.ensures.handled S h0 h1 n since) in
-    joined S h0 h1 h2 (Until n (Answers s image v (log_file c.args.log)))
+    joined S h0 h1 h2 (Until n (Answers s start image v (log_file c.args.log)))
     (commit_held s start image v c.args.session.now c.handle_batch.new.session c.args.kept.now c.args.log input (texts_of c.args.lines.now) c.handle_batch.new.replies.items c.handle_batch.ensures.handled S h0 h1 n since (c.commit_changes.ensures.any_moment known n start (may s start image v c.args.session.now c.handle_batch.new.session c.args.kept.now c.args.log input (texts_of c.args.lines.now) c.handle_batch.new.replies.items c.handle_batch.ensures.handled S h0 h1 n since)))
     (print_held s start image v c.args.session.now c.handle_batch.new.session c.args.kept.now c.args.log input (texts_of c.args.lines.now) c.handle_batch.new.replies.items c.handle_batch.ensures.handled S h0 h1 n since c.in_ok-log.log committed text is few h2 (c.print_whole.ensures.any_moment known n committed.count))
 
@@ -43,7 +43,7 @@ returns-clause-any_moment g c known n s start image v input since =
     let is = subst (λ (rs : List Reply). length rs ≤ 512 → text ≡ report rs) c.as_slice.ensures.value c.write_replies-end.ensures.report in
     let few : length (texts_of c.args.lines.now) ≤ 512 = omega (arith, length-map c.args.lines.now (λ (l : ArrayVec ℕ). l.items), c.requires.few) in
     let committed = c.in_ok-log.ensures.ok known n start (may s start image v c.args.session.now c.handle_batch.new.session c.args.kept.now c.args.log input (texts_of c.args.lines.now) c.handle_batch.new.replies.items c.handle_batch.ensures.handled S h0 h1 n since) in
-    joined S h0 h1 h2 (Until n (Answers s image v (log_file c.args.log)))
+    joined S h0 h1 h2 (Until n (Answers s start image v (log_file c.args.log)))
     (commit_held s start image v c.args.session.now c.handle_batch.new.session c.args.kept.now c.args.log input (texts_of c.args.lines.now) c.handle_batch.new.replies.items c.handle_batch.ensures.handled S h0 h1 n since (c.commit_changes.ensures.any_moment known n start (may s start image v c.args.session.now c.handle_batch.new.session c.args.kept.now c.args.log input (texts_of c.args.lines.now) c.handle_batch.new.replies.items c.handle_batch.ensures.handled S h0 h1 n since)))
     (print_held s start image v c.args.session.now c.handle_batch.new.session c.args.kept.now c.args.log input (texts_of c.args.lines.now) c.handle_batch.new.replies.items c.handle_batch.ensures.handled S h0 h1 n since c.in_ok-log.log committed text is few h2 (c.print_whole.ensures.any_moment known n committed.count))
 

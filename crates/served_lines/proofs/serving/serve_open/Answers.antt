@@ -54,7 +54,7 @@ returns-in_err-give_lines-clause-any_moment g c known n s start disk opened shop
     let hg = c.give_lines.new.host in
     let so_far = c.loop.invariant.so_far known n s start disk opened shop since in
     let held = c.give_lines.ensures.any_moment known n so_far.count in
-    joined S h0 hl hg (Until n (Answers s (disk_image disk) v (log_file c.args.log))) (c.loop.invariant.any_moment known n s start disk opened shop since)
+    joined S h0 hl hg (Until n (Answers s start (disk_image disk) v (log_file c.args.log))) (c.loop.invariant.any_moment known n s start disk opened shop since)
     (heard_held s start (disk_image disk) v c.loop.session c.loop.room.kept.items c.loop.log c.loop.room.input c.give_lines.new.self S hl hg n (log_file c.args.log) c.loop.invariant.file so_far held)
 
 pub returns-then-not-branch-clause-any_moment : goal.returns-then-not-branch-clause-any_moment
@@ -66,7 +66,7 @@ returns-then-not-branch-clause-any_moment g c known n s start disk opened shop s
     let hg = c.give_lines.new.host in
     let so_far = c.loop.invariant.so_far known n s start disk opened shop since in
     let held = c.give_lines.ensures.any_moment known n so_far.count in
-    joined S h0 hl hg (Until n (Answers s (disk_image disk) v (log_file c.args.log))) (c.loop.invariant.any_moment known n s start disk opened shop since)
+    joined S h0 hl hg (Until n (Answers s start (disk_image disk) v (log_file c.args.log))) (c.loop.invariant.any_moment known n s start disk opened shop since)
     (heard_held s start (disk_image disk) v c.loop.session c.loop.room.kept.items c.loop.log c.loop.room.input c.give_lines.new.self S hl hg n (log_file c.args.log) c.loop.invariant.file so_far held)
 
 pub returns-then-not-branch-clause-ok : goal.returns-then-not-branch-clause-ok
@@ -91,10 +91,10 @@ returns-in_err-log-2-clause-any_moment g c known n s start disk opened shop sinc
     let so_far = c.loop.invariant.so_far known n s start disk opened shop since in
     let held = c.give_lines.ensures.any_moment known n so_far.count in
     let hb = c.serve_batch.new.host in
-    joined S h0 hg hb (Until n (Answers s (disk_image disk) v (log_file c.args.log)))
-    (joined S h0 hl hg (Until n (Answers s (disk_image disk) v (log_file c.args.log))) (c.loop.invariant.any_moment known n s start disk opened shop since)
+    joined S h0 hg hb (Until n (Answers s start (disk_image disk) v (log_file c.args.log)))
+    (joined S h0 hl hg (Until n (Answers s start (disk_image disk) v (log_file c.args.log))) (c.loop.invariant.any_moment known n s start disk opened shop since)
     (heard_held s start (disk_image disk) v c.loop.session c.loop.room.kept.items c.loop.log c.loop.room.input c.give_lines.new.self S hl hg n (log_file c.args.log) c.loop.invariant.file so_far held))
-    (subst (λ m. HeldOnly S hg hb (Until n (Answers s (disk_image disk) v m))) c.loop.invariant.file
+    (subst (λ m. HeldOnly S hg hb (Until n (Answers s start (disk_image disk) v m))) c.loop.invariant.file
     (c.serve_batch.ensures.any_moment known n s start (disk_image disk) v c.give_lines.new.self
     (pend s start (disk_image disk) v c.loop.session c.loop.room.kept.items c.loop.log c.loop.room.input c.give_lines.new.self S hl hg n (log_file c.args.log) c.loop.invariant.file so_far held
     (texts_of c.give_lines.new.lines.items) c.in_ok-give_lines.field-0 (c.in_ok-give_lines.ensures.ok known n so_far.count)
@@ -112,10 +112,10 @@ loop-preserved g c = record {
       let so_far = c.loop.invariant.so_far known n s start disk opened shop since in
       let held = c.give_lines.ensures.any_moment known n so_far.count in
       let hb = c.serve_batch.new.host in
-      joined S h0 hg hb (Until n (Answers s (disk_image disk) v (log_file c.args.log)))
-      (joined S h0 hl hg (Until n (Answers s (disk_image disk) v (log_file c.args.log))) (c.loop.invariant.any_moment known n s start disk opened shop since)
+      joined S h0 hg hb (Until n (Answers s start (disk_image disk) v (log_file c.args.log)))
+      (joined S h0 hl hg (Until n (Answers s start (disk_image disk) v (log_file c.args.log))) (c.loop.invariant.any_moment known n s start disk opened shop since)
       (heard_held s start (disk_image disk) v c.loop.session c.loop.room.kept.items c.loop.log c.loop.room.input c.give_lines.new.self S hl hg n (log_file c.args.log) c.loop.invariant.file so_far held))
-      (subst (λ m. HeldOnly S hg hb (Until n (Answers s (disk_image disk) v m))) c.loop.invariant.file
+      (subst (λ m. HeldOnly S hg hb (Until n (Answers s start (disk_image disk) v m))) c.loop.invariant.file
       (c.serve_batch.ensures.any_moment known n s start (disk_image disk) v c.give_lines.new.self
       (pend s start (disk_image disk) v c.loop.session c.loop.room.kept.items c.loop.log c.loop.room.input c.give_lines.new.self S hl hg n (log_file c.args.log) c.loop.invariant.file so_far held
       (texts_of c.give_lines.new.lines.items) c.in_ok-give_lines.field-0 (c.in_ok-give_lines.ensures.ok known n so_far.count)

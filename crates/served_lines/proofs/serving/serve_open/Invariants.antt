@@ -16,7 +16,7 @@ invariant-loop g l = record {
   file : log_file l.log ≡ log_file l.fn.log;
   any_moment : Known g.H.Host.history → (n : ℕ) (s : Shop) (start : Image) (disk : MemDisk) → HasOpened disk l.fn.session l.fn.room.kept.items
       → IsShop (disk_image disk) s → Since n (Stands l.fn.log start (disk_image disk)) (g.H.Host.history.world l.fn.host)
-      → HeldOnly g.H.Host.history l.fn.host l.host (Until n (Answers s (disk_image disk) (g.H.Host.history.world l.fn.host) (log_file l.fn.log)));
+      → HeldOnly g.H.Host.history l.fn.host l.host (Until n (Answers s start (disk_image disk) (g.H.Host.history.world l.fn.host) (log_file l.fn.log)));
   so_far : Known g.H.Host.history → (n : ℕ) (s : Shop) (start : Image) (disk : MemDisk) → HasOpened disk l.fn.session l.fn.room.kept.items
       → IsShop (disk_image disk) s → Since n (Stands l.fn.log start (disk_image disk)) (g.H.Host.history.world l.fn.host)
       → Since n (Serves s start (disk_image disk) (g.H.Host.history.world l.fn.host) l.session l.room.kept.items l.log l.room.input) (g.H.Host.history.world l.host);
