@@ -275,6 +275,10 @@ def meanwhile(room, see):
                 lambda: replaces(making, b"mine"))
     see("a copy that fails", (done[0], done[1]), (3, b""))
     see("another's file in the place of what was made", making.exists() and making.read_bytes(), b"mine")
+    taken = room / "late-taken.d64"
+    done = late(room, ["copy", image, taken], "link,linkat:error=EPERM:delay_enter=2000000", Path(f"{taken}.new").exists,
+                lambda: taken.write_bytes(b"mine"))
+    see("a copy to a name that came meanwhile, where no link can be made", (done[0] != 0, taken.read_bytes()), (True, b"mine"))
     service = Service(image)
     service.ask(b"1,1,R,7,1\n")
     service.kill()
